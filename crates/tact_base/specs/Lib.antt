@@ -1,0 +1,2 @@
+pub mod ConitList
+pub mod Numbers

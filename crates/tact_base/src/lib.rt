@@ -1,0 +1,20 @@
+//! The ground that every crate of the project stands on: small lists, numbers in text, and the plain
+//! types that writes, needs and covers are made of.
+#![tactic(auto)]
+
+mod conit_list;
+mod few;
+mod items;
+mod limits;
+mod numbers;
+mod write;
+
+pub use conit_list::{ConitList, ListFault, Need, Needs, OnConit, Weight, Weights};
+pub use few::{Few, Row};
+pub use items::{Bytes, Items, NoMemory, Numbers};
+pub use limits::{
+    ALPHA_MAX, AMOUNT_MAX, CLIENTS, CONITS_MAX, HISTORY_MAX, KEY_MAX, LENT_MAX, LIST_MAX,
+    MESSAGE_WRITES, MOMENT_MAX, REPLICAS_MAX, REPLICAS_MIN, STAMP_MAX, VALUE_MAX, WEIGHT_MAX,
+};
+pub use numbers::{NumberFault, print_number, print_signed, read_number};
+pub use write::{Cover, Covers, Late, Op, Write, WriteList};

@@ -1,0 +1,56 @@
+use crate::{Items, Weights};
+
+/// What a replica is known to have of one origin: a state that this origin was in.
+#[derive(Clone, Copy, Debug, Default, PartialEq, Eq)]
+pub struct Cover {
+    /// How many writes the origin had accepted.
+    pub count: u64,
+    /// The origin's clock.
+    pub stamp: u64,
+    /// The moment of that state.
+    pub moment: u64,
+}
+
+/// What a write does to the values of keys. An absent key has the value 0.
+#[derive(Clone, Copy, Debug, PartialEq, Eq)]
+pub enum Op {
+    /// Sets the value of a key.
+    Put { key: u64, value: i64 },
+    /// Adds to the value of a key, and stops at 10^15 and -10^15.
+    Add { key: u64, delta: i64 },
+    /// Takes the amount from one key and adds it to the other, stopping at 10^15, where the first key has
+    /// at least the amount and the keys differ. Otherwise it does nothing.
+    Shift { from: u64, to: u64, amount: u64 },
+}
+
+/// A write that a replica accepted.
+#[derive(Clone, Debug, Drop)]
+pub struct Write {
+    /// The replica that accepted it.
+    pub origin: u32,
+    /// How many writes its origin had accepted before.
+    pub index: u64,
+    /// Its place in the order of all writes, before origin and index.
+    pub stamp: u64,
+    /// When it was accepted.
+    pub moment: u64,
+    /// What it weighs on conits.
+    pub weights: Weights,
+    /// What it does.
+    pub op: Op,
+}
+
+/// The least peer that is late, and the moment of its cover.
+#[derive(Clone, Copy, Debug, PartialEq, Eq)]
+pub struct Late {
+    /// The peer.
+    pub replica: u32,
+    /// The moment of its cover.
+    pub moment: u64,
+}
+
+/// A list of writes.
+pub type WriteList = Items<Write>;
+
+/// A list of covers, by origin.
+pub type Covers = Items<Cover>;
