@@ -145,14 +145,11 @@ impl<T: OnConit> ConitList<T> {
 fn first_unordered<T: OnConit>(items: &[T]) -> Option<usize>
     ensures { result ≡ first_unordered T.conit_of T.in_limits items.now }
 {
-    let mut before: Option<u32> = None;
-    for (place, item) in items.iter().enumerate() {
-        if before.is_some_and(|conit| item.conit() <= conit) {
-            return Some(place);
-        }
-        before = Some(item.conit());
-    }
-    None
+    items
+        .iter()
+        .zip(items.iter().skip(1))
+        .position(|(before, item)| item.conit() <= before.conit())
+        .map(|place| place + 1)
 }
 
 fn first_out_of_limits<T: OnConit>(items: &[T]) -> Option<usize>

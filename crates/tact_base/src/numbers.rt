@@ -1,4 +1,4 @@
-ghost use Rattle.std.specs.Prelude.{◌≡◌, ◌≤◌, ◌++◌, length, decimal, OnOk, OnErr};
+ghost use Rattle.std.specs.Prelude.{◌≡◌, ◌≤◌, ◌+◌, ◌*◌, ◌^◌, ◌++◌, length, decimal, OnOk, OnErr, MatchOption};
 ghost use Rattle.std.specs.Fmt.{signed_decimal};
 ghost use Rattle.tact_base.specs.Numbers.{ReadsNumber};
 
@@ -46,7 +46,9 @@ pub fn read_number(bytes: &[u8], place: &mut usize) -> Result<u64, NumberFault>
 }
 
 // Ten times the value and the digit, where a u64 holds it.
-fn with_digit(value: u64, digit: u8) -> Option<u64> {
+fn with_digit(value: u64, digit: u8) -> Option<u64>
+    ensures { MatchOption result (2 ^ 64 ≤ 10 * value + digit) (λ more. more ≡ 10 * value + digit) }
+{
     value.checked_mul(10)?.checked_add(u64::from(digit))
 }
 
