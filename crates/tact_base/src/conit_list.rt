@@ -1,4 +1,5 @@
 ghost use Rattle.std.specs.Prelude.{◌≡◌, ◌≤◌, ◌&&◌, ◌<◌, ℕ, Bool, length, nat_le, MatchResult, Some, None};
+ghost use Rattle.std.specs.Cmp.Lexicographic.{pointwise, lists_equiv, lists_per};
 ghost use Rattle.std.specs.Int.RustNames.{unsigned_abs};
 ghost use Rattle.tact_base.specs.ConitList.{first_unordered, first_out_of_limits, list_fault, IsConitList};
 ghost use Rattle.tact_base.specs.declared.limits.TheConstants.{AMOUNT_MAX, MOMENT_MAX, WEIGHT_MAX, LIST_MAX};
@@ -168,4 +169,18 @@ impl<T: OnConit> Clone for ConitList<T> {
             items: self.items.clone()?,
         })
     }
+}
+
+impl<T: OnConit + PartialEq> PartialEq for ConitList<T> {
+    ghost eq = { pointwise T.PartialEq.eq };
+
+    ghost laws = { lists_per T.PartialEq.laws };
+
+    fn eq(&self, other: &Self) -> bool {
+        self.items() == other.items()
+    }
+}
+
+impl<T: OnConit + Eq> Eq for ConitList<T> {
+    ghost laws = { lists_equiv T.Eq.laws };
 }

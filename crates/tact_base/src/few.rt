@@ -1,4 +1,5 @@
-ghost use Rattle.std.specs.Prelude.{◌≡◌, ◌≤◌, ◌+◌, length};
+ghost use Rattle.std.specs.Prelude.{◌≡◌, ◌≤◌, length};
+ghost use Rattle.std.specs.Cmp.Lexicographic.{pointwise, lists_equiv, lists_per};
 
 use arrayvec::ArrayVec;
 use std::alloc::AllocError;
@@ -55,4 +56,18 @@ impl<T: Copy + Default, const N: usize> Clone for Few<T, N> {
     fn clone(&self) -> Result<Self, AllocError> {
         Ok(Few::new(self.items()))
     }
+}
+
+impl<T: PartialEq, const N: usize> PartialEq for Few<T, N> {
+    ghost eq = { pointwise T.eq };
+
+    ghost laws = { lists_per T.laws };
+
+    fn eq(&self, other: &Self) -> bool {
+        self.items() == other.items()
+    }
+}
+
+impl<T: Eq, const N: usize> Eq for Few<T, N> {
+    ghost laws = { lists_equiv T.Eq.laws };
 }

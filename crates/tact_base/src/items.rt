@@ -1,4 +1,6 @@
 ghost use Rattle.std.specs.Prelude.{◌≡◌, [], ◌∷◌, ◌++◌, OnOk, OnErr, IfOk, length, ◌==◌};
+ghost use Rattle.std.specs.List.{AllZip, AppendsClones};
+ghost use Rattle.std.specs.Cmp.Lexicographic.{pointwise, lists_equiv, lists_per};
 
 use std::alloc::{AllocError, AllocFailed, Global};
 use std::marker::Model;
@@ -101,4 +103,53 @@ impl<T: Copy> Items<T> {
             items: Vec::from_slice(alloc, items)?,
         })
     }
+}
+
+impl<T: Clone> Items<T> {
+    /// A list of clones of the items, in memory of `alloc`.
+    pub fn copy(&self, alloc: Global) -> Result<Self, NoMemory>
+        ensures clones { IfOk result (λ list. AllZip T.is_clone self.now list) }
+        ensures equal_if_clones_are { IfOk result
+            (λ list. ((x y : T) → T.is_clone x y → y ≡ x) → list ≡ self.now) }
+    {
+        Ok(Items {
+            items: self.items.to_vec(alloc)?,
+        })
+    }
+
+    /// Appends a clone of each of `items`, in order. `NoMemory` leaves the list as it was.
+    pub fn append_clones(&mut self, items: &[T]) -> Result<(), NoMemory>
+        ensures clones { OnOk result (AppendsClones T.is_clone self.old self.new items.now) }
+        ensures equal_if_clones_are { OnOk result
+            (((x y : T) → T.is_clone x y → y ≡ x) → self.new ≡ self.old ++ items.now) }
+        ensures err { OnErr result (self.new ≡ self.old) }
+    {
+        self.items.extend_from_slice(items)?;
+        Ok(())
+    }
+}
+
+impl<T: Clone> Clone for Items<T> {
+    ghost is_clone = { λ old new. AllZip T.is_clone old new
+        × (((x y : T) → T.is_clone x y → y ≡ x) → new ≡ old) };
+
+    fn clone(&self) -> Result<Self, AllocError> {
+        Ok(Items {
+            items: self.items.clone()?,
+        })
+    }
+}
+
+impl<T: PartialEq> PartialEq for Items<T> {
+    ghost eq = { pointwise T.eq };
+
+    ghost laws = { lists_per T.laws };
+
+    fn eq(&self, other: &Self) -> bool {
+        self.items() == other.items()
+    }
+}
+
+impl<T: Eq> Eq for Items<T> {
+    ghost laws = { lists_equiv T.Eq.laws };
 }

@@ -7,6 +7,7 @@ mod few;
 mod items;
 mod limits;
 mod numbers;
+mod tokens;
 mod write;
 
 pub use conit_list::{ConitList, ListFault, Need, Needs, OnConit, Weight, Weights};
@@ -17,4 +18,5 @@ pub use limits::{
     MESSAGE_WRITES, MOMENT_MAX, REPLICAS_MAX, REPLICAS_MIN, STAMP_MAX, VALUE_MAX, WEIGHT_MAX,
 };
 pub use numbers::{NumberFault, print_number, print_signed, read_number};
+pub use tokens::{TokenFault, whole_number, whole_signed};
 pub use write::{Cover, Covers, Late, Op, Write, WriteList};

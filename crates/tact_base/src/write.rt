@@ -1,4 +1,7 @@
+ghost use Rattle.std.specs.Prelude.{◌≡◌};
+
 use crate::{Items, Weights};
+use std::alloc::AllocError;
 
 /// What a replica is known to have of one origin: a state that this origin was in.
 #[derive(Clone, Copy, Debug, Default, PartialEq, Eq)]
@@ -24,7 +27,7 @@ pub enum Op {
 }
 
 /// A write that a replica accepted.
-#[derive(Clone, Debug, Drop)]
+#[derive(Debug, Drop, PartialEq, Eq)]
 pub struct Write {
     /// The replica that accepted it.
     pub origin: u32,
@@ -38,6 +41,23 @@ pub struct Write {
     pub weights: Weights,
     /// What it does.
     pub op: Op,
+}
+
+impl Clone for Write {
+    ghost is_clone = { λ old new. new ≡ old };
+
+    ghost is_infallible = { λ _. Unit {0} };
+
+    fn clone(&self) -> Result<Self, AllocError> {
+        Ok(Write {
+            origin: self.origin,
+            index: self.index,
+            stamp: self.stamp,
+            moment: self.moment,
+            weights: self.weights.clone()?,
+            op: self.op,
+        })
+    }
 }
 
 /// The least peer that is late, and the moment of its cover.
