@@ -1,16 +1,15 @@
 -- Tokens that are read as numbers.
-use Rattle.std.proofs.Common.{◌≡◌, ℕ, ◌+◌, ◌-◌, ◌*◌, ◌^◌, ◌<◌, ◌≤◌, suc, Bool, true, false, ltb, ◌&&◌, List, [], ◌∷◌, ◌++◌, length, drop, take, get_or, take_while, fold, Option, Some, Result, Ok, Err, MatchResult, refl, sym, ap, subst, ◌∙◌, inl, inr, ⊎_elim, arith}
+use Rattle.std.proofs.Common.{◌≡◌, ℕ, ◌+◌, ◌-◌, ◌*◌, ◌^◌, ◌<◌, ◌≤◌, suc, Bool, true, false, ltb, ◌&&◌, List, [], ◌∷◌, length, drop, take, take_while, fold, Some, Result, Ok, Err, MatchResult, refl, sym, ap, ◌∙◌, ⊎_elim, arith}
 use Rattle.std.specs.List.{prefix_len, list_all}
 use Rattle.std.specs.Char.{is_ascii_digit}
 use Rattle.std.proofs.lemmas.Bool.{cases_lt, false≢true, le-leb, lt-leb, lt-ltb, ltb-true}
 use Rattle.std.proofs.lemmas.List.{take_all, take-append-drop}
-use Rattle.std.proofs.lemmas.List.Sums.{fold-append, prefix_len-le-length, prefix_len_stops}
+use Rattle.std.proofs.lemmas.List.Sums.{fold-append, prefix_len_stops}
 use Rattle.std.proofs.lemmas.List.Folds.{list_all_at}
-use Rattle.tact_base.specs.Numbers.{decimal_value, ReadsNumber, PassesAt, is_number, number_of, whole_number}
+use Rattle.tact_base.specs.Numbers.{decimal_value, ReadsNumber, is_number, number_of, whole_number}
 use Rattle.tact_base.specs.declared.numbers.NumberFault.{NumberFault}
 use Rattle.tact_base.specs.declared.numbers.NumberFault.TheVariants.{Empty, NotDigit, TooLarge}
-use Rattle.tact_base.specs.declared.tokens.TokenFault.{TokenFault}
-use Rattle.tact_base.specs.declared.tokens.TokenFault.TheVariants.{NotNumber, OutOfRange}
+use Rattle.tact_base.specs.declared.tokens.TokenFault.TheVariants.{OutOfRange}
 
 -- further digits make a number no smaller
 fold-le : (digits : List ℕ) (value : ℕ) → value ≤ fold (λ value digit. 10 * value + (digit - 48)) value digits

@@ -1,5 +1,5 @@
 -- Lists of weights and of needs: at most four items, their conits strictly rising, each within its limits.
-use Rattle.std.specs.Prelude.{◌≡◌, ℕ, ◌+◌, Bool, nat_le, nat_lt, not, if◌then◌else◌, List, length, drop, Option, None, Some, position, suc}
+use Rattle.std.specs.Prelude.{◌≡◌, ℕ, Bool, nat_le, nat_lt, not, if◌then◌else◌, List, length, drop, Option, None, Some, position, suc}
 use Rattle.std.specs.List.{zip}
 use Rattle.std.specs.Option.{option_map, option_or}
 use Rattle.tact_base.specs.declared.conit_list.ListFault.{ListFault}

@@ -7,6 +7,8 @@ mod few;
 mod items;
 mod limits;
 mod numbers;
+#[cfg(test)]
+mod tests;
 mod tokens;
 mod write;
 

@@ -1,9 +1,8 @@
-use Rattle.std.proofs.Common.{rules, arith, ◌≡◌, ◌+◌, ◌*◌, ◌^◌, ◌<◌, ◌≤◌, ◌-◌, length, drop, take, true, false, get_or, sym, ◌∙◌, ap, refl}
+use Rattle.std.proofs.Common.{rules, arith, ◌≡◌, ◌+◌, ◌*◌, ◌^◌, ◌<◌, ◌≤◌, ◌-◌, length, drop, take, true, false, get_or, sym, refl}
 use Rattle.std.specs.List.{prefix_len}
 use Rattle.std.specs.Char.{is_ascii_digit}
 use Rattle.std.proofs.lemmas.List.{take_rest, length-take-le}
 use Rattle.std.proofs.lemmas.List.Sums.{prefix_len-drop_yes}
-use Rattle.tact_base.specs.Numbers.{decimal_value}
 use Rattle.tact_base.proofs.NumbersLemmas.{digits_more, digits_end, decimal_value-take_more, PassesAt-next}
 use Rattle.tact_base.proofs.numbers.read_number.Goals as goal
 
