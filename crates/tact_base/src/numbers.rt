@@ -58,7 +58,8 @@ pub fn print_number(out: &mut Bytes, value: u64) -> Result<(), NoMemory>
     ensures err { OnErr result (out.new ≡ out.old) }
 {
     let mut buffer = Buffer::new();
-    out.append(buffer.format(value).as_bytes())
+    let digits = buffer.format(value);
+    out.append(digits.as_bytes())
 }
 
 /// Appends the decimal text of `value`, with `-` before a negative one. `NoMemory` leaves `out` as it was.
@@ -67,5 +68,6 @@ pub fn print_signed(out: &mut Bytes, value: i64) -> Result<(), NoMemory>
     ensures err { OnErr result (out.new ≡ out.old) }
 {
     let mut buffer = Buffer::new();
-    out.append(buffer.format(value).as_bytes())
+    let text = buffer.format(value);
+    out.append(text.as_bytes())
 }
