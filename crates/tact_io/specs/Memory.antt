@@ -1,0 +1,38 @@
+-- The forms in memory: what they hold, and which of their calls fail.
+use Rattle.std.specs.Prelude.{ℕ, ◌+◌, ◌-◌, ◌^◌, min, List, Contains}
+
+-- how many calls were made, the numbers from 0 of those that fail, and how many failed
+pub record Schedule : Type 0 where
+  pub calls : ℕ
+  pub fails : List ℕ
+  pub faults : ℕ
+
+-- what is left in a source, and how its calls fail
+pub record SourceState : Type 0 where
+  pub left : List ℕ
+  pub schedule : Schedule
+
+-- what was written to a sink, and how its calls fail
+pub record SinkState : Type 0 where
+  pub written : List ℕ
+  pub schedule : Schedule
+
+-- no call was made yet
+abbrev pub unused : List ℕ → Schedule
+unused fails = record { calls = 0; fails = fails; faults = 0 }
+
+-- the next call fails
+abbrev pub FailsNext : Schedule → Type 0
+FailsNext schedule = Contains schedule.fails schedule.calls
+
+-- one more, up to the greatest u64
+abbrev pub one_more : ℕ → ℕ
+one_more count = min (count + 1) (2 ^ 64 - 1)
+
+-- after a call that didn't fail
+abbrev pub after_success : Schedule → Schedule
+after_success schedule = record schedule { calls = one_more schedule.calls }
+
+-- after a call that failed
+abbrev pub after_fault : Schedule → Schedule
+after_fault schedule = record schedule { calls = one_more schedule.calls; faults = one_more schedule.faults }

@@ -1,0 +1,22 @@
+//! The traits of the outside: sources that bytes are read from and sinks that they are written to, each
+//! with a count of its faults, their forms in memory, and the real edge.
+#![tactic(auto)]
+
+mod edge;
+mod fault;
+mod memory_sink;
+mod memory_source;
+mod read;
+mod schedule;
+mod sink;
+mod source;
+mod write;
+
+pub use edge::{StdSink, StdSource};
+pub use fault::{Failed, OutFault};
+pub use memory_sink::{MemSink, SureSink};
+pub use memory_source::{MemSource, SureSource};
+pub use read::{ReadEnd, read_all};
+pub use sink::Sink;
+pub use source::Source;
+pub use write::write_all;
