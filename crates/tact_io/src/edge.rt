@@ -11,7 +11,10 @@ pub struct StdSource<R> {
 }
 
 impl<R: Read> StdSource<R> {
-    pub fn new(reader: R) -> Self {
+    /// A source of what `reader` gives.
+    pub fn new(reader: R) -> Self
+        ensures { ⟦<StdSource<R> as Source>⟧.faults result ≡ 0 }
+    {
         StdSource { reader, faults: 0 }
     }
 }
@@ -43,7 +46,10 @@ pub struct StdSink<P> {
 }
 
 impl<P: Print> StdSink<P> {
-    pub fn new(printer: P) -> Self {
+    /// A sink that prints by `printer`.
+    pub fn new(printer: P) -> Self
+        ensures { ⟦<StdSink<P> as Sink>⟧.faults result ≡ 0 }
+    {
         StdSink { printer, faults: 0 }
     }
 }

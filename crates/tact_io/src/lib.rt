@@ -20,3 +20,6 @@ pub use read::{ReadEnd, read_all};
 pub use sink::Sink;
 pub use source::Source;
 pub use write::write_all;
+
+#[cfg(test)]
+mod tests;

@@ -50,27 +50,10 @@ pub fn read_all<S: Source>(alloc: Global, source: &mut S, most: u64) -> Result<B
     ensures complete { ¬ HasRisen (S.faults source.old) (S.faults source.new)
         → IfSome (S.left source.old) (λ left. length left ≤ most → IsOkUnless result ReadEnd.NoMemory) }
 {
-    read_blocks(alloc, source, most, &mut [0; BLOCK])
-}
-
-fn read_blocks<S: Source>(
-    alloc: Global,
-    source: &mut S,
-    most: u64,
-    block: &mut [u8],
-) -> Result<Bytes, ReadEnd>
-    requires { 0 < length block.old }
-    ensures all { IfOk result (λ bytes. IsAllOf (S.left source.old) bytes) }
-    ensures within { IfOk result (λ bytes. length bytes ≤ most) }
-    ensures at_end { OnOk result (IsAtEnd (S.left source.new)) }
-    ensures takes_front { (bytes : List ℕ) × Gives (S.left source.old) (S.left source.new) bytes }
-    ensures never_falls { S.faults source.old ≤ S.faults source.new }
-    ensures too_long { IsErrOf result ReadEnd.TooLong → IfSome (S.left source.old) (λ left. most < length left) }
-    ensures fault { IsErrOf result ReadEnd.Fault → HasRisen (S.faults source.old) (S.faults source.new) }
-{
     let mut bytes = Bytes::new(alloc);
+    let mut block = [0; BLOCK];
     loop {
-        let count = source.read(block)?;
+        let count = source.read(&mut block)?;
         if count == 0 {
             return Ok(bytes);
         }

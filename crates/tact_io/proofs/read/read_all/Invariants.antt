@@ -1,6 +1,6 @@
 use Rattle.std.proofs.Common.{ℕ, ◌-◌, ◌≤◌, length}
 use Rattle.tact_io.specs.Source.{Gives}
-use Rattle.tact_io.proofs.read.read_blocks.Given as goal
+use Rattle.tact_io.proofs.read.read_all.Given as goal
 
 abbrev pub invariant-loop-bytes : goal.invariant-loop-bytes
 invariant-loop-bytes g l =
