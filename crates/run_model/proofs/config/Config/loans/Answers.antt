@@ -1,0 +1,20 @@
+use Rattle.std.proofs.Common.{arith}
+use Rattle.run_model.specs.Config.{setup}
+use Rattle.run_model.proofs.ConfigLemmas.{HasCounts-from_IsSetup, place_in, row_in, length-loans_of}
+use Rattle.run_model.proofs.config.Config.loans.Goals as goal
+
+pub row-requires : goal.row-requires
+row-requires c =
+    let s = setup c.self.inside.replicas c.self.inside.conits c.self.inside.alphas c.self.inside.loans in
+    let o = rw (← c.self.view_is) at c.requires.owner_in in
+    let k = rw (← c.self.view_is) at c.requires.conit_in in
+    let h = HasCounts-from_IsSetup s c.self.invariant in
+    rw c.items.ensures (row_in s h _ (place_in s c.args.owner c.args.conit o k))
+
+pub returns-clause-len : goal.returns-clause-len
+returns-clause-len c =
+    let s = setup c.self.inside.replicas c.self.inside.conits c.self.inside.alphas c.self.inside.loans in
+    let o = rw (← c.self.view_is) at c.requires.owner_in in
+    let k = rw (← c.self.view_is) at c.requires.conit_in in
+    let h = HasCounts-from_IsSetup s c.self.invariant in
+    rw (c.row.ensures, c.items.ensures, ← c.self.view_is) (length-loans_of s h c.args.owner c.args.conit o k)

@@ -1,0 +1,54 @@
+use crate::{Reply, Request};
+use tact_base::{Covers, Numbers, WriteList};
+
+/// What one replica tells another. The lists by origin have a number for each replica, those by conit one
+/// for each conit.
+#[derive(Debug, Drop)]
+pub struct Message {
+    /// The replica that sends it.
+    pub from: u32,
+    /// The replica that it is addressed to.
+    pub to: u32,
+    /// How many messages the sender sent before.
+    pub number: u64,
+    /// By origin, how many of its writes the sender has.
+    pub haves: Numbers,
+    /// By origin, what the sender knows the origin to have been at.
+    pub covers: Covers,
+    /// By origin, the index of the first of its writes that the message has.
+    pub firsts: Numbers,
+    /// The writes, by origin, and of one origin by index.
+    pub writes: WriteList,
+    /// By conit, all that the sender ever lent to the receiver, the opening loan included.
+    pub lent: Numbers,
+    /// By conit, all that the sender ever gave back to the receiver.
+    pub returned: Numbers,
+}
+
+/// What a replica does in one step.
+#[derive(Debug, Drop)]
+pub enum Act {
+    /// Answers the call of a client. The number counts the client's earlier calls at this replica.
+    Call { client: u32, number: u64, request: Request, reply: Reply },
+    /// Sends a message.
+    Send { message: Message },
+    /// Takes a message that is addressed to it.
+    Take { message: Message },
+    /// As the owner, lends an amount on a conit to another replica.
+    Lend { to: u32, conit: u32, amount: u64 },
+    /// As the holder, gives an amount on a conit back to its owner.
+    Back { owner: u32, conit: u32, amount: u64 },
+    /// Begins anew from its journal.
+    Restart,
+}
+
+/// One step of the whole system: what one replica does at one moment.
+#[derive(Debug, Drop)]
+pub struct Entry {
+    /// The replica that does it.
+    pub replica: u32,
+    /// When, in milliseconds where a clock gives it. It never falls from one entry of a replica to the next.
+    pub moment: u64,
+    /// What it does.
+    pub act: Act,
+}

@@ -1,0 +1,17 @@
+//! What a run of the project is made of: the requests of clients and the replies to them, messages,
+//! entries, the setup that all of it is made for, and the text of each.
+#![tactic(auto)]
+
+mod call;
+mod cause;
+mod config;
+mod entry;
+mod script_line;
+mod status;
+
+pub use call::{Reply, Request, Sums};
+pub use cause::Cause;
+pub use config::{Config, ConfigFault};
+pub use entry::{Act, Entry, Message};
+pub use script_line::Line;
+pub use status::{ByteKind, InputKind, LineKind, LoadKind, Status, UsageKind};
