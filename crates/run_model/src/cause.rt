@@ -2,7 +2,7 @@ use crate::Reply;
 
 /// Why an entry of a record may not stand after those before it. The tests are made in this order, and
 /// the first that fails is named.
-#[derive(Debug, Drop)]
+#[derive(Debug, Drop, PartialEq, Eq)]
 pub enum Cause {
     /// The replica has as many entries before it as a replica may have.
     Full { replica: u32 },

@@ -64,7 +64,7 @@ impl Config {
     ) -> Result<Config, ConfigFault>
         ensures { MatchResult result
             (λ config. (config_fault replicas conits alphas.now loans.now ≡ None)
-                × (config ≡ setup replicas conits alphas.now loans.now))
+            × (config ≡ setup replicas conits alphas.now loans.now))
             (IsRefusalOf (config_fault replicas conits alphas.now loans.now)) }
     {
         if !are_counts_good(replicas, conits, alphas, loans) {
@@ -165,7 +165,12 @@ fn first_row_fault(replicas: u32, conits: u32, alphas: &[u64], loans: &[u64]) ->
 {
     for place in 0..replicas * conits {
         let loans = row(loans, replicas, place as usize);
-        let fault = row_fault(place / conits, place % conits, alphas[place as usize], loans);
+        let fault = row_fault(
+            place / conits,
+            place % conits,
+            alphas[place as usize],
+            loans,
+        );
         if fault.is_some() {
             return fault;
         }

@@ -1,9 +1,12 @@
+ghost use Rattle.std.specs.Prelude.{◌≡◌};
+
 use crate::{Reply, Request};
+use std::alloc::AllocError;
 use tact_base::{Covers, Numbers, WriteList};
 
 /// What one replica tells another. The lists by origin have a number for each replica, those by conit one
 /// for each conit.
-#[derive(Debug, Drop)]
+#[derive(Debug, Drop, PartialEq, Eq)]
 pub struct Message {
     /// The replica that sends it.
     pub from: u32,
@@ -26,24 +29,41 @@ pub struct Message {
 }
 
 /// What a replica does in one step.
-#[derive(Debug, Drop)]
+#[derive(Debug, Drop, PartialEq, Eq)]
 pub enum Act {
     /// Answers the call of a client. The number counts the client's earlier calls at this replica.
-    Call { client: u32, number: u64, request: Request, reply: Reply },
+    Call {
+        client: u32,
+        number: u64,
+        request: Request,
+        reply: Reply,
+    },
     /// Sends a message.
-    Send { message: Message },
+    Send {
+        message: Message,
+    },
     /// Takes a message that is addressed to it.
-    Take { message: Message },
+    Take {
+        message: Message,
+    },
     /// As the owner, lends an amount on a conit to another replica.
-    Lend { to: u32, conit: u32, amount: u64 },
+    Lend {
+        to: u32,
+        conit: u32,
+        amount: u64,
+    },
     /// As the holder, gives an amount on a conit back to its owner.
-    Back { owner: u32, conit: u32, amount: u64 },
+    Back {
+        owner: u32,
+        conit: u32,
+        amount: u64,
+    },
     /// Begins anew from its journal.
     Restart,
 }
 
 /// One step of the whole system: what one replica does at one moment.
-#[derive(Debug, Drop)]
+#[derive(Debug, Drop, PartialEq, Eq)]
 pub struct Entry {
     /// The replica that does it.
     pub replica: u32,
@@ -51,4 +71,75 @@ pub struct Entry {
     pub moment: u64,
     /// What it does.
     pub act: Act,
+}
+
+impl Clone for Message {
+    ghost is_clone = { λ old new. new ≡ old };
+
+    fn clone(&self) -> Result<Self, AllocError> {
+        Ok(Message {
+            from: self.from,
+            to: self.to,
+            number: self.number,
+            haves: self.haves.clone()?,
+            covers: self.covers.clone()?,
+            firsts: self.firsts.clone()?,
+            writes: self.writes.clone()?,
+            lent: self.lent.clone()?,
+            returned: self.returned.clone()?,
+        })
+    }
+}
+
+impl Clone for Act {
+    ghost is_clone = { λ old new. new ≡ old };
+
+    fn clone(&self) -> Result<Self, AllocError> {
+        Ok(match self {
+            Act::Call {
+                client,
+                number,
+                request,
+                reply,
+            } => Act::Call {
+                client: *client,
+                number: *number,
+                request: request.clone()?,
+                reply: reply.clone()?,
+            },
+            Act::Send { message } => Act::Send {
+                message: message.clone()?,
+            },
+            Act::Take { message } => Act::Take {
+                message: message.clone()?,
+            },
+            Act::Lend { to, conit, amount } => Act::Lend {
+                to: *to,
+                conit: *conit,
+                amount: *amount,
+            },
+            Act::Back {
+                owner,
+                conit,
+                amount,
+            } => Act::Back {
+                owner: *owner,
+                conit: *conit,
+                amount: *amount,
+            },
+            Act::Restart => Act::Restart,
+        })
+    }
+}
+
+impl Clone for Entry {
+    ghost is_clone = { λ old new. new ≡ old };
+
+    fn clone(&self) -> Result<Self, AllocError> {
+        Ok(Entry {
+            replica: self.replica,
+            moment: self.moment,
+            act: self.act.clone()?,
+        })
+    }
 }

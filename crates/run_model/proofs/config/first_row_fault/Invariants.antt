@@ -8,4 +8,4 @@ abbrev pub invariant-loop-place : goal.invariant-loop-place
 invariant-loop-place l =
     let s = setup l.replicas l.conits l.alphas l.loans in
     slice_get (filter_map (λ (owner, conit). row_fault owner conit (alpha_of s owner conit) (loans_of s owner conit)) (drop l.place (owners_and_conits s))) 0
-        ≡ first_row_fault s
+    ≡ first_row_fault s

@@ -1,6 +1,6 @@
 use Rattle.std.proofs.Common.{◌<◌, arith}
 use Rattle.run_model.specs.Config.{setup}
-use Rattle.run_model.proofs.ConfigLemmas.{HasCounts-from_IsSetup, place_in, places_are_few}
+use Rattle.run_model.proofs.ConfigLemmas.{HasCounts-from_IsSetup, place_in, places_are_few, HasRow-from_IsSetup}
 use Rattle.run_model.proofs.config.Config.alpha.Goals as goal
 
 pub bounds-items-place : goal.bounds-items-place
@@ -18,3 +18,10 @@ offset_bounds-items-place c =
     let k = rw (← c.self.view_is) at c.requires.conit_in in
     let h = HasCounts-from_IsSetup s c.self.invariant in
     omega (arith, place_in s c.args.owner c.args.conit o k, places_are_few s h)
+
+pub returns-clause-limit : goal.returns-clause-limit
+returns-clause-limit c =
+    let s = setup c.self.inside.replicas c.self.inside.conits c.self.inside.alphas c.self.inside.loans in
+    let o = rw (← c.self.view_is) at c.requires.owner_in in
+    let k = rw (← c.self.view_is) at c.requires.conit_in in
+    rw c.items.ensures (HasRow-from_IsSetup s c.self.invariant c.args.owner c.args.conit o k).alpha
