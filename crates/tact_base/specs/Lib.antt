@@ -1,2 +1,9 @@
 pub mod ConitList
 pub mod Numbers
+pub mod Sums
+pub mod WriteOrder
+pub mod Images
+pub mod Logs
+pub mod Covers
+pub mod Shares
+pub mod Admission
