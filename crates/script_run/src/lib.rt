@@ -1,0 +1,4 @@
+//! Scripts
+#![tactic(auto)]
+
+mod cutting;
