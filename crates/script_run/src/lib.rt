@@ -2,4 +2,6 @@
 #![tactic(auto)]
 
 mod cutting;
+mod fault;
+mod fields;
 mod word;
