@@ -4,4 +4,6 @@
 mod cutting;
 mod fault;
 mod fields;
+mod forms;
+mod sent;
 mod word;
