@@ -1,8 +1,8 @@
 -- What each line of a script says. The forms that are built are `start`, `write` without weights, `send A B`, `take` and `show`.
-use Rattle.std.specs.Prelude.{ℕ, ◌-◌, ◌*◌, ◌^◌, ◌==◌, Bool, false, is_some, List, [], ◌∷◌, map, replicate, slice_get, Option, Some, None, Result, Ok, Err, if◌then◌else◌}
+use Rattle.std.specs.Prelude.{◌≡◌, ℕ, ◌-◌, ◌*◌, ◌^◌, ◌<◌, ◌==◌, Bool, false, is_some, List, [], ◌∷◌, ◌++◌, length, map, fold, replicate, slice_get, slice_set, slice_index_or, Option, Some, None, Result, Ok, Err, if◌then◌else◌}
 use Rattle.std.specs.List.{flat_map, range_with_len}
 use Rattle.std.specs.Option.{option_map_or}
-use Rattle.tact_base.specs.declared.limits.TheConstants.{REPLICAS_MIN, REPLICAS_MAX, CONITS_MAX, ALPHA_MAX, AMOUNT_MAX}
+use Rattle.tact_base.specs.declared.limits.TheConstants.{REPLICAS_MIN, REPLICAS_MAX, CONITS_MAX, CLIENTS, ALPHA_MAX, AMOUNT_MAX}
 use Rattle.run_model.specs.Config.{Setup, setup, config_fault}
 use Rattle.run_model.specs.declared.script_line.Line.{Line}
 use Rattle.run_model.specs.declared.script_line.Line.TheVariants as line
@@ -39,15 +39,18 @@ abbrev pub setup_of : List Line → Setup
 setup_of (line.Start replicas conits alpha loan ∷ rest) = opening replicas conits alpha loan
 setup_of lines = opening 0 0 0 0
 
--- the receivers of the messages of a replica, in order of their numbers
-abbrev pub receivers_of : ℕ → List Line → List ℕ
-receivers_of from [] = []
-receivers_of from (line.Send sender to firsts ∷ rest) = if sender == from then to ∷ receivers_of from rest else receivers_of from rest
-receivers_of from (other ∷ rest) = receivers_of from rest
+-- the receivers of each replica's messages, in order of their numbers, after one more line
+abbrev pub sent_after : List (List ℕ) → Line → List (List ℕ)
+sent_after sent (line.Send from to firsts) = slice_set sent from (slice_index_or sent from [] ++ to ∷ [])
+sent_after sent other = sent
+
+-- the same after all lines of a script
+abbrev pub sent_by : List Line → List (List ℕ)
+sent_by lines = fold sent_after (replicate (setup_of lines).replicas []) lines
 
 -- whether the message with this number of the one was sent to the other
-abbrev pub is_sent : List Line → ℕ → ℕ → ℕ → Bool
-is_sent lines from number to = option_map_or (λ receiver. receiver == to) (slice_get (receivers_of from lines) number) false
+abbrev pub is_sent : List (List ℕ) → ℕ → ℕ → ℕ → Bool
+is_sent sent from number to = option_map_or (λ receiver. receiver == to) (slice_get (slice_index_or sent from []) number) false
 
 -- `start N M ALPHA LOAN`
 unfoldable pub start_at : Tokens → Result Line LineKind
@@ -119,7 +122,15 @@ later_at replicas tokens = do
   later_by replicas (word_of word.0) word.1
 
 -- what is judged of the whole line: a `take` needs the message that it names
-abbrev pub of_whole : List Line → Line → Result Line LineKind
-of_whole lines (line.Take replica from number) =
-    if is_sent lines from number replica then Ok (line.Take replica from number) else Err NoMessage
-of_whole lines other = Ok other
+abbrev pub of_whole : List (List ℕ) → Line → Result Line LineKind
+of_whole sent (line.Take replica from number) =
+    if is_sent sent from number replica then Ok (line.Take replica from number) else Err NoMessage
+of_whole sent other = Ok other
+
+-- The replicas of a line are among so many and its clients among eight, and its form is built.
+abbrev pub NamesOnly : ℕ → Line → Type 0
+NamesOnly replicas (line.Write replica client op weights) = (replica < replicas) × (client < CLIENTS) × (weights ≡ [])
+NamesOnly replicas (line.Send from to firsts) = (from < replicas) × (to < replicas) × (length firsts ≡ replicas)
+NamesOnly replicas (line.Take replica from number) = (replica < replicas) × (from < replicas)
+NamesOnly replicas (line.Show replica) = replica < replicas
+NamesOnly replicas other = ⊥

@@ -2,3 +2,4 @@ pub mod Cutting
 pub mod Words
 pub mod Fields
 pub mod Forms
+pub mod Scripts

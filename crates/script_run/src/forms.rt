@@ -4,7 +4,7 @@ ghost use Rattle.std.specs.List.{flat_map, range_with_len};
 ghost use Rattle.run_model.specs.declared.status.LineKind.TheVariants.{LoansOver};
 ghost use Rattle.script_run.specs.Cutting.{tokens};
 ghost use Rattle.script_run.specs.Fields.{Gives};
-ghost use Rattle.script_run.specs.Forms.{opening, opening_row, opening_loans, is_over, setup_of, start_at, write_at, send_at, take_at, show_at};
+ghost use Rattle.script_run.specs.Forms.{opening, opening_row, opening_loans, is_over, setup_of, start_at, write_at, send_at, take_at, show_at, NamesOnly};
 
 use crate::fault::LineFault;
 use crate::fields::{client_at, count_at, end_at, number_at, op_at, other_replica_at, replica_at};
@@ -117,7 +117,8 @@ fn no_weights() -> Weights
 #[tactic(auto, unfolding(crate::specs::Forms::write_at))]
 pub(crate) fn write_at(rest: &[u8], replicas: u32) -> Result<Line, LineFault>
     requires { 0 < replicas }
-    ensures { Gives (λ x. x) result (write_at replicas (tokens rest.now)) }
+    ensures names { IfOk result (NamesOnly replicas) }
+    ensures line { Gives (λ x. x) result (write_at replicas (tokens rest.now)) }
 {
     let (replica, rest) = replica_at(rest, replicas)?;
     let (client, rest) = client_at(rest)?;
@@ -130,7 +131,8 @@ pub(crate) fn write_at(rest: &[u8], replicas: u32) -> Result<Line, LineFault>
 #[tactic(auto, unfolding(crate::specs::Forms::send_at))]
 pub(crate) fn send_at(alloc: Global, rest: &[u8], replicas: u32) -> Result<Line, LineFault>
     requires { 0 < replicas }
-    ensures { Gives (λ x. x) result (send_at replicas (tokens rest.now)) }
+    ensures names { IfOk result (NamesOnly replicas) }
+    ensures line { Gives (λ x. x) result (send_at replicas (tokens rest.now)) }
 {
     let (from, rest) = replica_at(rest, replicas)?;
     let (to, rest) = other_replica_at(rest, replicas, from)?;
@@ -142,7 +144,8 @@ pub(crate) fn send_at(alloc: Global, rest: &[u8], replicas: u32) -> Result<Line,
 #[tactic(auto, unfolding(crate::specs::Forms::take_at))]
 pub(crate) fn take_at(rest: &[u8], replicas: u32) -> Result<Line, LineFault>
     requires { 0 < replicas }
-    ensures { Gives (λ x. x) result (take_at replicas (tokens rest.now)) }
+    ensures names { IfOk result (NamesOnly replicas) }
+    ensures line { Gives (λ x. x) result (take_at replicas (tokens rest.now)) }
 {
     let (replica, rest) = replica_at(rest, replicas)?;
     let (from, rest) = other_replica_at(rest, replicas, replica)?;
@@ -154,7 +157,8 @@ pub(crate) fn take_at(rest: &[u8], replicas: u32) -> Result<Line, LineFault>
 #[tactic(auto, unfolding(crate::specs::Forms::show_at))]
 pub(crate) fn show_at(rest: &[u8], replicas: u32) -> Result<Line, LineFault>
     requires { 0 < replicas }
-    ensures { Gives (λ x. x) result (show_at replicas (tokens rest.now)) }
+    ensures names { IfOk result (NamesOnly replicas) }
+    ensures line { Gives (λ x. x) result (show_at replicas (tokens rest.now)) }
 {
     let (replica, rest) = replica_at(rest, replicas)?;
     end_at(rest, LineKind::Extra)?;

@@ -5,5 +5,6 @@ mod cutting;
 mod fault;
 mod fields;
 mod forms;
+mod script;
 mod sent;
 mod word;

@@ -1,0 +1,71 @@
+-- A whole script, line by line: its lines, or the first fault and its line.
+use Rattle.std.specs.Prelude.{◌≡◌, ℕ, ◌+◌, ◌==◌, Bool, true, false, ◌||◌, nat_lt, List, [], ◌∷◌, ◌++◌, length, Option, Some, None, Result, Ok, Err, if◌then◌else◌}
+use Rattle.std.specs.List.{list_any}
+use Rattle.run_model.specs.declared.script_line.Line.{Line}
+use Rattle.run_model.specs.declared.status.LineKind.{LineKind}
+use Rattle.run_model.specs.declared.status.LineKind.TheVariants.{TooManyLines, LongLine, BadByte, NoStart}
+use Rattle.script_run.specs.declared.script.TheConstants.{SCRIPT_LINES, LINE_MAX}
+use Rattle.script_run.specs.declared.script.ScriptFault.{ScriptFault}
+use Rattle.script_run.specs.declared.script.ScriptFault.TheVariants as faults
+use Rattle.script_run.specs.Cutting.{raw_lines, tokens}
+use Rattle.script_run.specs.Fields.{◌>>=◌, Tokens}
+use Rattle.script_run.specs.Forms.{first_at, later_at, of_whole, sent_by, setup_of}
+
+-- bytes from 32 to 126 are the good ones
+abbrev pub is_bad_byte : ℕ → Bool
+is_bad_byte byte = nat_lt byte 32 || nat_lt 126 byte
+
+-- what is judged of every line, whatever it says: its number, its length, its bytes
+unfoldable pub fault_of : ℕ → List ℕ → Option LineKind
+fault_of number raw =
+    if nat_lt SCRIPT_LINES number then Some TooManyLines
+    else if nat_lt LINE_MAX (length raw) then Some LongLine
+    else if list_any is_bad_byte raw then Some BadByte
+    else None
+
+-- a line without tokens is skipped, and one whose first token begins with `#`
+abbrev pub is_comment : List ℕ → Bool
+is_comment [] = false
+is_comment (byte ∷ bytes) = byte == 35
+
+abbrev pub is_skipped : Tokens → Bool
+is_skipped [] = true
+is_skipped (token ∷ rest) = is_comment token
+
+-- what a line that isn't skipped says, after the lines before it
+unfoldable pub line_after : List Line → Tokens → Result Line LineKind
+line_after [] tokens = first_at tokens
+line_after (first ∷ rest) tokens = later_at (setup_of (first ∷ rest)).replicas tokens >>= of_whole (sent_by (first ∷ rest))
+
+-- the lines after one more line of the text
+abbrev pub unless : Option LineKind → Result (List Line) LineKind → Result (List Line) LineKind
+unless None read = read
+unless (Some kind) read = Err kind
+
+unfoldable pub lines_after : ℕ → List Line → List ℕ → Result (List Line) LineKind
+lines_after number lines raw =
+    unless (fault_of number raw)
+    (if is_skipped (tokens raw) then Ok lines else (line_after lines (tokens raw) >>= λ line. Ok (lines ++ line ∷ [])))
+
+-- A script that goes on with these lines of the text, of which the first has this number, after lines that were read.
+abbrev pub goes_on : (List Line → Result (List Line) (ℕ × LineKind)) → ℕ → Result (List Line) LineKind → Result (List Line) (ℕ × LineKind)
+goes_on rest number (Ok lines) = rest lines
+goes_on rest number (Err kind) = Err (number, kind)
+
+abbrev pub ended : ℕ → List Line → Result (List Line) (ℕ × LineKind)
+ended number [] = Err (number, NoStart)
+ended number (first ∷ rest) = Ok (first ∷ rest)
+
+abbrev pub read_from : ℕ → List Line → List (List ℕ) → Result (List Line) (ℕ × LineKind)
+read_from number lines [] = ended number lines
+read_from number lines (raw ∷ raws) = goes_on (λ more. read_from (number + 1) more raws) number (lines_after number lines raw)
+
+-- the lines of the script that a text is, or the number of its first line at fault and the fault
+unfoldable pub script_of : List ℕ → Result (List Line) (ℕ × LineKind)
+script_of text = read_from 1 [] (raw_lines text)
+
+-- what a reader answered is what the text is, unless memory ran out
+abbrev pub Reads : Result (List Line) ScriptFault → Result (List Line) (ℕ × LineKind) → Type 0
+Reads (Ok lines) read = read ≡ Ok lines
+Reads (Err faults.NoMemory) read = Unit {0}
+Reads (Err (faults.Bad place kind)) read = read ≡ Err (place, kind)
