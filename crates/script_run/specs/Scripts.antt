@@ -4,12 +4,15 @@ use Rattle.std.specs.List.{list_any}
 use Rattle.run_model.specs.declared.script_line.Line.{Line}
 use Rattle.run_model.specs.declared.status.LineKind.{LineKind}
 use Rattle.run_model.specs.declared.status.LineKind.TheVariants.{TooManyLines, LongLine, BadByte, NoStart}
-use Rattle.script_run.specs.declared.script.TheConstants.{SCRIPT_LINES, LINE_MAX}
+use Rattle.script_run.specs.declared.reader.TheConstants.{SCRIPT_LINES, LINE_MAX}
 use Rattle.script_run.specs.declared.script.ScriptFault.{ScriptFault}
 use Rattle.script_run.specs.declared.script.ScriptFault.TheVariants as faults
 use Rattle.script_run.specs.Cutting.{raw_lines, tokens}
 use Rattle.script_run.specs.Fields.{◌>>=◌, Tokens}
-use Rattle.script_run.specs.Forms.{first_at, later_at, of_whole, sent_by, setup_of}
+use Rattle.script_run.specs.Forms.{first_at, later_at, of_whole, is_sent, sent_by, setup_of, opening, NamesOnly}
+use Rattle.run_model.specs.Config.{IsSetup}
+use Rattle.run_model.specs.declared.script_line.Line.TheVariants as line
+use Rattle.script_run.specs.declared.reader.Reader.{Reader}
 
 -- bytes from 32 to 126 are the good ones
 abbrev pub is_bad_byte : ℕ → Bool
@@ -69,3 +72,29 @@ abbrev pub Reads : Result (List Line) ScriptFault → Result (List Line) (ℕ ×
 Reads (Ok lines) read = read ≡ Ok lines
 Reads (Err faults.NoMemory) read = Unit {0}
 Reads (Err (faults.Bad place kind)) read = read ≡ Err (place, kind)
+
+-- a `take` names a message that was sent
+abbrev pub IsAddressed : List (List ℕ) → Line → Type 0
+IsAddressed sent (line.Take replica from number) = is_sent sent from number replica ≡ true
+IsAddressed sent other = Unit {0}
+
+-- a line that may follow these
+abbrev pub FitsAfter : List Line → Line → Type 0
+FitsAfter before line = NamesOnly (setup_of before).replicas line × IsAddressed (sent_by before) line
+
+-- lines that may follow these, one after another
+abbrev pub AreLines : List Line → List Line → Type 0
+AreLines before [] = Unit {0}
+AreLines before (line ∷ lines) = FitsAfter before line × AreLines (before ++ line ∷ []) lines
+
+-- the lines of a script: a `start` line whose setup isn't refused, and lines that may follow
+abbrev pub IsScript : List Line → Type 0
+IsScript (line.Start replicas conits alpha loan ∷ rest) =
+    IsSetup (opening replicas conits alpha loan) × AreLines (line.Start replicas conits alpha loan ∷ []) rest
+IsScript other = ⊥
+
+-- what the reader keeps of the lines so far
+pub record IsReading (reader : Reader) : Type 0 where
+  pub setup : reader.config ≡ setup_of reader.lines
+  pub sent : reader.sent.receivers.items ≡ sent_by reader.lines
+  pub script : IsScript reader.lines

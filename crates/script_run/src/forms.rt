@@ -1,6 +1,8 @@
 //! The forms of a script's lines. Each reader is given what is left of the line after its first word.
-ghost use Rattle.std.specs.Prelude.{◌≡◌, ◌<◌, ◌≤◌, [], ◌∷◌, ◌++◌, ◌==◌, false, length, IfOk, Ok, Err, replicate, if◌then◌else◌};
+ghost use Rattle.std.specs.Prelude.{◌≡◌, ◌<◌, ◌≤◌, [], ◌∷◌, ◌++◌, ◌==◌, false, length, OnOk, IfOk, Ok, Err, replicate, if◌then◌else◌};
 ghost use Rattle.std.specs.List.{flat_map, range_with_len};
+ghost use Rattle.run_model.specs.Config.{IsSetup};
+ghost use Rattle.script_run.specs.Scripts.{IsScript};
 ghost use Rattle.run_model.specs.declared.status.LineKind.TheVariants.{LoansOver};
 ghost use Rattle.script_run.specs.Cutting.{tokens};
 ghost use Rattle.script_run.specs.Fields.{Gives};
@@ -78,6 +80,7 @@ pub(crate) fn opening(
     requires few_replicas { replicas ≤ 8 }
     requires few_conits { conits ≤ 16 }
     ensures ok { IfOk result (λ config. config ≡ opening replicas conits alpha loan) }
+    ensures sound { OnOk result (IsSetup (opening replicas conits alpha loan)) }
     ensures fault { Gives (λ _. false) result (if is_over replicas conits alpha loan then Err LoansOver else Ok false) }
 {
     let alphas = copies(alloc, replicas * conits, alpha)?;
@@ -93,6 +96,7 @@ pub(crate) fn opening(
 #[tactic(auto, unfolding(crate::specs::Forms::start_at))]
 pub(crate) fn start_at(alloc: Global, rest: &[u8]) -> Result<(Line, Config), LineFault>
     ensures setup { IfOk result (λ x. x.1 ≡ setup_of (x.0 ∷ [])) }
+    ensures script { IfOk result (λ x. IsScript (x.0 ∷ [])) }
     ensures line { Gives (λ x. x.0) result (start_at (tokens rest.now)) }
 {
     let (replicas, rest) = count_at(rest, REPLICAS_MIN, REPLICAS_MAX)?;

@@ -5,6 +5,7 @@ mod cutting;
 mod fault;
 mod fields;
 mod forms;
+mod reader;
 mod script;
 mod sent;
 mod word;

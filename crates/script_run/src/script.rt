@@ -11,12 +11,6 @@ use crate::cutting::next_token;
 use run_model::{Config, Line, LineKind};
 use tact_base::Items;
 
-/// The greatest count of a script's lines.
-const SCRIPT_LINES: u64 = 10_000;
-
-/// The greatest length of a line in bytes, without the line end.
-const LINE_MAX: usize = 400;
-
 /// Why a text isn't read as a script.
 #[derive(Clone, Copy, Debug, PartialEq, Eq)]
 pub enum ScriptFault {
@@ -45,43 +39,14 @@ impl Script {
     }
 }
 
-// What is judged of every line, whatever it says.
-#[tactic(auto, unfolding(crate::specs::Scripts::fault_of))]
-fn fault_of(number: u64, raw: &[u8]) -> Option<LineKind>
-    ensures { result ≡ fault_of number raw.now }
+/*/// Reads the text of a script. A text that is none is refused with its first line at fault and that
+/// line's first fault.
+pub fn parse_script(alloc: Global, bytes: &[u8]) -> Result<Script, ScriptFault>
+    ensures script { IfOk result IsScript }
+    ensures read { Reads result (script_of bytes.now) }
 {
-    if number > SCRIPT_LINES {
-        Some(LineKind::TooManyLines)
-    } else if raw.len() > LINE_MAX {
-        Some(LineKind::LongLine)
-    } else if has_bad_byte(raw) {
-        Some(LineKind::BadByte)
-    } else {
-        None
-    }
+    let (mut reader, number, rest) = begin(alloc, bytes)?;
+    go_on(alloc, &mut reader, number, rest)?;
+    Ok(Script { config: reader.config, lines: reader.lines })
 }
-
-fn has_bad_byte(raw: &[u8]) -> bool
-    ensures { result ≡ list_any is_bad_byte raw.now }
-{
-    raw.iter().any(|byte| *byte < 32 || *byte > 126)
-}
-
-// Whether the line has no token, or its first begins with `#`.
-fn is_skipped(raw: &[u8]) -> bool
-    ensures { result ≡ is_skipped (tokens raw.now) }
-{
-    match next_token(raw) {
-        None => true,
-        Some((token, _)) => is_comment(token),
-    }
-}
-
-fn is_comment(token: &[u8]) -> bool
-    ensures { result ≡ is_comment token.now }
-{
-    match token {
-        [first, ..] => *first == b'#',
-        [] => false,
-    }
-}
+*/
