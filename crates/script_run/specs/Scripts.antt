@@ -35,10 +35,22 @@ abbrev pub is_skipped : Tokens → Bool
 is_skipped [] = true
 is_skipped (token ∷ rest) = is_comment token
 
+-- a later line that isn't skipped, where there are so many replicas and these messages were sent
+unfoldable pub later_line : ℕ → List (List ℕ) → Tokens → Result Line LineKind
+later_line replicas sent tokens = do
+  line ← later_at replicas tokens
+  of_whole sent line
+
 -- what a line that isn't skipped says, after the lines before it
 unfoldable pub line_after : List Line → Tokens → Result Line LineKind
 line_after [] tokens = first_at tokens
-line_after (first ∷ rest) tokens = later_at (setup_of (first ∷ rest)).replicas tokens >>= of_whole (sent_by (first ∷ rest))
+line_after (first ∷ rest) tokens = later_line (setup_of (first ∷ rest)).replicas (sent_by (first ∷ rest)) tokens
+
+-- the lines with the one that the tokens say
+unfoldable pub with_line : List Line → Tokens → Result (List Line) LineKind
+with_line lines tokens = do
+  line ← line_after lines tokens
+  Ok (lines ++ line ∷ [])
 
 -- the lines after one more line of the text
 abbrev pub unless : Option LineKind → Result (List Line) LineKind → Result (List Line) LineKind
@@ -48,7 +60,7 @@ unless (Some kind) read = Err kind
 unfoldable pub lines_after : ℕ → List Line → List ℕ → Result (List Line) LineKind
 lines_after number lines raw =
     unless (fault_of number raw)
-    (if is_skipped (tokens raw) then Ok lines else (line_after lines (tokens raw) >>= λ line. Ok (lines ++ line ∷ [])))
+    (if is_skipped (tokens raw) then Ok lines else with_line lines (tokens raw))
 
 -- A script that goes on with these lines of the text, of which the first has this number, after lines that were read.
 abbrev pub goes_on : (List Line → Result (List Line) (ℕ × LineKind)) → ℕ → Result (List Line) LineKind → Result (List Line) (ℕ × LineKind)

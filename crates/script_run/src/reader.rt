@@ -1,11 +1,12 @@
 //! The reader of a script, line by line.
-ghost use Rattle.std.specs.Prelude.{◌≡◌, ◌+◌, ◌<◌, ◌≤◌, List, [], ◌∷◌, OnOk, IfOk, IfNone, Ok, Option, Some, None, length};
+ghost use Rattle.std.specs.Prelude.{◌≡◌, ◌+◌, ◌<◌, ◌≤◌, ℕ, List, [], ◌∷◌, ◌++◌, OnOk, IfOk, IfNone, Result, Ok, Err, Option, Some, None, length};
+ghost use Rattle.run_model.specs.declared.status.LineKind.{LineKind};
 ghost use Rattle.std.specs.List.{list_any};
 ghost use Rattle.run_model.specs.declared.script_line.Line.{Line};
 ghost use Rattle.script_run.specs.Cutting.{tokens, raw_lines};
-ghost use Rattle.script_run.specs.Fields.{Gives};
-ghost use Rattle.script_run.specs.Forms.{first_at, later_at, setup_of, NamesOnly};
-ghost use Rattle.script_run.specs.Scripts.{is_bad_byte, is_comment, fault_of, is_skipped, line_after, lines_after, read_from, script_of, IsAddressed, IsReading, IsScript, Reads};
+ghost use Rattle.script_run.specs.Fields.{Gives, Fails};
+ghost use Rattle.script_run.specs.Forms.{first_at, later_at, of_whole, sent_after, sent_by, setup_of, NamesOnly};
+ghost use Rattle.script_run.specs.Scripts.{is_bad_byte, is_comment, fault_of, is_skipped, later_line, line_after, with_line, lines_after, read_from, goes_on, script_of, IsAddressed, FitsAfter, IsReading, IsScript, Reads};
 
 use crate::cutting::{next_token, split_first};
 use crate::fault::LineFault;
@@ -35,7 +36,8 @@ pub(crate) struct Reader {
 // What is judged of every line, whatever it says.
 #[tactic(auto, unfolding(crate::specs::Scripts::fault_of))]
 fn fault_of(number: u64, raw: &[u8]) -> Option<LineKind>
-    ensures { result ≡ fault_of number raw.now }
+    ensures few { IfNone result (number ≤ 10000) }
+    ensures fault { result ≡ fault_of number raw.now }
 {
     if number > SCRIPT_LINES {
         Some(LineKind::TooManyLines)
@@ -104,4 +106,101 @@ fn later_at(alloc: Global, raw: &[u8], replicas: u32) -> Result<Line, LineFault>
         Some(Word::Show) => show_at(rest, replicas),
         Some(_) => Err(LineFault::Kind(LineKind::NotBuilt)),
     }
+}
+
+// The fault of a line as one of its script.
+fn at_line(number: u64, fault: LineFault) -> ScriptFault
+    ensures { (lines : List Line) (read : Result (List Line) LineKind) (rest : List Line → Result (List Line) (ℕ × LineKind))
+        → Fails fault read → Reads (Err result) (goes_on rest number read) }
+{
+    match fault {
+        LineFault::NoMemory => ScriptFault::NoMemory,
+        LineFault::Kind(kind) => ScriptFault::Bad { place: number, kind },
+    }
+}
+
+// What is judged of the whole line: a `take` needs the message that it names.
+fn check_whole(sent: &Sent, line: &Line, replicas: u32) -> Result<(), LineFault>
+    requires names { NamesOnly replicas line.now }
+    requires all { length sent.now.receivers.items ≡ replicas }
+    ensures addressed { OnOk result (IsAddressed sent.now.receivers.items line.now) }
+    ensures whole { Gives (λ _. line.now) result (of_whole sent.now.receivers.items line.now) }
+{
+    match line {
+        Line::Take { replica, from, number } => {
+            if sent.is_sent(*from, *number, *replica) {
+                Ok(())
+            } else {
+                Err(LineFault::Kind(LineKind::NoMessage))
+            }
+        }
+        _ => Ok(()),
+    }
+}
+
+// Adds the message that a line sends, if it sends one.
+fn note_sent(sent: &mut Sent, line: &Line, replicas: u32) -> Result<(), NoMemory>
+    requires names { NamesOnly replicas line.now }
+    requires all { length sent.old.receivers.items ≡ replicas }
+    ensures { OnOk result (sent.new.receivers.items ≡ sent_after sent.old.receivers.items line.now) }
+{
+    match line {
+        Line::Send { from, to, firsts: _ } => sent.add(*from, *to),
+        _ => Ok(()),
+    }
+}
+
+// A later line that isn't skipped, where these messages were sent.
+#[tactic(auto, unfolding(crate::specs::Scripts::later_line))]
+fn later_line(alloc: Global, raw: &[u8], replicas: u32, sent: &Sent) -> Result<Line, LineFault>
+    requires some { 0 < replicas }
+    requires all { length sent.now.receivers.items ≡ replicas }
+    ensures fits { IfOk result (λ line. NamesOnly replicas line × IsAddressed sent.now.receivers.items line) }
+    ensures line { Gives (λ x. x) result (later_line replicas sent.now.receivers.items (tokens raw.now)) }
+{
+    let line = later_at(alloc, raw, replicas)?;
+    check_whole(sent, &line, replicas)?;
+    Ok(line)
+}
+
+// A later line that isn't skipped, after those that were read.
+fn line_after(reader: &Reader, alloc: Global, raw: &[u8]) -> Result<Line, LineFault>
+    requires { IsReading reader.now }
+    ensures fits { IfOk result (FitsAfter reader.now.lines) }
+    ensures line { Gives (λ x. x) result (line_after reader.now.lines (tokens raw.now)) }
+{
+    let replicas = reader.config.replicas();
+    later_line(alloc, raw, replicas, &reader.sent)
+}
+
+// Adds a line that may follow those that were read.
+fn add_line(reader: &mut Reader, line: Line) -> Result<(), NoMemory>
+    requires reading { IsReading reader.old }
+    requires fits { FitsAfter reader.old.lines line }
+    ensures reading { OnOk result (IsReading reader.new) }
+    ensures added { OnOk result (reader.new.lines ≡ reader.old.lines ++ line ∷ []) }
+{
+    let replicas = reader.config.replicas();
+    note_sent(&mut reader.sent, &line, replicas)?;
+    reader.lines.push(line)?;
+    Ok(())
+}
+
+// One more line of the text, after those that were read.
+#[tactic(auto, unfolding(crate::specs::Scripts::lines_after, crate::specs::Scripts::with_line))]
+fn one_more(reader: &mut Reader, alloc: Global, number: u64, raw: &[u8]) -> Result<(), LineFault>
+    requires { IsReading reader.old }
+    ensures reading { OnOk result (IsReading reader.new) }
+    ensures few { OnOk result (number ≤ 10000) }
+    ensures read { Gives (λ _. reader.new.lines) result (lines_after number reader.old.lines raw.now) }
+{
+    if let Some(kind) = fault_of(number, raw) {
+        return Err(LineFault::Kind(kind));
+    }
+    if is_skipped(raw) {
+        return Ok(());
+    }
+    let line = line_after(reader, alloc, raw)?;
+    add_line(reader, line)?;
+    Ok(())
 }
