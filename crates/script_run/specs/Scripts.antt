@@ -62,6 +62,11 @@ lines_after number lines raw =
     unless (fault_of number raw)
     (if is_skipped (tokens raw) then Ok lines else with_line lines (tokens raw))
 
+-- the lines after a first line, if it isn't skipped
+abbrev pub begun_by : Option Line → List Line
+begun_by None = []
+begun_by (Some first) = first ∷ []
+
 -- A script that goes on with these lines of the text, of which the first has this number, after lines that were read.
 abbrev pub goes_on : (List Line → Result (List Line) (ℕ × LineKind)) → ℕ → Result (List Line) LineKind → Result (List Line) (ℕ × LineKind)
 goes_on rest number (Ok lines) = rest lines

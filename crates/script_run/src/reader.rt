@@ -1,12 +1,13 @@
 //! The reader of a script, line by line.
-ghost use Rattle.std.specs.Prelude.{◌≡◌, ◌+◌, ◌<◌, ◌≤◌, ℕ, List, [], ◌∷◌, ◌++◌, OnOk, IfOk, IfNone, Result, Ok, Err, Option, Some, None, length};
+ghost use Rattle.std.specs.Prelude.{◌≡◌, ◌+◌, ◌<◌, ◌≤◌, ℕ, List, [], ◌∷◌, ◌++◌, OnOk, IfOk, IfErr, IfNone, IfSome, Result, Ok, Err, Option, Some, None, length};
 ghost use Rattle.run_model.specs.declared.status.LineKind.{LineKind};
 ghost use Rattle.std.specs.List.{list_any};
+ghost use Rattle.std.specs.Option.{option_map};
 ghost use Rattle.run_model.specs.declared.script_line.Line.{Line};
 ghost use Rattle.script_run.specs.Cutting.{tokens, raw_lines};
 ghost use Rattle.script_run.specs.Fields.{Gives, Fails};
 ghost use Rattle.script_run.specs.Forms.{first_at, later_at, of_whole, sent_after, sent_by, setup_of, NamesOnly};
-ghost use Rattle.script_run.specs.Scripts.{is_bad_byte, is_comment, fault_of, is_skipped, later_line, line_after, with_line, lines_after, read_from, goes_on, script_of, IsAddressed, FitsAfter, IsReading, IsScript, Reads};
+ghost use Rattle.script_run.specs.Scripts.{is_bad_byte, is_comment, fault_of, is_skipped, later_line, line_after, with_line, lines_after, begun_by, read_from, goes_on, script_of, IsAddressed, FitsAfter, IsReading, IsScript, Reads};
 
 use crate::cutting::{next_token, split_first};
 use crate::fault::LineFault;
@@ -202,5 +203,92 @@ fn one_more(reader: &mut Reader, alloc: Global, number: u64, raw: &[u8]) -> Resu
     }
     let line = line_after(reader, alloc, raw)?;
     add_line(reader, line)?;
+    Ok(())
+}
+
+// The first line of the text, or a later one where all before it are skipped: what it begins, if it isn't
+// skipped too.
+#[tactic(auto, unfolding(crate::specs::Scripts::lines_after, crate::specs::Scripts::with_line, crate::specs::Scripts::line_after))]
+fn first_line(alloc: Global, number: u64, raw: &[u8]) -> Result<Option<(Line, Config)>, LineFault>
+    ensures few { OnOk result (number ≤ 10000) }
+    ensures begun { IfOk result (λ found. IfSome found (λ x. (x.1 ≡ setup_of (x.0 ∷ [])) × IsScript (x.0 ∷ []))) }
+    ensures read { Gives (λ found. begun_by (option_map (λ x. x.0) found)) result (lines_after number [] raw.now) }
+{
+    if let Some(kind) = fault_of(number, raw) {
+        return Err(LineFault::Kind(kind));
+    }
+    if is_skipped(raw) {
+        return Ok(None);
+    }
+    let (line, config) = first_at(alloc, raw)?;
+    Ok(Some((line, config)))
+}
+
+// The reader that a first line begins.
+fn begun(alloc: Global, line: Line, config: Config) -> Result<Reader, NoMemory>
+    requires setup { config ≡ setup_of (line ∷ []) }
+    requires script { IsScript (line ∷ []) }
+    ensures reading { IfOk result IsReading }
+    ensures lines { IfOk result (λ reader. reader.lines ≡ line ∷ []) }
+{
+    let sent = Sent::new(alloc, config.replicas())?;
+    let mut lines = Items::new(alloc);
+    lines.push(line)?;
+    Ok(Reader { config, lines, sent })
+}
+
+/// The reader that the text begins, the number of the line after it, and what is left of the text.
+#[tactic(auto, unfolding(crate::specs::Scripts::script_of))]
+pub(crate) fn begin(alloc: Global, bytes: &[u8]) -> Result<(Reader, u64, &[u8]), ScriptFault>
+    ensures reading { IfOk result (λ x. IsReading x.0) }
+    ensures few { IfOk result (λ x. x.1 ≤ 10001) }
+    ensures ok { IfOk result (λ x. read_from x.1 x.0.lines (raw_lines x.2.now) ≡ script_of bytes.now) }
+    ensures err { IfErr result (λ fault. Reads (Err fault) (script_of bytes.now)) }
+{
+    let mut rest = bytes;
+    let mut number = 1;
+    while !rest.is_empty() {
+        let (raw, after) = split_first(rest, b'\n');
+        match first_line(alloc, number, raw) {
+            Err(fault) => return Err(at_line(number, fault)),
+            Ok(None) => {}
+            Ok(Some((line, config))) => {
+                let reader = begun(alloc, line, config)?;
+                return Ok((reader, number + 1, after));
+            }
+        }
+        number += 1;
+        rest = after;
+    }
+    Err(ScriptFault::Bad {
+        place: number,
+        kind: LineKind::NoStart,
+    })
+}
+
+/// Reads what is left of the text, whose first line has this number.
+pub(crate) fn go_on(
+    reader: &mut Reader,
+    alloc: Global,
+    first: u64,
+    text: &[u8],
+) -> Result<(), ScriptFault>
+    requires reading { IsReading reader.old }
+    requires few { first ≤ 10001 }
+    ensures reading { OnOk result (IsReading reader.new) }
+    ensures ok { OnOk result (read_from first reader.old.lines (raw_lines text.now) ≡ Ok reader.new.lines) }
+    ensures err { IfErr result (λ fault. Reads (Err fault) (read_from first reader.old.lines (raw_lines text.now))) }
+{
+    let mut rest = text;
+    let mut number = first;
+    while !rest.is_empty() {
+        let (raw, after) = split_first(rest, b'\n');
+        match one_more(reader, alloc, number, raw) {
+            Err(fault) => return Err(at_line(number, fault)),
+            Ok(()) => {}
+        }
+        number += 1;
+        rest = after;
+    }
     Ok(())
 }

@@ -1,15 +1,14 @@
 //! Scripts and their reader.
-ghost use Rattle.std.specs.Prelude.{◌≡◌, ◌+◌, ◌<◌, ◌≤◌, ◌^◌, ℕ, List, [], ◌∷◌, ◌++◌, OnOk, IfOk, Ok, Err, length};
-ghost use Rattle.std.specs.List.{list_any};
-ghost use Rattle.run_model.specs.declared.script_line.Line.{Line};
-ghost use Rattle.script_run.specs.Cutting.{tokens, raw_lines};
-ghost use Rattle.script_run.specs.Fields.{Gives};
-ghost use Rattle.script_run.specs.Forms.{first_at, later_at, setup_of, NamesOnly};
-ghost use Rattle.script_run.specs.Scripts.{is_bad_byte, is_comment, fault_of, is_skipped, line_after, lines_after, read_from, script_of, Reads};
+ghost use Rattle.std.specs.Prelude.{◌≡◌, IfOk};
+ghost use Rattle.script_run.specs.declared.script.ScriptFault.TheVariants.{NoMemory as OutOfMemory};
+ghost use Rattle.script_run.specs.Forms.{setup_of};
+ghost use Rattle.script_run.specs.Scripts.{script_of, IsScript, Reads};
 
-use crate::cutting::next_token;
+use crate::reader::{Reader, begin, go_on};
 use run_model::{Config, Line, LineKind};
-use tact_base::Items;
+use std::alloc::Global;
+use std::marker::Model;
+use tact_base::{Items, NoMemory};
 
 /// Why a text isn't read as a script.
 #[derive(Clone, Copy, Debug, PartialEq, Eq)]
@@ -20,6 +19,14 @@ pub enum ScriptFault {
     NoMemory,
 }
 
+impl From<NoMemory> for ScriptFault {
+    ghost from_gives = { λ _ fault. fault ≡ OutOfMemory };
+
+    fn from(_: NoMemory) -> Self {
+        ScriptFault::NoMemory
+    }
+}
+
 /// A script: its setup, and its lines that aren't skipped, the `start` line first.
 #[derive(Debug, Drop)]
 pub struct Script {
@@ -27,26 +34,42 @@ pub struct Script {
     lines: Items<Line>,
 }
 
+impl Model for Script {
+    ghost use Rattle.std.specs.Prelude.{◌≡◌, List};
+    ghost use Rattle.run_model.specs.declared.script_line.Line.{Line};
+    ghost use Rattle.script_run.specs.Forms.{setup_of};
+
+    ghost Value = { List Line };
+
+    ghost view = { λ s. s.lines };
+
+    ghost invariant = { λ s. s.config ≡ setup_of s.lines };
+}
+
 impl Script {
     /// The setup that the script's first line makes.
-    pub fn config(&self) -> &Config {
+    pub fn config(&self) -> &Config
+        ensures { result.now ≡ setup_of self.now }
+    {
         &self.config
     }
 
     /// The lines that aren't skipped, in order.
-    pub fn lines(&self) -> &[Line] {
+    pub fn lines(&self) -> &[Line]
+        ensures { result.now ≡ self.now }
+    {
         self.lines.items()
     }
 }
 
-/*/// Reads the text of a script. A text that is none is refused with its first line at fault and that
+/// Reads the text of a script. A text that is none is refused with its first line at fault and that
 /// line's first fault.
 pub fn parse_script(alloc: Global, bytes: &[u8]) -> Result<Script, ScriptFault>
     ensures script { IfOk result IsScript }
     ensures read { Reads result (script_of bytes.now) }
 {
     let (mut reader, number, rest) = begin(alloc, bytes)?;
-    go_on(alloc, &mut reader, number, rest)?;
-    Ok(Script { config: reader.config, lines: reader.lines })
+    go_on(&mut reader, alloc, number, rest)?;
+    let Reader { config, lines, sent: _ } = reader;
+    Ok(Script { config, lines })
 }
-*/
