@@ -1,1 +1,13 @@
 pub mod Config
+pub mod Histories
+pub mod OwnWrites
+pub mod Kept
+pub mod Missing
+pub mod Loans
+pub mod Order
+pub mod Replies
+pub mod Messages
+pub mod Ranges
+pub mod Runs
+pub mod Reference
+pub mod Promises
