@@ -1,9 +1,9 @@
 -- What a setup without a fault is, and its first owner and conit at fault.
-use Rattle.std.proofs.Common.{◌≡◌, ℕ, ◌+◌, ◌*◌, ◌/◌, ◌%◌, ◌<◌, ◌≤◌, suc, zero, Bool, true, false, cond, not, eqb, leb, ltb, List, [], ◌∷◌, length, drop, get_or, map, sum, Option, Some, None, is_some, refl, sym, ap, ◌∙◌, arith, rules}
-use Rattle.std.specs.List.{slice_get, slice_range, range_with_len, filter_map, cons_option}
+use Rattle.std.proofs.Common.{◌≡◌, ℕ, ◌+◌, ◌*◌, ◌/◌, ◌%◌, ◌<◌, ◌≤◌, suc, zero, Bool, true, false, cond, not, eqb, leb, ltb, List, [], ◌∷◌, ◌++◌, length, take, drop, get_or, map, sum, Option, Some, None, is_some, refl, sym, ap, ◌∙◌, arith, rules}
+use Rattle.std.specs.List.{slice_get, slice_range, range_with_len, filter_map, flat_map, cons_option}
 use Rattle.std.proofs.lemmas.Bool.{and_parts, leb-true, eqb-true, ltb-false, cond-true, cond-false}
 use Rattle.std.proofs.lemmas.Bool.Decides.{nat_tests}
-use Rattle.std.proofs.lemmas.List.{at_drop_more, at_drop_all, length-map, length-take, length-drop}
+use Rattle.std.proofs.lemmas.List.{at_drop_more, at_drop_all, take_all, take_more, flat_map_more, length-map, length-take, length-drop}
 use Rattle.std.proofs.lemmas.List.FromFn.{length-range_with_len, get_or-map-range_with_len, length-map-range_with_len}
 use Rattle.std.proofs.lemmas.Nat.{div-add-mod', mod_below, div_below, mul-add-lt, mul-le, row_fits, div-mul-add, mod-mul-add}
 use Rattle.tact_base.specs.declared.limits.TheConstants.{REPLICAS_MIN, REPLICAS_MAX, CONITS_MAX, ALPHA_MAX}
@@ -168,3 +168,14 @@ HasRow-from_IsSetup s h owner conit o c =
     let at : row_of s (place / s.conits, place % s.conits) ≡ None = rw (get_or-owners_and_conits s place p) at none in
     let parts : row_of s (owner, conit) ≡ None = rw (div-mul-add owner s.conits conit c, mod-mul-add owner s.conits conit c) at at in
     HasRow-from_fault s owner conit parts
+
+-- one owner and conit on, of a text that has a part for each
+pub flat_map_more_rows : (s : Setup) (f : ℕ × ℕ → List ℕ) (front text : List ℕ) (place : ℕ) → place < s.replicas * s.conits → text ≡ front ++ flat_map f (take place (owners_and_conits s)) → text ++ f (place / s.conits, place % s.conits) ≡ front ++ flat_map f (take (place + 1) (owners_and_conits s))
+flat_map_more_rows s f front text place p e =
+    let within : place < length (owners_and_conits s) = rw (length-owners_and_conits s) p in
+    let more = take_more (owners_and_conits s) place (0, 0) within in
+    let at = get_or-owners_and_conits s place p in
+    rw (more, at, e) (flat_map_more f front (take place (owners_and_conits s)) (place / s.conits, place % s.conits))
+
+pub take_all_rows : (s : Setup) (place : ℕ) → s.replicas * s.conits ≤ place → take place (owners_and_conits s) ≡ owners_and_conits s
+take_all_rows s place p = take_all place (owners_and_conits s) (rw (length-owners_and_conits s) p)

@@ -11,3 +11,5 @@ pub mod Ranges
 pub mod Runs
 pub mod Reference
 pub mod Promises
+pub mod Call
+pub mod Text

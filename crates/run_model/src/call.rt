@@ -94,6 +94,24 @@ pub enum Reply {
     },
 }
 
+impl Reply {
+    ghost use Rattle.run_model.specs.Call.{is_waiting};
+
+    /// Whether the same request may be answered otherwise later.
+    pub fn is_waiting(&self) -> bool
+        ensures { result ≡ is_waiting self.now }
+    {
+        matches!(
+            self,
+            Reply::WaitHeld { .. }
+                | Reply::WaitShare { .. }
+                | Reply::WaitLent { .. }
+                | Reply::WaitOrder { .. }
+                | Reply::WaitStale { .. }
+        )
+    }
+}
+
 impl Clone for Request {
     ghost is_clone = { λ old new. new ≡ old };
 

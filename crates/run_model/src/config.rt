@@ -216,3 +216,126 @@ fn do_pass(loans: &[u64], alpha: u64) -> bool
     }
     false
 }
+
+#[cfg(test)]
+mod tests {
+    use super::*;
+    use std::test::Fail;
+
+    const BIG: u64 = ALPHA_MAX + 1;
+
+    #[test]
+    fn names_the_first_fault(rt: HostRuntime) {
+        let cases = [
+            (1, 1, [0].as_slice(), [0].as_slice(), ConfigFault::BadCount),
+            (
+                9,
+                1,
+                [0; 9].as_slice(),
+                [0; 81].as_slice(),
+                ConfigFault::BadCount,
+            ),
+            (2, 0, [].as_slice(), [].as_slice(), ConfigFault::BadCount),
+            (
+                2,
+                17,
+                [0; 34].as_slice(),
+                [0; 68].as_slice(),
+                ConfigFault::BadCount,
+            ),
+            (
+                2,
+                1,
+                [BIG].as_slice(),
+                [0; 4].as_slice(),
+                ConfigFault::BadCount,
+            ),
+            (
+                2,
+                1,
+                [BIG, 0].as_slice(),
+                [0; 5].as_slice(),
+                ConfigFault::BadCount,
+            ),
+            (
+                2,
+                1,
+                [BIG, BIG].as_slice(),
+                [1; 4].as_slice(),
+                ConfigFault::AlphaOver { owner: 0, conit: 0 },
+            ),
+            (
+                2,
+                1,
+                [0, BIG].as_slice(),
+                [0; 4].as_slice(),
+                ConfigFault::AlphaOver { owner: 1, conit: 0 },
+            ),
+            (
+                2,
+                1,
+                [0, 0].as_slice(),
+                [1, 1, 0, 0].as_slice(),
+                ConfigFault::OwnLoan { owner: 0, conit: 0 },
+            ),
+            (
+                2,
+                1,
+                [9, 9].as_slice(),
+                [0, 9, 9, 1].as_slice(),
+                ConfigFault::OwnLoan { owner: 1, conit: 0 },
+            ),
+            (
+                2,
+                1,
+                [9, BIG].as_slice(),
+                [0, 10, 0, 0].as_slice(),
+                ConfigFault::LoansOver { owner: 0, conit: 0 },
+            ),
+            (
+                2,
+                2,
+                [9; 4].as_slice(),
+                [0, 9, 0, 10, 10, 0, 0, 0].as_slice(),
+                ConfigFault::LoansOver { owner: 0, conit: 1 },
+            ),
+            (
+                3,
+                1,
+                [9; 3].as_slice(),
+                [0, u64::MAX, 1, 0, 0, 0, 0, 0, 0].as_slice(),
+                ConfigFault::LoansOver { owner: 0, conit: 0 },
+            ),
+        ];
+        for (replicas, conits, alphas, loans, fault) in cases {
+            let made = Config::new(rt.alloc(), replicas, conits, alphas, loans);
+            assert_eq!(rt;
+                made.err(),
+                Some(fault),
+                "{replicas} {conits} {alphas:?} {loans:?}"
+            );
+        }
+    }
+
+    #[test]
+    fn reads_what_it_was_made_of(rt: HostRuntime) -> Result<(), Fail> {
+        let loans = [0, 1, 0, 2, 3, 0, ALPHA_MAX, 0];
+        let made = Config::new(rt.alloc(), 2, 2, &[5, 6, 7, ALPHA_MAX], &loans)?;
+        let config = made.copy(rt.alloc())?;
+        assert_eq!(rt; (config.replicas(), config.conits()), (2, 2));
+        let mut read = Numbers::new(rt.alloc());
+        for owner in 0..2 {
+            for conit in 0..2 {
+                assert!(rt; owner < config.replicas() && conit < config.conits());
+                read.push(config.alpha(owner, conit))?;
+                read.push(config.loan(owner, conit, 0))?;
+                read.append(config.loans(owner, conit))?;
+            }
+        }
+        let due = [
+            5, 0, 0, 1, 6, 0, 0, 2, 7, 3, 3, 0, ALPHA_MAX, ALPHA_MAX, ALPHA_MAX, 0,
+        ];
+        assert_eq!(rt; read.items(), due.as_slice());
+        Ok(())
+    }
+}

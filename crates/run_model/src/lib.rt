@@ -6,12 +6,17 @@ mod call;
 mod cause;
 mod config;
 mod entry;
+mod header;
 mod script_line;
 mod status;
+mod text;
+mod tokens;
 
 pub use call::{Reply, Request, Sums};
 pub use cause::Cause;
 pub use config::{Config, ConfigFault};
 pub use entry::{Act, Entry, Message};
+pub use header::{end_of, head_of};
 pub use script_line::Line;
 pub use status::{ByteKind, InputKind, LineKind, LoadKind, Status, UsageKind};
+pub use text::line_of;

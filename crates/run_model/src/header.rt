@@ -1,0 +1,111 @@
+//! The lines that a record in text begins and ends with.
+
+ghost use Rattle.std.specs.Prelude.{◌≡◌, ◌<◌, ◌++◌, OnOk, OnErr};
+ghost use Rattle.std.specs.List.{flat_map};
+ghost use Rattle.run_model.specs.Config.{owners_and_conits};
+ghost use Rattle.run_model.specs.Text.{BeginsWith, bound_line, header_text, end_text};
+
+use crate::Config;
+use crate::tokens::{all_or_nothing, put_number, put_numbers};
+use tact_base::{Bytes, NoMemory};
+
+/// Appends the lines that a record begins with: the counts, then for each owner and conit its alpha and
+/// its loans by holder. `NoMemory` leaves `out` as it was.
+pub fn head_of(config: &Config, out: &mut Bytes) -> Result<(), NoMemory>
+    ensures ok { OnOk result (out.new ≡ out.old ++ header_text config.now) }
+    ensures err { OnErr result (out.new ≡ out.old) }
+{
+    let start = out.len();
+    let done = put_head(config, out);
+    all_or_nothing(done, start, out)
+}
+
+/// Appends the line that a record ends with, which has the count of its entries. `NoMemory` leaves `out`
+/// as it was.
+pub fn end_of(count: u64, out: &mut Bytes) -> Result<(), NoMemory>
+    ensures ok { OnOk result (out.new ≡ out.old ++ end_text count) }
+    ensures err { OnErr result (out.new ≡ out.old) }
+{
+    let start = out.len();
+    let done = put_end(count, out);
+    all_or_nothing(done, start, out)
+}
+
+fn put_head(config: &Config, out: &mut Bytes) -> Result<(), NoMemory>
+    ensures ok { OnOk result (out.new ≡ out.old ++ header_text config.now) }
+    ensures err { OnErr result (BeginsWith out.old out.new) }
+{
+    let replicas = config.replicas();
+    let conits = config.conits();
+    out.append(b"tact")?;
+    put_numbers(&[1, u64::from(replicas), u64::from(conits)], out)?;
+    out.push(b'\n')?;
+    put_bounds(config, out)
+}
+
+fn put_bounds(config: &Config, out: &mut Bytes) -> Result<(), NoMemory>
+    ensures ok { OnOk result
+        (out.new ≡ out.old ++ flat_map (bound_line config.now) (owners_and_conits config.now)) }
+    ensures err { OnErr result (BeginsWith out.old out.new) }
+{
+    let replicas = config.replicas();
+    let conits = config.conits();
+    for place in 0..replicas * conits {
+        put_bound(config, place / conits, place % conits, out)?;
+    }
+    Ok(())
+}
+
+fn put_bound(config: &Config, owner: u32, conit: u32, out: &mut Bytes) -> Result<(), NoMemory>
+    requires owner_in { owner < config.now.replicas }
+    requires conit_in { conit < config.now.conits }
+    ensures ok { OnOk result (out.new ≡ out.old ++ bound_line config.now (owner, conit)) }
+    ensures err { OnErr result (BeginsWith out.old out.new) }
+{
+    let alpha = config.alpha(owner, conit);
+    out.append(b"bound")?;
+    put_numbers(&[u64::from(owner), u64::from(conit), alpha], out)?;
+    put_numbers(config.loans(owner, conit), out)?;
+    out.push(b'\n')
+}
+
+fn put_end(count: u64, out: &mut Bytes) -> Result<(), NoMemory>
+    ensures ok { OnOk result (out.new ≡ out.old ++ end_text count) }
+    ensures err { OnErr result (BeginsWith out.old out.new) }
+{
+    out.append(b"end")?;
+    put_number(count, out)?;
+    out.push(b'\n')
+}
+
+#[cfg(test)]
+mod tests {
+    use super::*;
+    use std::test::Fail;
+
+    #[test]
+    fn begins_and_ends_records(rt: HostRuntime) -> Result<(), Fail> {
+        let cases = [
+            (
+                1,
+                [10, 10].as_slice(),
+                [0, 5, 5, 0].as_slice(),
+                "tact 1 2 1\nbound 0 0 10 0 5\nbound 1 0 10 5 0\nend 7\n",
+            ),
+            (
+                2,
+                [1, 2, 3, 4].as_slice(),
+                [0, 1, 0, 2, 3, 0, 4, 0].as_slice(),
+                "tact 1 2 2\nbound 0 0 1 0 1\nbound 0 1 2 0 2\nbound 1 0 3 3 0\nbound 1 1 4 4 0\nend 7\n",
+            ),
+        ];
+        for (conits, alphas, loans, text) in cases {
+            let config = Config::new(rt.alloc(), 2, conits, alphas, loans)?;
+            let mut out = Bytes::new(rt.alloc());
+            head_of(&config, &mut out)?;
+            end_of(7, &mut out)?;
+            assert_eq!(rt; out.items(), text.as_bytes());
+        }
+        Ok(())
+    }
+}

@@ -1,0 +1,244 @@
+//! The text of entries: tokens with single spaces between them.
+
+ghost use Rattle.std.specs.Prelude.{◌≡◌, ◌++◌, ◌∷◌, [], true, map, OnOk, OnErr};
+ghost use Rattle.run_model.specs.Call.{is_waiting};
+ghost use Rattle.run_model.specs.Text.{spaced, BeginsWith, weight_token, need_token, op_tokens, request_tokens, reply_tokens, act_tokens, entry_text};
+
+use crate::tokens::{
+    all_or_nothing, put_at, put_number, put_numbers, put_part, put_row, put_signed,
+    put_signed_part, put_sums, put_token,
+};
+use crate::{Act, Entry, Reply, Request};
+use tact_base::{Bytes, Need, NoMemory, Op, Weight};
+
+/// Appends the line of an entry, with its line feed. `NoMemory` leaves `out` as it was.
+pub fn line_of(entry: &Entry, out: &mut Bytes) -> Result<(), NoMemory>
+    ensures ok { OnOk result (out.new ≡ out.old ++ entry_text entry.now ++ 10 ∷ []) }
+    ensures err { OnErr result (out.new ≡ out.old) }
+{
+    let start = out.len();
+    let done = put_entry(entry, out);
+    all_or_nothing(done, start, out)
+}
+
+fn put_entry(entry: &Entry, out: &mut Bytes) -> Result<(), NoMemory>
+    ensures ok { OnOk result (out.new ≡ out.old ++ entry_text entry.now ++ 10 ∷ []) }
+    ensures err { OnErr result (BeginsWith out.old out.new) }
+{
+    out.append(b"e")?;
+    put_numbers(&[u64::from(entry.replica), entry.moment], out)?;
+    put_act(&entry.act, out)?;
+    out.push(b'\n')
+}
+
+fn put_act(act: &Act, out: &mut Bytes) -> Result<(), NoMemory>
+    ensures ok { OnOk result (out.new ≡ out.old ++ spaced (act_tokens act.now)) }
+    ensures err { OnErr result (BeginsWith out.old out.new) }
+{
+    match act {
+        Act::Call {
+            client,
+            number,
+            request,
+            reply,
+        } => {
+            put_row(b"call", &[u64::from(*client), *number], out)?;
+            put_request(request, out)?;
+            put_token(b"=", out)?;
+            put_reply(reply, out)
+        }
+        Act::Send { message } => {
+            put_row(b"send", &[u64::from(message.to), message.number], out)?;
+            put_numbers(message.firsts.items(), out)
+        }
+        Act::Take { message } => put_row(b"take", &[u64::from(message.from), message.number], out),
+        Act::Lend { to, conit, amount } => {
+            put_row(b"lend", &[u64::from(*to), u64::from(*conit), *amount], out)
+        }
+        Act::Back {
+            owner,
+            conit,
+            amount,
+        } => put_row(
+            b"back",
+            &[u64::from(*owner), u64::from(*conit), *amount],
+            out,
+        ),
+        Act::Restart => put_token(b"restart", out),
+    }
+}
+
+fn put_reply(reply: &Reply, out: &mut Bytes) -> Result<(), NoMemory>
+    ensures ok { OnOk result (out.new ≡ out.old ++ spaced (reply_tokens reply.now)) }
+    ensures err { OnErr result (BeginsWith out.old out.new) }
+{
+    match reply {
+        Reply::Done { index, stamp } => put_row(b"done", &[*index, *stamp], out),
+        Reply::Granted => put_token(b"granted", out),
+        Reply::Released => put_token(b"released", out),
+        Reply::Value { value, sums } => {
+            put_token(b"value", out)?;
+            put_signed(*value, out)?;
+            put_sums(sums.items(), out)
+        }
+        Reply::TooHeavy {
+            conit,
+            peer,
+            weight,
+            share,
+        } => { put_at(b"too-heavy", *conit, *peer, &[*weight, *share], out) }
+        Reply::NotHeld {
+            conit,
+            held,
+            amount,
+        } => { put_row(b"not-held", &[u64::from(*conit), *held, *amount], out) }
+        _ => put_waiting(reply, out),
+    }
+}
+
+fn put_waiting(reply: &Reply, out: &mut Bytes) -> Result<(), NoMemory>
+    requires { is_waiting reply.now ≡ true }
+    ensures ok { OnOk result (out.new ≡ out.old ++ spaced (reply_tokens reply.now)) }
+    ensures err { OnErr result (BeginsWith out.old out.new) }
+{
+    match reply {
+        Reply::WaitHeld {
+            conit,
+            peer,
+            reserved,
+            weight,
+            share,
+        } => {
+            put_at(
+                b"wait-held",
+                *conit,
+                *peer,
+                &[*reserved, *weight, *share],
+                out,
+            )
+        }
+        Reply::WaitShare {
+            conit,
+            peer,
+            missing,
+            reserved,
+            weight,
+            share,
+        } => {
+            put_at(
+                b"wait-share",
+                *conit,
+                *peer,
+                &[*missing, *reserved, *weight, *share],
+                out,
+            )
+        }
+        Reply::WaitLent {
+            conit,
+            holder,
+            out: lent,
+            total,
+            num,
+        } => { put_at(b"wait-lent", *conit, *holder, &[*lent, *total, *num], out) }
+        Reply::WaitOrder {
+            conit,
+            replica,
+            tentative,
+            order,
+        } => { put_at(b"wait-order", *conit, *replica, &[*tentative, *order], out) }
+        Reply::WaitStale {
+            conit,
+            replica,
+            moment,
+            wanted,
+        } => { put_at(b"wait-stale", *conit, *replica, &[*moment, *wanted], out) }
+        _ => unreachable!(),
+    }
+}
+
+fn put_request(request: &Request, out: &mut Bytes) -> Result<(), NoMemory>
+    ensures ok { OnOk result (out.new ≡ out.old ++ spaced (request_tokens request.now)) }
+    ensures err { OnErr result (BeginsWith out.old out.new) }
+{
+    match request {
+        Request::Write { weights, op } => {
+            put_token(b"write", out)?;
+            put_op(op, out)?;
+            put_weights(weights.items(), out)
+        }
+        Request::Held { weight, op } => {
+            put_token(b"held", out)?;
+            put_op(op, out)?;
+            put_weight(weight, out)
+        }
+        Request::Reserve { conit, amount } => {
+            put_row(b"reserve", &[u64::from(*conit), *amount], out)
+        }
+        Request::Release { conit, amount } => {
+            put_row(b"release", &[u64::from(*conit), *amount], out)
+        }
+        Request::Read { key, needs } => {
+            put_row(b"read", &[*key], out)?;
+            put_needs(needs.items(), out)
+        }
+    }
+}
+
+fn put_op(op: &Op, out: &mut Bytes) -> Result<(), NoMemory>
+    ensures ok { OnOk result (out.new ≡ out.old ++ spaced (op_tokens op.now)) }
+    ensures err { OnErr result (BeginsWith out.old out.new) }
+{
+    match op {
+        Op::Put { key, value } => {
+            put_row(b"put", &[*key], out)?;
+            put_signed(*value, out)
+        }
+        Op::Add { key, delta } => {
+            put_row(b"add", &[*key], out)?;
+            put_signed(*delta, out)
+        }
+        Op::Shift { from, to, amount } => put_row(b"shift", &[*from, *to, *amount], out),
+    }
+}
+
+fn put_weights(weights: &[Weight], out: &mut Bytes) -> Result<(), NoMemory>
+    ensures ok { OnOk result (out.new ≡ out.old ++ spaced (map weight_token weights.now)) }
+    ensures err { OnErr result (BeginsWith out.old out.new) }
+{
+    for weight in weights {
+        put_weight(weight, out)?;
+    }
+    Ok(())
+}
+
+fn put_weight(weight: &Weight, out: &mut Bytes) -> Result<(), NoMemory>
+    ensures ok { OnOk result (out.new ≡ out.old ++ spaced (weight_token weight.now ∷ [])) }
+    ensures err { OnErr result (BeginsWith out.old out.new) }
+{
+    put_number(u64::from(weight.conit), out)?;
+    put_signed_part(weight.nweight, out)?;
+    put_part(weight.oweight, out)
+}
+
+fn put_needs(needs: &[Need], out: &mut Bytes) -> Result<(), NoMemory>
+    ensures ok { OnOk result (out.new ≡ out.old ++ spaced (map need_token needs.now)) }
+    ensures err { OnErr result (BeginsWith out.old out.new) }
+{
+    for need in needs {
+        put_need(need, out)?;
+    }
+    Ok(())
+}
+
+fn put_need(need: &Need, out: &mut Bytes) -> Result<(), NoMemory>
+    ensures ok { OnOk result (out.new ≡ out.old ++ spaced (need_token need.now ∷ [])) }
+    ensures err { OnErr result (BeginsWith out.old out.new) }
+{
+    put_number(u64::from(need.conit), out)?;
+    put_part(need.num, out)?;
+    put_part(need.order, out)?;
+    put_part(need.stale, out)
+}
+
+#[cfg(test)]
+mod tests;
