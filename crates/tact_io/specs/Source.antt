@@ -1,5 +1,5 @@
 -- What a source gives, of the bytes that were left in it, where it tells them.
-use Rattle.std.specs.Prelude.{◌≡◌, ℕ, List, [], ◌++◌, Option, None, Some, IfSome}
+use Rattle.std.specs.Prelude.{◌≡◌, ℕ, List, [], ◌++◌, Option, IfSome}
 use Rattle.std.specs.Option.{option_map}
 
 -- these bytes came next and are no longer left; it tells as it told before

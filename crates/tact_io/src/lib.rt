@@ -2,7 +2,6 @@
 //! with a count of its faults, their forms in memory, and the real edge.
 #![tactic(auto)]
 
-mod edge;
 mod fault;
 mod memory_sink;
 mod memory_source;
@@ -10,15 +9,18 @@ mod read;
 mod schedule;
 mod sink;
 mod source;
+mod std_sink;
+mod std_source;
 mod write;
 
-pub use edge::{StdSink, StdSource};
 pub use fault::{Failed, OutFault};
 pub use memory_sink::{MemSink, SureSink};
 pub use memory_source::{MemSource, SureSource};
 pub use read::{ReadEnd, read_all};
 pub use sink::Sink;
 pub use source::Source;
+pub use std_sink::StdSink;
+pub use std_source::StdSource;
 pub use write::write_all;
 
 #[cfg(test)]

@@ -76,18 +76,17 @@ fn sources_in_memory_fail_where_listed(rt: HostRuntime) -> Result<(), Fail> {
 #[test]
 fn sinks_in_memory_fail_where_listed(rt: HostRuntime) -> Result<(), Fail> {
     let alloc = rt.alloc();
-    for (fails, want) in [
-        ([].as_slice(), b"onetwo".as_slice()),
-        ([0].as_slice(), b"two".as_slice()),
-        ([1].as_slice(), b"one".as_slice()),
-        ([1, 0].as_slice(), b"".as_slice()),
+    let failed = Err(OutFault::Failed);
+    for (fails, first, second, want) in [
+        ([].as_slice(), Ok(()), Ok(()), b"onetwo".as_slice()),
+        ([0].as_slice(), failed, Ok(()), b"two".as_slice()),
+        ([1].as_slice(), Ok(()), failed, b"one".as_slice()),
+        ([1, 0].as_slice(), failed, failed, b"".as_slice()),
     ] {
         let mut sink = MemSink::new(alloc, fails)?;
-        let first = write_all(&mut sink, b"one");
-        let second = write_all(&mut sink, b"two");
+        assert_eq!(rt; write_all(&mut sink, b"one"), first, "fails {fails:?}");
+        assert_eq!(rt; write_all(&mut sink, b"two"), second, "fails {fails:?}");
         assert_eq!(rt; sink.bytes(), want, "fails {fails:?}");
-        assert_eq!(rt; first.is_ok(), !fails.contains(&0));
-        assert_eq!(rt; second.is_ok(), !fails.contains(&1));
     }
     let mut sure = SureSink::new(alloc)?;
     assert_eq!(rt; write_all(&mut sure, b"one"), Ok(()));

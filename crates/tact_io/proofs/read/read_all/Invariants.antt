@@ -1,4 +1,4 @@
-use Rattle.std.proofs.Common.{ℕ, ◌-◌, ◌≤◌, length}
+use Rattle.std.proofs.Common.{◌-◌, ◌≤◌, length}
 use Rattle.tact_io.specs.Source.{Gives}
 use Rattle.tact_io.proofs.read.read_all.Given as goal
 
