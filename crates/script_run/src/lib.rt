@@ -7,5 +7,6 @@ mod fields;
 mod forms;
 mod reader;
 mod script;
+mod seat;
 mod sent;
 mod word;

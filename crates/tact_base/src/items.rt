@@ -1,4 +1,4 @@
-ghost use Rattle.std.specs.Prelude.{◌≡◌, [], ◌∷◌, ◌++◌, OnOk, OnErr, IfOk, length, ◌==◌};
+ghost use Rattle.std.specs.Prelude.{◌≡◌, [], ◌∷◌, ◌++◌, OnOk, OnErr, IfOk, length, take, ◌==◌};
 ghost use Rattle.std.specs.List.{AllZip, AppendsClones};
 ghost use Rattle.std.specs.Cmp.Lexicographic.{pointwise, lists_equiv, lists_per};
 
@@ -82,6 +82,13 @@ impl<T: Drop> Items<T> {
     {
         self.items.push(item)?;
         Ok(())
+    }
+
+    /// Drops all items from place `len` on, if there are any. Takes no memory.
+    pub fn truncate(&mut self, len: usize)
+        ensures { self.new ≡ take len self.old }
+    {
+        self.items.truncate(len);
     }
 }
 
