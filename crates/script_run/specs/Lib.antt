@@ -3,3 +3,5 @@ pub mod Words
 pub mod Fields
 pub mod Forms
 pub mod Scripts
+pub mod Seats
+pub mod Worlds

@@ -1,9 +1,9 @@
 //! A replica as plain lists: what it has of each origin, and what it knows of its peers.
 ghost use Rattle.std.specs.Prelude.{◌≡◌, ◌*◌, ◌<◌, ◌≤◌, length, vec_len, IfOk, OnOk};
 
-use run_model::{Act, Config, Message, Reply, Request};
+use run_model::{Act, Reply, Request};
 use std::alloc::Global;
-use tact_base::{Cover, Covers, MESSAGE_WRITES, NoMemory, Numbers, Op, Weights, Write, WriteList};
+use tact_base::{Cover, NoMemory, Op, Weights, Write, WriteList};
 
 /// The state of one replica.
 #[derive(Drop)]
@@ -32,10 +32,13 @@ pub(crate) struct Seat {
 }
 
 impl Seat {
+    ghost use Rattle.script_run.specs.Seats.{SameSize};
+
     /// A replica that has done nothing.
     pub(crate) fn new(alloc: Global, replica: u32, replicas: u32) -> Result<Self, NoMemory>
         requires few { replicas ≤ 8 }
         requires among { replica < replicas }
+        ensures { IfOk result (λ seat. (seat.replica ≡ replica) × (seat.replicas ≡ replicas)) }
     {
         let mut logs = Vec::new(alloc);
         for _ in 0..replicas {
@@ -64,5 +67,152 @@ impl Seat {
         requires { origin < self.now.replicas }
     {
         self.logs[origin as usize].len() as u64
+    }
+}
+
+impl Seat {
+    ghost use Rattle.script_run.specs.Seats.{SameSize};
+
+    /// Its number.
+    pub(crate) fn replica(&self) -> u32
+        ensures { result ≡ self.now.replica }
+    {
+        self.replica
+    }
+
+    /// How many replicas there are.
+    pub(crate) fn replicas(&self) -> u32
+        ensures { result ≡ self.now.replicas }
+    {
+        self.replicas
+    }
+
+    /// How many messages it sent.
+    pub(crate) fn sends(&self) -> u64 {
+        self.sends
+    }
+
+    /// Its clock.
+    pub(crate) fn clock(&self) -> u64 {
+        self.clock
+    }
+
+    /// How many writes of an origin a peer is known to have.
+    pub(crate) fn known(&self, peer: u32, origin: u32) -> u64
+        requires peer { peer < self.now.replicas }
+        requires origin { origin < self.now.replicas }
+    {
+        self.known[(peer * self.replicas + origin) as usize]
+    }
+
+    /// The cover of an origin: of itself its own state, at this moment.
+    pub(crate) fn cover(&self, origin: u32, moment: u64) -> Cover
+        requires { origin < self.now.replicas }
+    {
+        if origin == self.replica {
+            Cover { count: self.have(origin), stamp: self.clock, moment }
+        } else {
+            self.covers[origin as usize]
+        }
+    }
+
+    /// The log of an origin.
+    pub(crate) fn log(&self, origin: u32) -> &[Write]
+        requires { origin < self.now.replicas }
+    {
+        self.logs[origin as usize].items()
+    }
+
+    /// At most so many writes of an origin from the first on.
+    pub(crate) fn stretch(&self, origin: u32, first: u64, most: usize) -> &[Write]
+        requires { origin < self.now.replicas }
+        ensures { length result.now ≤ most }
+    {
+        let log = self.logs[origin as usize].items();
+        if first >= log.len() as u64 {
+            return &log[..0];
+        }
+        let rest = &log[first as usize..];
+        &rest[..most.min(rest.len())]
+    }
+
+    /// Notes that a message was sent.
+    pub(crate) fn note_sent(&mut self, moment: u64)
+        ensures { SameSize self.old self.new }
+    {
+        self.sends = self.sends.saturating_add(1);
+        self.last = moment;
+    }
+
+    /// Appends a write to the log of an origin.
+    pub(crate) fn add(&mut self, origin: u32, write: &Write) -> Result<(), NoMemory>
+        requires { origin < self.old.replicas }
+        ensures { SameSize self.old self.new }
+    {
+        let write = write.clone()?;
+        let log = &mut self.logs[origin as usize];
+        log.push(write)
+    }
+
+    /// Keeps a told cover of an origin, where it is within the log and no number of it is less.
+    pub(crate) fn take_cover(&mut self, origin: u32, told: Cover)
+        requires { origin < self.old.replicas }
+        ensures { SameSize self.old self.new }
+    {
+        let kept = self.covers[origin as usize];
+        let is_within = told.count <= self.have(origin);
+        let is_later = kept.count <= told.count && kept.stamp <= told.stamp && kept.moment <= told.moment;
+        if is_within && is_later {
+            self.covers[origin as usize] = told;
+        }
+    }
+
+    /// Learns how many writes of an origin a peer has.
+    pub(crate) fn learn(&mut self, peer: u32, origin: u32, told: u64)
+        requires peer { peer < self.old.replicas }
+        requires origin { origin < self.old.replicas }
+        ensures { SameSize self.old self.new }
+    {
+        let place = (peer * self.replicas + origin) as usize;
+        self.known[place] = self.known[place].max(told);
+    }
+
+    /// Notes that a message with these covers was taken: the clock rises to their greatest stamp.
+    pub(crate) fn note_taken(&mut self, covers: &[Cover], moment: u64)
+        ensures { SameSize self.old self.new }
+    {
+        for cover in covers {
+            self.clock = self.clock.max(cover.stamp);
+        }
+        self.last = moment;
+    }
+
+    /// Accepts a write without weights, and answers its index, its stamp and the number of the call.
+    pub(crate) fn accept(
+        &mut self,
+        client: u32,
+        moment: u64,
+        op: Op,
+        weights: Weights,
+    ) -> Result<Act, NoMemory>
+        requires { client < 8 }
+        ensures same { SameSize self.old self.new }
+    {
+        let own = self.replica as usize;
+        let index = self.logs[own].len() as u64;
+        let stamp = self.clock.saturating_add(1);
+        let number = self.calls[client as usize];
+        let asked = weights.clone()?;
+        let write = Write { origin: self.replica, index, stamp, moment, weights, op };
+        self.logs[own].push(write)?;
+        self.clock = stamp;
+        self.calls[client as usize] = number.saturating_add(1);
+        self.last = moment;
+        Ok(Act::Call {
+            client,
+            number,
+            request: Request::Write { weights: asked, op },
+            reply: Reply::Done { index, stamp },
+        })
     }
 }

@@ -13,7 +13,7 @@ pub trait Source {
     ghost left: { Self → Option (List ℕ) };
 
     /// Reads the next bytes into the front of `buf`, and answers how many. 0 for a `buf` that isn't empty
-    /// is the end of input. What `buf` holds behind them is left open, as is all of it after `Failed`.
+    /// is the end of input. `Failed` takes no byte. What `buf` holds behind the bytes read is left open.
     fn read(&mut self, buf: &mut [u8]) -> Result<usize, Failed>
         ensures within { IfOk result (λ count. count ≤ length buf.new) }
         ensures gives { IfOk result (λ count. Gives (left self.old) (left self.new) (take count buf.new)) }

@@ -1,0 +1,26 @@
+-- The replicas of a world.
+use Rattle.std.specs.Prelude.{◌≡◌, ℕ, ◌<◌, List, [], length, slice_index_or}
+use Rattle.run_model.specs.declared.entry.Message.{Message}
+use Rattle.script_run.specs.declared.seat.Seat.{Seat}
+
+-- it is the same replica among as many
+pub record SameSize (old new : Seat) : Type 0 where
+  pub replica : new.replica ≡ old.replica
+  pub replicas : new.replicas ≡ old.replicas
+
+-- a message among so many replicas
+pub record IsFor (replicas : ℕ) (message : Message) : Type 0 where
+  pub from : message.from < replicas
+  pub haves : length message.haves ≡ replicas
+  pub covers : length message.covers ≡ replicas
+  pub firsts : length message.firsts ≡ replicas
+
+-- the replicas of a world of so many are these
+pub record AreSeats (replicas : ℕ) (seats : List Seat) : Type 0 where
+  pub count : length seats ≡ replicas
+  pub sizes : (k : ℕ) (d : Seat) → k < replicas → (slice_index_or seats k d).replicas ≡ replicas
+  pub places : (k : ℕ) (d : Seat) → k < replicas → (slice_index_or seats k d).replica ≡ k
+
+-- the messages that they sent are among so many
+abbrev pub AreSent : ℕ → List (List Message) → Type 0
+AreSent replicas sent = (from number : ℕ) (d : Message) → from < replicas → number < length (slice_index_or sent from []) → IsFor replicas (slice_index_or (slice_index_or sent from []) number d)

@@ -1,0 +1,113 @@
+//! The message that a replica sends.
+ghost use Rattle.std.specs.Prelude.{◌≡◌, ◌<◌, ◌≤◌, length, vec_len, IfOk};
+ghost use Rattle.script_run.specs.Seats.{SameSize, IsFor};
+
+use crate::seat::Seat;
+use run_model::{Config, Message};
+use std::alloc::Global;
+use tact_base::{Covers, MESSAGE_WRITES, NoMemory, Numbers, WriteList};
+
+impl Seat {
+    /// Sends the next message to another replica, where these firsts are given.
+    pub(crate) fn send(
+        &mut self,
+        alloc: Global,
+        config: &Config,
+        moment: u64,
+        to: u32,
+        given: &[u64],
+    ) -> Result<Message, NoMemory>
+        requires to { to < self.old.replicas }
+        requires config { config.now.replicas ≡ self.old.replicas }
+        requires given { length given.now ≡ self.old.replicas }
+        ensures same { SameSize self.old self.new }
+        ensures message { IfOk result (IsFor self.old.replicas) }
+    {
+        let firsts = self.firsts(alloc, to, given)?;
+        let message = Message {
+            from: self.replica(),
+            to,
+            number: self.sends(),
+            haves: self.haves(alloc)?,
+            covers: self.all_covers(alloc, moment)?,
+            writes: self.writes(alloc, firsts.items())?,
+            firsts,
+            lent: self.lent(alloc, config, to)?,
+            returned: nothing(alloc, config.conits())?,
+        };
+        self.note_sent(moment);
+        Ok(message)
+    }
+
+    // By origin, where the told writes begin.
+    fn firsts(&self, alloc: Global, to: u32, given: &[u64]) -> Result<Numbers, NoMemory>
+        requires to { to < self.now.replicas }
+        requires given { length given.now ≡ self.now.replicas }
+        ensures { IfOk result (λ firsts. length firsts ≡ self.now.replicas) }
+    {
+        let mut firsts = Numbers::new(alloc);
+        for origin in 0..self.replicas() {
+            let have = self.have(origin);
+            if origin == to {
+                firsts.push(have)?;
+            } else {
+                let told = given[origin as usize].max(self.known(to, origin));
+                firsts.push(have.min(told))?;
+            }
+        }
+        Ok(firsts)
+    }
+
+    fn haves(&self, alloc: Global) -> Result<Numbers, NoMemory>
+        ensures { IfOk result (λ haves. length haves ≡ self.now.replicas) }
+    {
+        let mut haves = Numbers::new(alloc);
+        for origin in 0..self.replicas() {
+            haves.push(self.have(origin))?;
+        }
+        Ok(haves)
+    }
+
+    fn all_covers(&self, alloc: Global, moment: u64) -> Result<Covers, NoMemory>
+        ensures { IfOk result (λ covers. length covers ≡ self.now.replicas) }
+    {
+        let mut covers = Covers::new(alloc);
+        for origin in 0..self.replicas() {
+            covers.push(self.cover(origin, moment))?;
+        }
+        Ok(covers)
+    }
+
+    // From each origin in rising order the writes from its first on, as many as there is room for.
+    fn writes(&self, alloc: Global, firsts: &[u64]) -> Result<WriteList, NoMemory>
+        requires { length firsts.now ≡ self.now.replicas }
+    {
+        let mut writes = WriteList::new(alloc);
+        for origin in 0..self.replicas() {
+            let room = MESSAGE_WRITES - writes.len();
+            writes.append_clones(self.stretch(origin, firsts[origin as usize], room))?;
+        }
+        Ok(writes)
+    }
+
+    // What the replica ever lent to the holder: the opening loans.
+    fn lent(&self, alloc: Global, config: &Config, holder: u32) -> Result<Numbers, NoMemory>
+        requires holder { holder < self.now.replicas }
+        requires config { config.now.replicas ≡ self.now.replicas }
+    {
+        let mut lent = Numbers::new(alloc);
+        for conit in 0..config.conits() {
+            lent.push(config.loan(self.replica(), conit, holder))?;
+        }
+        Ok(lent)
+    }
+}
+
+// A number of 0 for each conit.
+fn nothing(alloc: Global, conits: u32) -> Result<Numbers, NoMemory> {
+    let mut numbers = Numbers::new(alloc);
+    for _ in 0..conits {
+        numbers.push(0)?;
+    }
+    Ok(numbers)
+}
