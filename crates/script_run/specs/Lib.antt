@@ -5,3 +5,4 @@ pub mod Forms
 pub mod Scripts
 pub mod Seats
 pub mod Worlds
+pub mod Playing

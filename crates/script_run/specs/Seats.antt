@@ -15,12 +15,12 @@ pub record IsFor (replicas : ℕ) (message : Message) : Type 0 where
   pub covers : length message.covers ≡ replicas
   pub firsts : length message.firsts ≡ replicas
 
--- the replicas of a world of so many are these
-pub record AreSeats (replicas : ℕ) (seats : List Seat) : Type 0 where
-  pub count : length seats ≡ replicas
-  pub sizes : (k : ℕ) (d : Seat) → k < replicas → (slice_index_or seats k d).replicas ≡ replicas
-  pub places : (k : ℕ) (d : Seat) → k < replicas → (slice_index_or seats k d).replica ≡ k
+-- so many replicas of a world that has `replicas` are these, in order
+pub record AreSeats (replicas count : ℕ) (seats : List Seat) : Type 0 where
+  pub length_is : length seats ≡ count
+  pub sizes : (k : ℕ) (d : Seat) → k < count → (slice_index_or seats k d).replicas ≡ replicas
+  pub places : (k : ℕ) (d : Seat) → k < count → (slice_index_or seats k d).replica ≡ k
 
 -- the messages that they sent are among so many
 abbrev pub AreSent : ℕ → List (List Message) → Type 0
-AreSent replicas sent = (from number : ℕ) (d : Message) → from < replicas → number < length (slice_index_or sent from []) → IsFor replicas (slice_index_or (slice_index_or sent from []) number d)
+AreSent replicas sent = (from number : ℕ) (d : Message) → from < length sent → number < length (slice_index_or sent from []) → IsFor replicas (slice_index_or (slice_index_or sent from []) number d)

@@ -1,5 +1,5 @@
 //! The world that a script runs in.
-ghost use Rattle.std.specs.Prelude.{◌≡◌, ◌+◌, ◌<◌, ◌≤◌, [], length, vec_len, slice_index_or, IfOk, OnOk};
+ghost use Rattle.std.specs.Prelude.{◌≡◌, ◌+◌, ◌<◌, ◌≤◌, [], ◌∷◌, ◌++◌, length, map, replicate, slice_set, slice_index, slice_index_or, IfOk, OnOk};
 ghost use Rattle.script_run.specs.Forms.{NamesOnly};
 
 use crate::seat::Seat;
@@ -20,12 +20,13 @@ pub(crate) struct World {
 }
 
 impl World {
-    ghost use Rattle.script_run.specs.Worlds.{IsWorld, MayStep};
+    ghost use Rattle.script_run.specs.Worlds.{IsWorld, MayStep, sent_counts, counts_after};
 
     /// The world of a setup, in which nothing has happened.
     pub(crate) fn new(alloc: Global, config: &Config) -> Result<Self, NoMemory>
         ensures world { IfOk result IsWorld }
         ensures config { IfOk result (λ world. world.config ≡ config.now) }
+        ensures sent { IfOk result (λ world. sent_counts world ≡ replicate config.now.replicas 0) }
     {
         let replicas = config.replicas();
         let mut seats = Vec::new(alloc);
@@ -53,6 +54,8 @@ impl World {
         requires world { IsWorld self.old }
         requires line { MayStep self.old line.now }
         ensures world { OnOk result (IsWorld self.new) }
+        ensures config { self.new.config ≡ self.old.config }
+        ensures sent { OnOk result (sent_counts self.new ≡ counts_after (sent_counts self.old) line.now) }
     {
         match line {
             Line::Write { replica, client, op, weights } => {
@@ -76,6 +79,8 @@ impl World {
     fn enter(&mut self, replica: u32, act: Act, out: &mut Bytes) -> Result<(), NoMemory>
         requires world { IsWorld self.old }
         ensures world { IsWorld self.new }
+        ensures config { self.new.config ≡ self.old.config }
+        ensures sent { sent_counts self.new ≡ sent_counts self.old }
     {
         let entry = Entry { replica, moment: 0, act };
         line_of(&entry, out)?;
@@ -94,6 +99,8 @@ impl World {
         requires replica { replica < self.old.config.replicas }
         requires client { client < 8 }
         ensures world { OnOk result (IsWorld self.new) }
+        ensures config { self.new.config ≡ self.old.config }
+        ensures sent { OnOk result (sent_counts self.new ≡ sent_counts self.old) }
     {
         let weights = weights.clone()?;
         let seat = &mut self.seats[replica as usize];
@@ -106,12 +113,13 @@ impl World {
         requires to { to < self.old.config.replicas }
         requires firsts { length firsts.now ≡ self.old.config.replicas }
         ensures world { OnOk result (IsWorld self.new) }
+        ensures config { self.new.config ≡ self.old.config }
+        ensures sent { OnOk result (sent_counts self.new ≡ slice_set (sent_counts self.old) from (slice_index (sent_counts self.old) from + 1)) }
     {
         let seat = &mut self.seats[from as usize];
         let message = seat.send(self.alloc, &self.config, 0, to, firsts)?;
         let kept = message.clone()?;
-        let sent = &mut self.sent[from as usize];
-        sent.push(kept)?;
+        keep(&mut self.sent, from, kept)?;
         Ok(Act::Send { message })
     }
 
@@ -119,8 +127,10 @@ impl World {
         requires world { IsWorld self.old }
         requires replica { replica < self.old.config.replicas }
         requires from { from < self.old.config.replicas }
-        requires number { number < length (slice_index_or self.old.sent.items from []) }
+        requires number { number < slice_index (sent_counts self.old) from }
         ensures world { OnOk result (IsWorld self.new) }
+        ensures config { self.new.config ≡ self.old.config }
+        ensures sent { OnOk result (sent_counts self.new ≡ sent_counts self.old) }
     {
         let sent = self.sent[from as usize].items();
         let message = sent[number as usize].clone()?;
@@ -128,4 +138,14 @@ impl World {
         seat.take(&message, 0)?;
         Ok(Act::Take { message })
     }
+}
+
+// Keeps the next message of a replica.
+fn keep(sent: &mut Vec<Items<Message>>, from: u32, message: Message) -> Result<(), NoMemory>
+    requires { from < length sent.old.items }
+    ensures kept { OnOk result (sent.new.items ≡ slice_set sent.old.items from (slice_index_or sent.old.items from [] ++ message ∷ [])) }
+    ensures counts { OnOk result (map length sent.new.items ≡ slice_set (map length sent.old.items) from (slice_index (map length sent.old.items) from + 1)) }
+{
+    let list = &mut sent[from as usize];
+    list.push(message)
 }

@@ -1,0 +1,23 @@
+use Rattle.std.proofs.Common.{◌≡◌, ◌<◌, List, length, subst, ap, sym, ◌∙◌, rules, arith}
+use Rattle.std.proofs.lemmas.List.{length-set}
+use Rattle.run_model.specs.declared.entry.Message.{Message}
+use Rattle.script_run.specs.declared.seat.Seat.{Seat}
+use Rattle.script_run.specs.Seats.{AreSent, IsFor}
+use Rattle.script_run.proofs.WorldLemmas.{sent_more, seats_set}
+use Rattle.script_run.proofs.world.World.send.Goals as goal
+
+pub returns-clause-world : goal.returns-clause-world
+returns-clause-world c =
+    let n = c.args.self.now.config.replicas in
+    let world = c.requires.world in
+    let old = c.index_mut-seat.result.now in
+    let size : old.replicas ≡ n = ap (λ (s : Seat). s.replicas) c.index_mut-seat.ensures.value ∙ world.seats.sizes c.args.from old c.requires.from in
+    let place : old.replica ≡ c.args.from = ap (λ (s : Seat). s.replica) c.index_mut-seat.ensures.value ∙ world.seats.places c.args.from old c.requires.from in
+    let within : c.args.from < length c.args.self.now.sent.items = omega (arith, world.lists, c.requires.from) in
+    let same : c.in_ok-kept.kept ≡ c.in_ok-message.message = search rules in
+    let kept : IsFor n c.in_ok-kept.kept = subst (IsFor n) (sym same) (subst (λ k. IsFor k c.in_ok-message.message) size c.in_ok-message.ensures.message) in
+    record {
+      seats = seats_set n n c.args.from c.args.self.now.seats.items c.send.new.self world.seats c.requires.from (c.in_ok-message.ensures.same.replicas ∙ size) (c.in_ok-message.ensures.same.replica ∙ place);
+      lists = ap length c.in_ok-keep.ensures.kept ∙ length-set c.args.self.now.sent.items c.args.from _ ∙ world.lists;
+      sent = subst (AreSent n) (sym c.in_ok-keep.ensures.kept) (sent_more n c.args.self.now.sent.items c.args.from c.in_ok-kept.kept world.sent kept within);
+    }

@@ -1,0 +1,38 @@
+-- When each answer of `play` comes, and what it leaves.
+use Rattle.std.specs.Prelude.{◌≡◌, ℕ, ◌<◌, ◌≤◌, List, [], Option, Some, None, IfSome, length, Result, Ok, Err}
+use Rattle.run_model.specs.declared.script_line.Line.{Line}
+use Rattle.run_model.specs.declared.status.LineKind.{LineKind}
+use Rattle.run_model.specs.declared.status.InputKind.TheVariants as input
+use Rattle.run_model.specs.declared.status.Status.{Status}
+use Rattle.run_model.specs.declared.status.Status.TheVariants as status
+use Rattle.script_run.specs.Scripts.{script_of, IsScript}
+use Rattle.script_run.specs.declared.playing.TheConstants.{INPUT_MAX}
+use Rattle.tact_io.specs.Faults.{HasRisen}
+use Rattle.tact_io.specs.Sink.{Gains, GainsPart}
+use Rattle.tact_io.specs.Source.{IsAtEnd}
+
+-- the cause of each answer: by what the source had left and both counts of faults before and after
+abbrev pub HasCause : Status → Option (List ℕ) → Option (List ℕ) → ℕ → ℕ → ℕ → ℕ → Type 0
+HasCause status.Done left rest reads reads' writes writes' =
+    IsAtEnd rest × IfSome left (λ input. (length input ≤ INPUT_MAX) × (lines : List Line) × IsScript lines × (script_of input ≡ Ok lines))
+HasCause (status.BadInput place (input.Line kind)) left rest reads reads' writes writes' =
+    IsAtEnd rest × IfSome left (λ input. script_of input ≡ Err (place, kind))
+HasCause status.TooLong left rest reads reads' writes writes' = IfSome left (λ input. INPUT_MAX < length input)
+HasCause status.ReadFault left rest reads reads' writes writes' = HasRisen reads reads'
+HasCause status.WriteFault left rest reads reads' writes writes' = HasRisen writes writes'
+HasCause status.NoMemory left rest reads reads' writes writes' = Unit {0}
+HasCause (status.Usage kind) left rest reads reads' writes writes' = ⊥
+
+-- what each answer leaves of the sink: all of one text, a front of it, or nothing more
+abbrev pub Writes : Status → Option (List ℕ) → Option (List ℕ) → Type 0
+Writes status.Done before after = (text : List ℕ) × Gains before after text
+Writes status.WriteFault before after = (text : List ℕ) × GainsPart before after text
+Writes status.NoMemory before after = (text : List ℕ) × Gains before after text
+Writes other before after = after ≡ before
+
+-- the status after a text was written, and its cause
+abbrev pub IsWritten : Status → ℕ → ℕ → Type 0
+IsWritten status.Done writes writes' = Unit {0}
+IsWritten status.WriteFault writes writes' = HasRisen writes writes'
+IsWritten status.NoMemory writes writes' = Unit {0}
+IsWritten other writes writes' = ⊥

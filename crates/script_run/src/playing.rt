@@ -1,0 +1,103 @@
+//! `play`: a script in, the text of its run out.
+ghost use Rattle.std.specs.Prelude.{◌≡◌, ◌≤◌, ◌⊎◌, List, [], ◌∷◌, IfSome, Ok, length};
+ghost use Rattle.run_model.specs.declared.script_line.Line.{Line};
+ghost use Rattle.run_model.specs.declared.status.Status.TheVariants.{Done, NoMemory as OutOfMemory};
+ghost use Rattle.tact_io.specs.Faults.{HasRisen};
+ghost use Rattle.script_run.specs.Playing.{HasCause, IsWritten, Writes};
+
+ghost use Rattle.script_run.specs.Scripts.{IsScript, script_of};
+ghost use Rattle.script_run.specs.Worlds.{Stands};
+
+use crate::script::{Script, ScriptFault, parse_script};
+use crate::world::World;
+use run_model::{InputKind, Line, Status, end_of, head_of};
+use std::alloc::Global;
+use tact_base::{Bytes, NoMemory};
+use tact_io::{OutFault, ReadEnd, Sink, Source, read_all, write_all};
+
+/// The greatest length of an input, in bytes.
+pub const INPUT_MAX: u64 = 67_108_864;
+
+/// Reads a script to its end, runs it, and writes the text of the run: the lines that a record begins
+/// with, for each line of the script what it prints, and the line with the count of entries.
+///
+/// - `BadInput`: what was read is no script; its first line at fault, counted from 1, and the fault.
+/// - `TooLong`: the source gave more than 67,108,864 bytes.
+/// - `ReadFault`: the source failed in this call.
+/// - `WriteFault`: the sink failed in this call. A front of the text was written.
+/// - `NoMemory`: an allocation was refused. A front of the text was written.
+///
+/// After each answer but Done, WriteFault and NoMemory nothing was written.
+pub fn play<S: Source, K: Sink>(alloc: Global, source: &mut S, sink: &mut K) -> Status
+    ensures cause { HasCause result (S.left source.old) (S.left source.new) (S.faults source.old) (S.faults source.new) (K.faults sink.old) (K.faults sink.new) }
+    ensures written { Writes result (K.written sink.old) (K.written sink.new) }
+    ensures reads_never_fall { S.faults source.old ≤ S.faults source.new }
+    ensures writes_never_fall { K.faults sink.old ≤ K.faults sink.new }
+
+    // Without a fault a script that isn't too long is done, unless memory runs out.
+    ensures complete { ¬ HasRisen (S.faults source.old) (S.faults source.new) → ¬ HasRisen (K.faults sink.old) (K.faults sink.new)
+        → IfSome (S.left source.old) (λ input. length input ≤ INPUT_MAX → (lines : List Line) → script_of input ≡ Ok lines
+            → (result ≡ Done) ⊎ (result ≡ OutOfMemory)) }
+{
+    let input = match read_all(alloc, source, INPUT_MAX) {
+        Ok(input) => input,
+        Err(ReadEnd::TooLong) => return Status::TooLong,
+        Err(ReadEnd::Fault) => return Status::ReadFault,
+        Err(ReadEnd::NoMemory) => return Status::NoMemory,
+    };
+    let script = match parse_script(alloc, input.items()) {
+        Ok(script) => script,
+        Err(ScriptFault::NoMemory) => return Status::NoMemory,
+        Err(ScriptFault::Bad { place, kind }) => {
+            return Status::BadInput { place, kind: InputKind::Line(kind) };
+        }
+    };
+    match text_of(alloc, &script) {
+        Ok(text) => written(sink, text.items()),
+        Err(NoMemory) => Status::NoMemory,
+    }
+}
+
+// The status after the text was written, or a front of it.
+fn written<K: Sink>(sink: &mut K, text: &[u8]) -> Status
+    ensures outcome { IsWritten result (K.faults sink.old) (K.faults sink.new) }
+    ensures written { Writes result (K.written sink.old) (K.written sink.new) }
+    ensures never_falls { K.faults sink.old ≤ K.faults sink.new }
+    ensures complete { ¬ HasRisen (K.faults sink.old) (K.faults sink.new) → (result ≡ Done) ⊎ (result ≡ OutOfMemory) }
+{
+    match write_all(sink, text) {
+        Ok(()) => Status::Done,
+        Err(OutFault::Failed) => Status::WriteFault,
+        Err(OutFault::NoMemory) => Status::NoMemory,
+    }
+}
+
+// The text of the script's run.
+fn text_of(alloc: Global, script: &Script) -> Result<Bytes, NoMemory>
+    requires { IsScript script.now }
+{
+    let mut text = Bytes::new(alloc);
+    head_of(script.config(), &mut text)?;
+    let mut world = World::new(alloc, script.config())?;
+    if let [first, later @ ..] = script.lines() {
+        run_lines(&mut world, first, later, &mut text)?;
+    }
+    end_of(world.count(), &mut text)?;
+    Ok(text)
+}
+
+// Does what the lines of a script after its first one say.
+fn run_lines(
+    world: &mut World,
+    first: &Line,
+    later: &[Line],
+    text: &mut Bytes,
+) -> Result<(), NoMemory>
+    requires script { IsScript (first.now ∷ later.now) }
+    requires world { Stands world.old (first.now ∷ []) }
+{
+    for line in later {
+        world.step(line, text)?;
+    }
+    Ok(())
+}
