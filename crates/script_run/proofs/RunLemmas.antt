@@ -44,7 +44,7 @@ stands_first w first later script world setup sent =
       world_is = world;
       setup = here;
       sent = sent ∙ ap (λ (s : Setup). replicate s.replicas 0) here ∙ sym (counts_none (setup_of (first ∷ [])).replicas)
-        ∙ ap (map length) (sym (sent_by_first first (script_first first later script)));
+          ∙ ap (map length) (sym (sent_by_first first (script_first first later script)));
     }
 
 -- a number under which something stands is below the length
@@ -78,7 +78,7 @@ stands_more w v before l script fits stands world config sent = record {
   world_is = world;
   setup = config ∙ stands.setup ∙ sym (setup_of_more before l script);
   sent = sent ∙ ap (λ (ns : List ℕ). counts_after ns l) stands.sent ∙ counts_sent_after (setup_of before).replicas (sent_by before) l (length-sent_by before) fits.0
-    ∙ ap (map length) (sym (sent_by_more before l script));
+      ∙ ap (map length) (sym (sent_by_more before l script));
 }
 
 -- the next line of those that are left, and what is left after it

@@ -39,7 +39,7 @@ sent_more n sent from message are is_for within f number d lt some =
     elim (cases_eq f from) as (λ _. IsFor n (get_or (get_or (set sent from (get_or sent from [] ++ message ∷ [])) f []) number d)) [
       | inl is ↦
           let here : get_or (set sent from (get_or sent from [] ++ message ∷ [])) f [] ≡ get_or sent from [] ++ message ∷ [] =
-              ap (λ (k : ℕ). get_or (set sent from (get_or sent from [] ++ message ∷ [])) k []) is ∙ get_or-set_same sent from _ [] within in
+          ap (λ (k : ℕ). get_or (set sent from (get_or sent from [] ++ message ∷ [])) k []) is ∙ get_or-set_same sent from _ [] within in
           rw here (elim (cases_eq number (length (get_or sent from []))) [
             | inl at ↦ rw (get_or_push (get_or sent from []) message d number (sym at)) is_for
             | inr before ↦

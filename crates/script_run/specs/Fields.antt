@@ -104,9 +104,9 @@ unfoldable pub op_at : Tokens → Field Op
 op_at tokens = do
   word ← token_at tokens
   if pointwise nat_eq word.0 (codes "put") then put_at word.1
-    else if pointwise nat_eq word.0 (codes "add") then add_at word.1
-    else if pointwise nat_eq word.0 (codes "shift") then shift_at word.1
-    else Err UnknownWord
+      else if pointwise nat_eq word.0 (codes "add") then add_at word.1
+      else if pointwise nat_eq word.0 (codes "shift") then shift_at word.1
+      else Err UnknownWord
 
 -- no token follows; one that does is of this kind
 unfoldable pub end_at : LineKind → Tokens → Result (Unit {0}) LineKind

@@ -61,7 +61,7 @@ start_at tokens = do
   loan ← number_at AMOUNT_MAX alpha.1
   end ← end_at Extra loan.1
   if is_over replicas.0 conits.0 alpha.0 loan.0 then Err LoansOver
-    else Ok (line.Start replicas.0 conits.0 alpha.0 loan.0)
+      else Ok (line.Start replicas.0 conits.0 alpha.0 loan.0)
 
 -- `write R K OP`
 unfoldable pub write_at : ℕ → Tokens → Result Line LineKind

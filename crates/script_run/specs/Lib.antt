@@ -6,3 +6,4 @@ pub mod Scripts
 pub mod Seats
 pub mod Worlds
 pub mod Playing
+pub mod Commands

@@ -1,5 +1,5 @@
 -- When each answer of `play` comes, and what it leaves.
-use Rattle.std.specs.Prelude.{◌≡◌, ℕ, ◌<◌, ◌≤◌, List, [], Option, Some, None, IfSome, length, Result, Ok, Err}
+use Rattle.std.specs.Prelude.{◌≡◌, ◌⊎◌, ℕ, ◌<◌, ◌≤◌, List, Option, IfSome, length, Result, Ok, Err}
 use Rattle.run_model.specs.declared.script_line.Line.{Line}
 use Rattle.run_model.specs.declared.status.LineKind.{LineKind}
 use Rattle.run_model.specs.declared.status.InputKind.TheVariants as input
@@ -29,6 +29,13 @@ Writes status.Done before after = (text : List ℕ) × Gains before after text
 Writes status.WriteFault before after = (text : List ℕ) × GainsPart before after text
 Writes status.NoMemory before after = (text : List ℕ) × Gains before after text
 Writes other before after = after ≡ before
+
+-- without a fault a script that isn't too long is done, unless memory runs out
+abbrev pub Completes : Status → Option (List ℕ) → ℕ → ℕ → ℕ → ℕ → Type 0
+Completes answer left reads reads' writes writes' =
+    ¬ HasRisen reads reads' → ¬ HasRisen writes writes'
+    → IfSome left (λ input. length input ≤ INPUT_MAX → (lines : List Line) → script_of input ≡ Ok lines
+    → (answer ≡ status.Done) ⊎ (answer ≡ status.NoMemory))
 
 -- the status after a text was written, and its cause
 abbrev pub IsWritten : Status → ℕ → ℕ → Type 0

@@ -12,7 +12,9 @@ use crate::fault::LineFault;
 use crate::fields::{client_at, count_at, end_at, number_at, op_at, other_replica_at, replica_at};
 use run_model::{Config, ConfigFault, Line, LineKind};
 use std::alloc::Global;
-use tact_base::{ALPHA_MAX, AMOUNT_MAX, CONITS_MAX, NoMemory, Numbers, REPLICAS_MAX, REPLICAS_MIN, Weights};
+use tact_base::{
+    ALPHA_MAX, AMOUNT_MAX, CONITS_MAX, NoMemory, Numbers, REPLICAS_MAX, REPLICAS_MIN, Weights,
+};
 
 // A list of so many equal numbers.
 pub(crate) fn copies(alloc: Global, count: u32, number: u64) -> Result<Numbers, NoMemory>
@@ -105,7 +107,15 @@ pub(crate) fn start_at(alloc: Global, rest: &[u8]) -> Result<(Line, Config), Lin
     let (loan, rest) = number_at(rest, AMOUNT_MAX)?;
     end_at(rest, LineKind::Extra)?;
     let config = opening(alloc, replicas, conits, alpha, loan)?;
-    Ok((Line::Start { replicas, conits, alpha, loan }, config))
+    Ok((
+        Line::Start {
+            replicas,
+            conits,
+            alpha,
+            loan,
+        },
+        config,
+    ))
 }
 
 // The weights of a write that has none.
@@ -129,7 +139,12 @@ pub(crate) fn write_at(rest: &[u8], replicas: u32) -> Result<Line, LineFault>
     let (op, rest) = op_at(rest)?;
     end_at(rest, LineKind::NotBuilt)?;
     let weights = no_weights();
-    Ok(Line::Write { replica, client, op, weights })
+    Ok(Line::Write {
+        replica,
+        client,
+        op,
+        weights,
+    })
 }
 
 #[tactic(auto, unfolding(crate::specs::Forms::send_at))]
@@ -155,7 +170,11 @@ pub(crate) fn take_at(rest: &[u8], replicas: u32) -> Result<Line, LineFault>
     let (from, rest) = other_replica_at(rest, replicas, replica)?;
     let (number, rest) = number_at(rest, u64::MAX)?;
     end_at(rest, LineKind::Extra)?;
-    Ok(Line::Take { replica, from, number })
+    Ok(Line::Take {
+        replica,
+        from,
+        number,
+    })
 }
 
 #[tactic(auto, unfolding(crate::specs::Forms::show_at))]

@@ -20,3 +20,6 @@ mod world;
 pub use playing::{INPUT_MAX, play};
 pub use run_model::Line;
 pub use top::tact;
+
+#[cfg(test)]
+mod tests;

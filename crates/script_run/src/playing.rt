@@ -1,11 +1,9 @@
 //! `play`: a script in, the text of its run out.
-ghost use Rattle.std.specs.Prelude.{◌≡◌, ◌≤◌, ◌⊎◌, List, [], ◌∷◌, IfSome, Ok, length};
-ghost use Rattle.run_model.specs.declared.script_line.Line.{Line};
+ghost use Rattle.std.specs.Prelude.{◌≡◌, ◌≤◌, ◌⊎◌, [], ◌∷◌};
 ghost use Rattle.run_model.specs.declared.status.Status.TheVariants.{Done, NoMemory as OutOfMemory};
 ghost use Rattle.tact_io.specs.Faults.{HasRisen};
-ghost use Rattle.script_run.specs.Playing.{HasCause, IsWritten, Writes};
-
-ghost use Rattle.script_run.specs.Scripts.{IsScript, script_of};
+ghost use Rattle.script_run.specs.Playing.{Completes, HasCause, IsWritten, Writes};
+ghost use Rattle.script_run.specs.Scripts.{IsScript};
 ghost use Rattle.script_run.specs.Worlds.{Stands};
 
 use crate::script::{Script, ScriptFault, parse_script};
@@ -34,10 +32,7 @@ pub fn play<S: Source, K: Sink>(alloc: Global, source: &mut S, sink: &mut K) -> 
     ensures reads_never_fall { S.faults source.old ≤ S.faults source.new }
     ensures writes_never_fall { K.faults sink.old ≤ K.faults sink.new }
 
-    // Without a fault a script that isn't too long is done, unless memory runs out.
-    ensures complete { ¬ HasRisen (S.faults source.old) (S.faults source.new) → ¬ HasRisen (K.faults sink.old) (K.faults sink.new)
-        → IfSome (S.left source.old) (λ input. length input ≤ INPUT_MAX → (lines : List Line) → script_of input ≡ Ok lines
-            → (result ≡ Done) ⊎ (result ≡ OutOfMemory)) }
+    ensures complete { Completes result (S.left source.old) (S.faults source.old) (S.faults source.new) (K.faults sink.old) (K.faults sink.new) }
 {
     let input = match read_all(alloc, source, INPUT_MAX) {
         Ok(input) => input,
@@ -49,7 +44,10 @@ pub fn play<S: Source, K: Sink>(alloc: Global, source: &mut S, sink: &mut K) -> 
         Ok(script) => script,
         Err(ScriptFault::NoMemory) => return Status::NoMemory,
         Err(ScriptFault::Bad { place, kind }) => {
-            return Status::BadInput { place, kind: InputKind::Line(kind) };
+            return Status::BadInput {
+                place,
+                kind: InputKind::Line(kind),
+            };
         }
     };
     match text_of(alloc, &script) {

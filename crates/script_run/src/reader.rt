@@ -116,7 +116,10 @@ fn at_line(number: u64, fault: LineFault) -> ScriptFault
 {
     match fault {
         LineFault::NoMemory => ScriptFault::NoMemory,
-        LineFault::Kind(kind) => ScriptFault::Bad { place: number, kind },
+        LineFault::Kind(kind) => ScriptFault::Bad {
+            place: number,
+            kind,
+        },
     }
 }
 
@@ -128,7 +131,11 @@ fn check_whole(sent: &Sent, line: &Line, replicas: u32) -> Result<(), LineFault>
     ensures whole { Gives (λ _. line.now) result (of_whole sent.now.receivers.items line.now) }
 {
     match line {
-        Line::Take { replica, from, number } => {
+        Line::Take {
+            replica,
+            from,
+            number,
+        } => {
             if sent.is_sent(*from, *number, *replica) {
                 Ok(())
             } else {
@@ -146,7 +153,11 @@ fn note_sent(sent: &mut Sent, line: &Line, replicas: u32) -> Result<(), NoMemory
     ensures { OnOk result (sent.new.receivers.items ≡ sent_after sent.old.receivers.items line.now) }
 {
     match line {
-        Line::Send { from, to, firsts: _ } => sent.add(*from, *to),
+        Line::Send {
+            from,
+            to,
+            firsts: _,
+        } => sent.add(*from, *to),
         _ => Ok(()),
     }
 }
@@ -234,7 +245,11 @@ fn begun(alloc: Global, line: Line, config: Config) -> Result<Reader, NoMemory>
     let sent = Sent::new(alloc, config.replicas())?;
     let mut lines = Items::new(alloc);
     lines.push(line)?;
-    Ok(Reader { config, lines, sent })
+    Ok(Reader {
+        config,
+        lines,
+        sent,
+    })
 }
 
 /// The reader that the text begins, the number of the line after it, and what is left of the text.

@@ -70,6 +70,10 @@ pub fn parse_script(alloc: Global, bytes: &[u8]) -> Result<Script, ScriptFault>
 {
     let (mut reader, number, rest) = begin(alloc, bytes)?;
     go_on(&mut reader, alloc, number, rest)?;
-    let Reader { config, lines, sent: _ } = reader;
+    let Reader {
+        config,
+        lines,
+        sent: _,
+    } = reader;
     Ok(Script { config, lines })
 }

@@ -110,7 +110,11 @@ impl Seat {
         requires { origin < self.now.replicas }
     {
         if origin == self.replica {
-            Cover { count: self.have(origin), stamp: self.clock, moment }
+            Cover {
+                count: self.have(origin),
+                stamp: self.clock,
+                moment,
+            }
         } else {
             self.covers[origin as usize]
         }
@@ -161,7 +165,9 @@ impl Seat {
     {
         let kept = self.covers[origin as usize];
         let is_within = told.count <= self.have(origin);
-        let is_later = kept.count <= told.count && kept.stamp <= told.stamp && kept.moment <= told.moment;
+        let is_later = kept.count <= told.count
+            && kept.stamp <= told.stamp
+            && kept.moment <= told.moment;
         if is_within && is_later {
             self.covers[origin as usize] = told;
         }
@@ -203,7 +209,14 @@ impl Seat {
         let stamp = self.clock.saturating_add(1);
         let number = self.calls[client as usize];
         let asked = weights.clone()?;
-        let write = Write { origin: self.replica, index, stamp, moment, weights, op };
+        let write = Write {
+            origin: self.replica,
+            index,
+            stamp,
+            moment,
+            weights,
+            op,
+        };
         self.logs[own].push(write)?;
         self.clock = stamp;
         self.calls[client as usize] = number.saturating_add(1);

@@ -32,9 +32,17 @@ fn place_of(write: &Write) -> Place {
 impl Counted {
     // The count with one more write, where writes are committed up to the point.
     fn with(self, write: &Write, point: u64) -> Counted {
-        let Counted { committed, last, tentative } = self;
+        let Counted {
+            committed,
+            last,
+            tentative,
+        } = self;
         if write.stamp > point {
-            return Counted { committed, last, tentative: tentative.saturating_add(1) };
+            return Counted {
+                committed,
+                last,
+                tentative: tentative.saturating_add(1),
+            };
         }
         let place = place_of(write);
         let is_later = last.is_none_or(|before| before < place);
@@ -47,7 +55,11 @@ impl Counted {
 }
 
 fn count_writes(seat: &Seat, point: u64) -> Counted {
-    let mut counted = Counted { committed: 0, last: None, tentative: 0 };
+    let mut counted = Counted {
+        committed: 0,
+        last: None,
+        tentative: 0,
+    };
     for origin in 0..seat.replicas() {
         for write in seat.log(origin) {
             counted = counted.with(write, point);

@@ -58,7 +58,12 @@ impl World {
         ensures sent { OnOk result (sent_counts self.new ≡ counts_after (sent_counts self.old) line.now) }
     {
         match line {
-            Line::Write { replica, client, op, weights } => {
+            Line::Write {
+                replica,
+                client,
+                op,
+                weights,
+            } => {
                 let act = self.write(*replica, *client, *op, weights)?;
                 self.enter(*replica, act, out)
             }
@@ -66,7 +71,11 @@ impl World {
                 let act = self.send(*from, *to, firsts.items())?;
                 self.enter(*from, act, out)
             }
-            Line::Take { replica, from, number } => {
+            Line::Take {
+                replica,
+                from,
+                number,
+            } => {
                 let act = self.take(*replica, *from, *number)?;
                 self.enter(*replica, act, out)
             }
@@ -82,7 +91,11 @@ impl World {
         ensures config { self.new.config ≡ self.old.config }
         ensures sent { sent_counts self.new ≡ sent_counts self.old }
     {
-        let entry = Entry { replica, moment: 0, act };
+        let entry = Entry {
+            replica,
+            moment: 0,
+            act,
+        };
         line_of(&entry, out)?;
         self.count = self.count.saturating_add(1);
         Ok(())

@@ -20,7 +20,8 @@ loop-line-preserved c =
     let l = c.line-item.result in
     let before = first ∷ take k later in
     let next = next_fits first later k l c.loop-line-test.true c.line-item.is c.loop-line.invariant.0 in
-    let more = front_more first later k l c.loop-line-test.true c.line-item.is in
-    (next.1,
-     subst IsScript (sym more) (script_more before l c.loop-line.invariant.1 next.0),
-     subst (Stands c.step.new.self) (sym more) (stands_more c.loop-line.world c.step.new.self before l c.loop-line.invariant.1 next.0 c.loop-line.invariant.2 c.in_ok-step.ensures.world c.in_ok-step.ensures.config c.in_ok-step.ensures.sent))
+    let more = front_more first later k l c.loop-line-test.true c.line-item.is in (
+      next.1,
+      subst IsScript (sym more) (script_more before l c.loop-line.invariant.1 next.0),
+      subst (Stands c.step.new.self) (sym more) (stands_more c.loop-line.world c.step.new.self before l c.loop-line.invariant.1 next.0 c.loop-line.invariant.2 c.in_ok-step.ensures.world c.in_ok-step.ensures.config c.in_ok-step.ensures.sent),
+    )

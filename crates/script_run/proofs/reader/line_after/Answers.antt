@@ -9,7 +9,6 @@ use Rattle.script_run.specs.Scripts.{FitsAfter, IsAddressed}
 use Rattle.script_run.proofs.ScriptLemmas.{length-sent_by, line_after_is}
 use Rattle.script_run.proofs.reader.line_after.Goals as goal
 
-
 pub later_line-requires-clause-all : goal.later_line-requires-clause-all
 later_line-requires-clause-all c =
     ap length c.requires.sent ∙ length-sent_by c.args.reader.now.lines ∙ sym (c.replicas-replicas.ensures.count ∙ ap (λ (s : Setup). s.replicas) c.requires.setup)

@@ -14,7 +14,7 @@ take-requires c =
     let within : c.args.from < length c.args.self.now.sent.items = omega (arith, world.lists, c.requires.from) in
     let same : c.in_ok-message.message ≡ c.index-sent-number.result = c.in_ok-message.ensures.cases in
     let read : c.index-sent-number.result ≡ get_or c.index.result.now c.args.number c.index-sent-number.result =
-        c.index-sent-number.is ∙ ap (λ (xs : List Message). get_or xs c.args.number c.index-sent-number.result) c.items-sent.ensures in
+    c.index-sent-number.is ∙ ap (λ (xs : List Message). get_or xs c.args.number c.index-sent-number.result) c.items-sent.ensures in
     let is_for : IsFor n c.index-sent-number.result =
-        sent_is_for n c.args.self.now.sent.items c.args.from c.args.number c.index.result.now c.index-sent-number.result world.sent within c.index.ensures c.requires.number read in
+    sent_is_for n c.args.self.now.sent.items c.args.from c.args.number c.index.result.now c.index-sent-number.result world.sent within c.index.ensures c.requires.number read in
     subst (λ k. IsFor k c.in_ok-message.message) (sym size) (subst (IsFor n) (sym same) is_for)
