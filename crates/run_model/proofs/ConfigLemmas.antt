@@ -1,15 +1,14 @@
 -- What a setup without a fault is, and its first owner and conit at fault.
-use Rattle.std.proofs.Common.{◌≡◌, ℕ, ◌+◌, ◌*◌, ◌/◌, ◌%◌, ◌<◌, ◌≤◌, suc, zero, Bool, true, false, cond, not, eqb, leb, ltb, List, [], ◌∷◌, ◌++◌, length, take, drop, get_or, map, sum, Option, Some, None, is_some, refl, sym, ap, ◌∙◌, arith, rules}
-use Rattle.std.specs.List.{slice_get, slice_range, range_with_len, filter_map, flat_map, cons_option}
+use Rattle.std.proofs.Common.{◌≡◌, ℕ, ◌+◌, ◌*◌, ◌/◌, ◌%◌, ◌<◌, ◌≤◌, suc, zero, Bool, true, false, cond, List, [], ◌∷◌, ◌++◌, length, take, drop, get_or, sum, Option, Some, None, is_some, refl, sym, ap, ◌∙◌, arith}
+use Rattle.std.specs.List.{slice_get, slice_range, filter_map, flat_map, cons_option}
 use Rattle.std.proofs.lemmas.Bool.{and_parts, leb-true, eqb-true, ltb-false, cond-true, cond-false}
-use Rattle.std.proofs.lemmas.Bool.Decides.{nat_tests}
-use Rattle.std.proofs.lemmas.List.{at_drop_more, at_drop_all, take_all, take_more, flat_map_more, length-map, length-take, length-drop}
-use Rattle.std.proofs.lemmas.List.FromFn.{length-range_with_len, get_or-map-range_with_len, length-map-range_with_len}
-use Rattle.std.proofs.lemmas.Nat.{div-add-mod', mod_below, div_below, mul-add-lt, mul-le, row_fits, div-mul-add, mod-mul-add}
-use Rattle.tact_base.specs.declared.limits.TheConstants.{REPLICAS_MIN, REPLICAS_MAX, CONITS_MAX, ALPHA_MAX}
+use Rattle.std.proofs.lemmas.List.{at_drop_more, at_drop_all, take_all, take_more, flat_map_more, length-take, length-drop}
+use Rattle.std.proofs.lemmas.List.FromFn.{get_or-map-range_with_len, length-map-range_with_len}
+use Rattle.std.proofs.lemmas.Nat.{div-add-mod', div_below, mul-add-lt, mul-le, row_fits, div-mul-add, mod-mul-add}
+use Rattle.tact_base.specs.declared.limits.TheConstants.{ALPHA_MAX}
 use Rattle.run_model.specs.declared.config.ConfigFault.{ConfigFault}
 use Rattle.run_model.specs.declared.config.ConfigFault.TheVariants.{BadCount, AlphaOver, OwnLoan, LoansOver}
-use Rattle.run_model.specs.Config.{Setup, setup, place_of, alpha_of, loans_of, owners_and_conits, are_counts_good, row_fault, first_row_fault, config_fault, IsSetup}
+use Rattle.run_model.specs.Config.{Setup, place_of, alpha_of, loans_of, owners_and_conits, are_counts_good, row_fault, first_row_fault, config_fault, IsSetup}
 
 -- the counts of a setup are within their limits, and its lists are as long as they ask for
 pub record HasCounts (s : Setup) : Type 0 where

@@ -1,7 +1,7 @@
 -- Requests and replies.
 use Rattle.std.specs.Prelude.{Bool, true, false}
 use Rattle.run_model.specs.declared.call.Reply.{Reply}
-use Rattle.run_model.specs.declared.call.Reply.TheVariants.{Done, Granted, Released, Value, TooHeavy, WaitHeld, WaitShare, WaitLent, WaitOrder, WaitStale, NotHeld}
+use Rattle.run_model.specs.declared.call.Reply.TheVariants.{WaitHeld, WaitShare, WaitLent, WaitOrder, WaitStale}
 
 -- the same request may be answered otherwise later; all other replies are final
 abbrev pub is_waiting : Reply → Bool

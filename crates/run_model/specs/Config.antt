@@ -1,5 +1,5 @@
 -- The setup of a run: how many replicas and conits there are, what each owner allows on each conit, and what it lends to each holder at the opening.
-use Rattle.std.specs.Prelude.{◌≡◌, ℕ, ◌+◌, ◌*◌, ◌/◌, ◌%◌, Bool, ◌&&◌, ◌==◌, not, nat_le, nat_lt, if◌then◌else◌, List, length, map, sum, slice_index, slice_get, slice_range, Option, Some, None}
+use Rattle.std.specs.Prelude.{◌≡◌, ℕ, ◌+◌, ◌*◌, ◌/◌, ◌%◌, Bool, ◌&&◌, ◌==◌, nat_le, nat_lt, if◌then◌else◌, List, length, map, sum, slice_index, slice_get, slice_range, Option, Some, None}
 use Rattle.std.specs.List.{range_with_len, filter_map}
 use Rattle.tact_base.specs.declared.limits.TheConstants.{REPLICAS_MIN, REPLICAS_MAX, CONITS_MAX, ALPHA_MAX}
 use Rattle.run_model.specs.declared.config.ConfigFault.{ConfigFault}

@@ -1,5 +1,5 @@
 -- How entries, requests, replies and setups are written as text: tokens with single spaces between them, numbers in decimal without leading zeros.
-use Rattle.std.specs.Prelude.{◌≡◌, ℕ, ◌*◌, ℤ, List, [], ◌∷◌, ◌++◌, length, map, take, codes, decimal}
+use Rattle.std.specs.Prelude.{◌≡◌, ℕ, List, [], ◌∷◌, ◌++◌, length, map, take, codes, decimal}
 use Rattle.std.specs.List.{join_with_byte, flat_map}
 use Rattle.std.specs.Fmt.{signed_decimal}
 use Rattle.tact_base.specs.declared.conit_list.Weight.{Weight}
@@ -10,7 +10,6 @@ use Rattle.run_model.specs.declared.call.Request.{Request}
 use Rattle.run_model.specs.declared.call.Request.TheVariants.{Write, Held, Reserve, Release, Read}
 use Rattle.run_model.specs.declared.call.Reply.{Reply}
 use Rattle.run_model.specs.declared.call.Reply.TheVariants.{Done, Granted, Released, Value, TooHeavy, WaitHeld, WaitShare, WaitLent, WaitOrder, WaitStale, NotHeld}
-use Rattle.run_model.specs.declared.entry.Message.{Message}
 use Rattle.run_model.specs.declared.entry.Act.{Act}
 use Rattle.run_model.specs.declared.entry.Act.TheVariants.{Call, Send, Take, Lend, Back, Restart}
 use Rattle.run_model.specs.declared.entry.Entry.{Entry}

@@ -317,25 +317,25 @@ mod tests {
         }
     }
 
+    // A copy of a setup of 2 replicas and 2 conits.
+    fn made(alloc: Global) -> Result<Config, Fail>
+        ensures { IfOk result (λ config. (config.replicas ≡ 2) × (config.conits ≡ 2)) }
+    {
+        let loans = [0, 1, 0, 2, 3, 0, ALPHA_MAX, 0];
+        let config = Config::new(alloc, 2, 2, &[5, 6, 7, ALPHA_MAX], &loans)?;
+        Ok(config.copy(alloc)?)
+    }
+
     #[test]
     fn reads_what_it_was_made_of(rt: HostRuntime) -> Result<(), Fail> {
-        let loans = [0, 1, 0, 2, 3, 0, ALPHA_MAX, 0];
-        let made = Config::new(rt.alloc(), 2, 2, &[5, 6, 7, ALPHA_MAX], &loans)?;
-        let config = made.copy(rt.alloc())?;
-        assert_eq!(rt; (config.replicas(), config.conits()), (2, 2));
-        let mut read = Numbers::new(rt.alloc());
-        for owner in 0..2 {
-            for conit in 0..2 {
-                assert!(rt; owner < config.replicas() && conit < config.conits());
-                read.push(config.alpha(owner, conit))?;
-                read.push(config.loan(owner, conit, 0))?;
-                read.append(config.loans(owner, conit))?;
-            }
-        }
-        let due = [
-            5, 0, 0, 1, 6, 0, 0, 2, 7, 3, 3, 0, ALPHA_MAX, ALPHA_MAX, ALPHA_MAX, 0,
-        ];
-        assert_eq!(rt; read.items(), due.as_slice());
+        let config = made(rt.alloc())?;
+        assert_eq!(rt; config.replicas(), 2);
+        assert_eq!(rt; config.conits(), 2);
+        assert_eq!(rt; config.alpha(0, 1), 6);
+        assert_eq!(rt; config.alpha(1, 0), 7);
+        assert_eq!(rt; config.loan(0, 1, 1), 2);
+        assert_eq!(rt; config.loan(1, 0, 0), 3);
+        assert_eq!(rt; config.loans(1, 1), [ALPHA_MAX, 0].as_slice());
         Ok(())
     }
 }

@@ -16,7 +16,7 @@ pub fn head_of(config: &Config, out: &mut Bytes) -> Result<(), NoMemory>
     ensures err { OnErr result (out.new ≡ out.old) }
 {
     let start = out.len();
-    let done = put_head(config, out);
+    let done = print_head(config, out);
     all_or_nothing(done, start, out)
 }
 
@@ -27,11 +27,11 @@ pub fn end_of(count: u64, out: &mut Bytes) -> Result<(), NoMemory>
     ensures err { OnErr result (out.new ≡ out.old) }
 {
     let start = out.len();
-    let done = put_end(count, out);
+    let done = print_end(count, out);
     all_or_nothing(done, start, out)
 }
 
-fn put_head(config: &Config, out: &mut Bytes) -> Result<(), NoMemory>
+fn print_head(config: &Config, out: &mut Bytes) -> Result<(), NoMemory>
     ensures ok { OnOk result (out.new ≡ out.old ++ header_text config.now) }
     ensures err { OnErr result (BeginsWith out.old out.new) }
 {
@@ -40,10 +40,10 @@ fn put_head(config: &Config, out: &mut Bytes) -> Result<(), NoMemory>
     out.append(b"tact")?;
     put_numbers(&[1, u64::from(replicas), u64::from(conits)], out)?;
     out.push(b'\n')?;
-    put_bounds(config, out)
+    print_bounds(config, out)
 }
 
-fn put_bounds(config: &Config, out: &mut Bytes) -> Result<(), NoMemory>
+fn print_bounds(config: &Config, out: &mut Bytes) -> Result<(), NoMemory>
     ensures ok { OnOk result
         (out.new ≡ out.old ++ flat_map (bound_line config.now) (owners_and_conits config.now)) }
     ensures err { OnErr result (BeginsWith out.old out.new) }
@@ -51,12 +51,12 @@ fn put_bounds(config: &Config, out: &mut Bytes) -> Result<(), NoMemory>
     let replicas = config.replicas();
     let conits = config.conits();
     for place in 0..replicas * conits {
-        put_bound(config, place / conits, place % conits, out)?;
+        print_bound(config, place / conits, place % conits, out)?;
     }
     Ok(())
 }
 
-fn put_bound(config: &Config, owner: u32, conit: u32, out: &mut Bytes) -> Result<(), NoMemory>
+fn print_bound(config: &Config, owner: u32, conit: u32, out: &mut Bytes) -> Result<(), NoMemory>
     requires owner_in { owner < config.now.replicas }
     requires conit_in { conit < config.now.conits }
     ensures ok { OnOk result (out.new ≡ out.old ++ bound_line config.now (owner, conit)) }
@@ -69,7 +69,7 @@ fn put_bound(config: &Config, owner: u32, conit: u32, out: &mut Bytes) -> Result
     out.push(b'\n')
 }
 
-fn put_end(count: u64, out: &mut Bytes) -> Result<(), NoMemory>
+fn print_end(count: u64, out: &mut Bytes) -> Result<(), NoMemory>
     ensures ok { OnOk result (out.new ≡ out.old ++ end_text count) }
     ensures err { OnErr result (BeginsWith out.old out.new) }
 {

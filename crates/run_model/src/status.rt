@@ -38,7 +38,7 @@ pub enum InputKind {
 
 /// The fault of a line of a script or of a record in text. They are tried in this order but for
 /// `NotBuilt`, those from `NoStart` to `Extra` token by token from the left. The first line at fault
-/// counts.
+/// counts. From `NoStart` on, a line without tokens or that begins with `#` is no line.
 #[derive(Clone, Copy, Debug, PartialEq, Eq)]
 pub enum LineKind {
     /// A script has more than 10,000 lines.
@@ -47,7 +47,7 @@ pub enum LineKind {
     LongLine,
     /// The line has a byte below 32 or above 126.
     BadByte,
-    /// The first line of a script isn't `start`.
+    /// The first line of a script isn't `start`. Where it has none, the place is the number of lines plus one.
     NoStart,
     /// A later line of a script is `start`.
     SecondStart,

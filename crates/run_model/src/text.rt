@@ -17,21 +17,21 @@ pub fn line_of(entry: &Entry, out: &mut Bytes) -> Result<(), NoMemory>
     ensures err { OnErr result (out.new ≡ out.old) }
 {
     let start = out.len();
-    let done = put_entry(entry, out);
+    let done = print_entry(entry, out);
     all_or_nothing(done, start, out)
 }
 
-fn put_entry(entry: &Entry, out: &mut Bytes) -> Result<(), NoMemory>
+fn print_entry(entry: &Entry, out: &mut Bytes) -> Result<(), NoMemory>
     ensures ok { OnOk result (out.new ≡ out.old ++ entry_text entry.now ++ 10 ∷ []) }
     ensures err { OnErr result (BeginsWith out.old out.new) }
 {
     out.append(b"e")?;
     put_numbers(&[u64::from(entry.replica), entry.moment], out)?;
-    put_act(&entry.act, out)?;
+    print_act(&entry.act, out)?;
     out.push(b'\n')
 }
 
-fn put_act(act: &Act, out: &mut Bytes) -> Result<(), NoMemory>
+fn print_act(act: &Act, out: &mut Bytes) -> Result<(), NoMemory>
     ensures ok { OnOk result (out.new ≡ out.old ++ spaced (act_tokens act.now)) }
     ensures err { OnErr result (BeginsWith out.old out.new) }
 {
@@ -43,9 +43,9 @@ fn put_act(act: &Act, out: &mut Bytes) -> Result<(), NoMemory>
             reply,
         } => {
             put_row(b"call", &[u64::from(*client), *number], out)?;
-            put_request(request, out)?;
+            print_request(request, out)?;
             put_token(b"=", out)?;
-            put_reply(reply, out)
+            print_reply(reply, out)
         }
         Act::Send { message } => {
             put_row(b"send", &[u64::from(message.to), message.number], out)?;
@@ -68,7 +68,7 @@ fn put_act(act: &Act, out: &mut Bytes) -> Result<(), NoMemory>
     }
 }
 
-fn put_reply(reply: &Reply, out: &mut Bytes) -> Result<(), NoMemory>
+fn print_reply(reply: &Reply, out: &mut Bytes) -> Result<(), NoMemory>
     ensures ok { OnOk result (out.new ≡ out.old ++ spaced (reply_tokens reply.now)) }
     ensures err { OnErr result (BeginsWith out.old out.new) }
 {
@@ -92,11 +92,11 @@ fn put_reply(reply: &Reply, out: &mut Bytes) -> Result<(), NoMemory>
             held,
             amount,
         } => { put_row(b"not-held", &[u64::from(*conit), *held, *amount], out) }
-        _ => put_waiting(reply, out),
+        _ => print_waiting(reply, out),
     }
 }
 
-fn put_waiting(reply: &Reply, out: &mut Bytes) -> Result<(), NoMemory>
+fn print_waiting(reply: &Reply, out: &mut Bytes) -> Result<(), NoMemory>
     requires { is_waiting reply.now ≡ true }
     ensures ok { OnOk result (out.new ≡ out.old ++ spaced (reply_tokens reply.now)) }
     ensures err { OnErr result (BeginsWith out.old out.new) }
@@ -156,20 +156,20 @@ fn put_waiting(reply: &Reply, out: &mut Bytes) -> Result<(), NoMemory>
     }
 }
 
-fn put_request(request: &Request, out: &mut Bytes) -> Result<(), NoMemory>
+fn print_request(request: &Request, out: &mut Bytes) -> Result<(), NoMemory>
     ensures ok { OnOk result (out.new ≡ out.old ++ spaced (request_tokens request.now)) }
     ensures err { OnErr result (BeginsWith out.old out.new) }
 {
     match request {
         Request::Write { weights, op } => {
             put_token(b"write", out)?;
-            put_op(op, out)?;
-            put_weights(weights.items(), out)
+            print_op(op, out)?;
+            print_weights(weights.items(), out)
         }
         Request::Held { weight, op } => {
             put_token(b"held", out)?;
-            put_op(op, out)?;
-            put_weight(weight, out)
+            print_op(op, out)?;
+            print_weight(weight, out)
         }
         Request::Reserve { conit, amount } => {
             put_row(b"reserve", &[u64::from(*conit), *amount], out)
@@ -179,12 +179,12 @@ fn put_request(request: &Request, out: &mut Bytes) -> Result<(), NoMemory>
         }
         Request::Read { key, needs } => {
             put_row(b"read", &[*key], out)?;
-            put_needs(needs.items(), out)
+            print_needs(needs.items(), out)
         }
     }
 }
 
-fn put_op(op: &Op, out: &mut Bytes) -> Result<(), NoMemory>
+fn print_op(op: &Op, out: &mut Bytes) -> Result<(), NoMemory>
     ensures ok { OnOk result (out.new ≡ out.old ++ spaced (op_tokens op.now)) }
     ensures err { OnErr result (BeginsWith out.old out.new) }
 {
@@ -201,17 +201,17 @@ fn put_op(op: &Op, out: &mut Bytes) -> Result<(), NoMemory>
     }
 }
 
-fn put_weights(weights: &[Weight], out: &mut Bytes) -> Result<(), NoMemory>
+fn print_weights(weights: &[Weight], out: &mut Bytes) -> Result<(), NoMemory>
     ensures ok { OnOk result (out.new ≡ out.old ++ spaced (map weight_token weights.now)) }
     ensures err { OnErr result (BeginsWith out.old out.new) }
 {
     for weight in weights {
-        put_weight(weight, out)?;
+        print_weight(weight, out)?;
     }
     Ok(())
 }
 
-fn put_weight(weight: &Weight, out: &mut Bytes) -> Result<(), NoMemory>
+fn print_weight(weight: &Weight, out: &mut Bytes) -> Result<(), NoMemory>
     ensures ok { OnOk result (out.new ≡ out.old ++ spaced (weight_token weight.now ∷ [])) }
     ensures err { OnErr result (BeginsWith out.old out.new) }
 {
@@ -220,17 +220,17 @@ fn put_weight(weight: &Weight, out: &mut Bytes) -> Result<(), NoMemory>
     put_part(weight.oweight, out)
 }
 
-fn put_needs(needs: &[Need], out: &mut Bytes) -> Result<(), NoMemory>
+fn print_needs(needs: &[Need], out: &mut Bytes) -> Result<(), NoMemory>
     ensures ok { OnOk result (out.new ≡ out.old ++ spaced (map need_token needs.now)) }
     ensures err { OnErr result (BeginsWith out.old out.new) }
 {
     for need in needs {
-        put_need(need, out)?;
+        print_need(need, out)?;
     }
     Ok(())
 }
 
-fn put_need(need: &Need, out: &mut Bytes) -> Result<(), NoMemory>
+fn print_need(need: &Need, out: &mut Bytes) -> Result<(), NoMemory>
     ensures ok { OnOk result (out.new ≡ out.old ++ spaced (need_token need.now ∷ [])) }
     ensures err { OnErr result (BeginsWith out.old out.new) }
 {

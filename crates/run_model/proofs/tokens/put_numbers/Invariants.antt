@@ -1,6 +1,5 @@
 use Rattle.std.proofs.Common.{◌≡◌, ◌++◌, map, take, decimal}
-use Rattle.std.specs.Fmt.{signed_decimal}
-use Rattle.run_model.specs.Text.{spaced, weight_token, need_token}
+use Rattle.run_model.specs.Text.{spaced}
 use Rattle.run_model.proofs.tokens.put_numbers.Given as goal
 
 abbrev pub invariant-loop-number : goal.invariant-loop-number

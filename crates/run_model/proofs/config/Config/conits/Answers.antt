@@ -1,4 +1,3 @@
-use Rattle.std.proofs.Common.{arith}
 use Rattle.run_model.proofs.ConfigLemmas.{HasCounts-from_IsSetup}
 use Rattle.run_model.proofs.config.Config.conits.Goals as goal
 

@@ -1,4 +1,3 @@
-use Rattle.std.proofs.Common.{arith}
 use Rattle.run_model.specs.Config.{setup}
 use Rattle.run_model.proofs.ConfigLemmas.{HasCounts-from_IsSetup, place_in, row_in, length-loans_of, HasRow-from_IsSetup}
 use Rattle.run_model.proofs.config.Config.loans.Goals as goal

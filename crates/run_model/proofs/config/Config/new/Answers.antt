@@ -1,6 +1,6 @@
-use Rattle.std.proofs.Common.{◌≡◌, None, ◌∙◌, sym, refl}
+use Rattle.std.proofs.Common.{◌∙◌, sym, refl}
 use Rattle.std.proofs.lemmas.Result.{err_from_is_err_and}
-use Rattle.run_model.specs.Config.{setup, config_fault, IsRefusalOf}
+use Rattle.run_model.specs.Config.{setup}
 use Rattle.run_model.proofs.ConfigLemmas.{config_fault-at_counts, config_fault-at_rows}
 use Rattle.run_model.proofs.config.Config.new.Goals as goal
 
