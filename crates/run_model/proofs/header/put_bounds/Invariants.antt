@@ -1,9 +1,0 @@
-use Rattle.std.proofs.Common.{◌≡◌, ◌*◌, ◌++◌, take}
-use Rattle.std.specs.List.{flat_map}
-use Rattle.run_model.specs.Config.{owners_and_conits}
-use Rattle.run_model.specs.Text.{bound_line}
-use Rattle.run_model.proofs.header.put_bounds.Given as goal
-
-abbrev pub invariant-loop-place : goal.invariant-loop-place
-invariant-loop-place l =
-    l.out ≡ l.initial.out ++ flat_map (bound_line l.config) (take l.place (owners_and_conits l.config))

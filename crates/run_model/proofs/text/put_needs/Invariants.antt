@@ -1,7 +1,0 @@
-use Rattle.std.proofs.Common.{◌≡◌, ◌++◌, map, take, decimal}
-use Rattle.std.specs.Fmt.{signed_decimal}
-use Rattle.run_model.specs.Text.{spaced, weight_token, need_token}
-use Rattle.run_model.proofs.text.put_needs.Given as goal
-
-abbrev pub invariant-loop-need : goal.invariant-loop-need
-invariant-loop-need l = l.out ≡ l.initial.out ++ spaced (map need_token (take l.need-index l.needs))
