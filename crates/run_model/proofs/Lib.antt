@@ -1,2 +1,5 @@
 pub mod ConfigLemmas
 pub mod TextLemmas
+pub mod PrefixLemmas
+pub mod PartLemmas
+pub mod ClockLemmas

@@ -5,6 +5,7 @@
 mod conit_list;
 mod few;
 mod items;
+mod laws;
 mod limits;
 mod numbers;
 #[cfg(test)]
@@ -15,6 +16,10 @@ mod write;
 pub use conit_list::{ConitList, ListFault, Need, Needs, OnConit, Weight, Weights};
 pub use few::{Few, Row};
 pub use items::{Bytes, Items, NoMemory, Numbers};
+pub use laws::{
+    committed_is_a_front, in_order_forgets_arrival, in_order_sorts, order_is_total,
+    order_keeps_sums,
+};
 pub use limits::{
     ALPHA_MAX, AMOUNT_MAX, CLIENTS, CONITS_MAX, HISTORY_MAX, KEY_MAX, LENT_MAX, LIST_MAX,
     MESSAGE_WRITES, MOMENT_MAX, REPLICAS_MAX, REPLICAS_MIN, STAMP_MAX, VALUE_MAX, WEIGHT_MAX,
