@@ -3,3 +3,11 @@ pub mod TextLemmas
 pub mod PrefixLemmas
 pub mod PartLemmas
 pub mod ClockLemmas
+pub mod Growth
+pub mod Sound
+pub mod SoundKeeping
+pub mod SoundViews
+pub mod SoundMessages
+pub mod SoundStep
+pub mod SoundRuns
+pub mod Agreement

@@ -1,7 +1,7 @@
 -- What one more entry does to a history and to a part: to the entries of a replica, to its own writes, to the messages that it sent and took, and to what it keeps.
-use Rattle.std.proofs.Common.{◌≡◌, ℕ, zero, suc, ◌+◌, ◌<◌, ◌≤◌, ◌==◌, max, Bool, true, false, cond, List, [], ◌∷◌, ◌++◌, length, map, fold, filter, filter_map, flat_map, All, Option, None, Some, refl, sym, ap, ◌∙◌, arith}
+use Rattle.std.proofs.Common.{◌≡◌, ℕ, zero, suc, ◌+◌, ◌<◌, ◌≤◌, ◌==◌, max, Bool, true, false, cond, List, [], ◌∷◌, ◌++◌, length, map, fold, filter, filter_map, flat_map, All, Option, None, Some, refl, sym, ap, ◌∙◌, subst, ⊎_elim, arith}
 use Rattle.std.specs.List.{cons_option}
-use Rattle.std.proofs.lemmas.Bool.{eq-eqb, ne_eqb}
+use Rattle.std.proofs.lemmas.Bool.{cases_eq, eq-eqb, ne_eqb}
 use Rattle.std.proofs.lemmas.List.{append-nil, length-append, map-append, map_push}
 use Rattle.std.proofs.lemmas.List.Concat.{flat_map-append}
 use Rattle.std.proofs.lemmas.List.Elements.{filter-append, filter_map-append, All-nil, All-cons, All-head, All-tail, All-weaker, All-map}
@@ -59,6 +59,15 @@ module _ (history : List Entry) (entry : Entry) (replica : ℕ) where
       let test : (entry.replica == replica) ≡ false = ne_eqb entry.replica replica other in
       filter-append (λ (e : Entry). e.replica == replica) history (entry ∷ [])
       ∙ ap (λ yes. mine history replica ++ cond yes (entry ∷ []) []) test ∙ append-nil (mine history replica)
+
+-- what holds of the part that has the entry, and of those that don't, holds of each
+pub mine-push_cases : (history : List Entry) (entry : Entry) (Q : ℕ → List Entry → Type 0) → Q entry.replica (mine history entry.replica ++ entry ∷ []) → ((replica : ℕ) → Q replica (mine history replica)) → (replica : ℕ) → Q replica (mine (history ++ entry ∷ []) replica)
+mine-push_cases history entry Q here elsewhere replica = ⊎_elim
+    (λ (same : entry.replica ≡ replica).
+    subst (Q replica) (sym (mine-push_same history entry replica same)) (subst (λ r. Q r (mine history r ++ entry ∷ [])) same here))
+    (λ (other : entry.replica ≡ replica → ⊥).
+    subst (Q replica) (sym (mine-push_other history entry replica other)) (elsewhere replica))
+    (cases_eq entry.replica replica)
 
 -- the length of a list that has an element or none
 length-cond : {A : Type 0} (yes : Bool) (x : A) → length (cond yes (x ∷ []) []) ≡ cond yes 1 0

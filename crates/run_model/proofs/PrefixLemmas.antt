@@ -29,9 +29,15 @@ module _ {A : Type 0} where
   pub IsPrefix-filter : (p : A → Bool) (xs ys : List A) → IsPrefix xs ys → IsPrefix (filter p xs) (filter p ys)
   IsPrefix-filter p xs ys (rest, is) = (filter p rest, ap (filter p) is ∙ filter-append p xs rest)
 
-  -- of both, what follows a place within the first
-  pub IsPrefix-drop : (n : ℕ) (xs ys : List A) → n ≤ length xs → IsPrefix xs ys → IsPrefix (drop n xs) (drop n ys)
-  IsPrefix-drop n xs ys within (rest, is) = (rest, ap (drop n) is ∙ drop-append-le n xs rest within)
+  pub IsPrefix-same : (xs ys : List A) → xs ≡ ys → IsPrefix xs ys
+  IsPrefix-same xs ys same = ([], sym same ∙ sym (append-nil xs))
+
+  -- of both, what follows a place
+  pub IsPrefix-drop : (n : ℕ) (xs ys : List A) → IsPrefix xs ys → IsPrefix (drop n xs) (drop n ys)
+  IsPrefix-drop n xs ys (rest, is) = ⊎_elim
+      (λ (past : length xs < n). rw (drop_all n xs (omega arith)) (IsPrefix-nil (drop n ys)))
+      (λ (within : n ≤ length xs). (rest, ap (drop n) is ∙ drop-append-le n xs rest within))
+      (cases_lt (length xs) n)
 
   pub IsPrefix-length : (xs ys : List A) → IsPrefix xs ys → length xs ≤ length ys
   IsPrefix-length xs ys (rest, is) = omega (arith, ap length is, length-append xs rest)

@@ -1,8 +1,9 @@
 -- General facts about lists: induction from the right, parts of joined lists, and filters and joins over ranges.
-use Rattle.std.proofs.Common.{◌≡◌, ℕ, zero, suc, ◌+◌, ◌<◌, ◌≤◌, ◌≢◌, Bool, true, false, List, [], ◌∷◌, ◌++◌, length, get_or, take, drop, map, fold, filter, flat_map, All, refl, sym, ap, ◌∙◌, ⊎_elim, arith}
+use Rattle.std.proofs.Common.{◌≡◌, ℕ, zero, suc, ◌+◌, ◌<◌, ◌≤◌, ◌≢◌, Bool, true, false, List, [], ◌∷◌, ◌++◌, length, get_or, take, drop, map, fold, filter, flat_map, All, refl, sym, ap, ◌∙◌, subst, ⊎_elim, zero-add, arith}
 use Rattle.std.specs.List.{range_with_len}
 use Rattle.std.proofs.lemmas.Bool.{cases_eq}
-use Rattle.std.proofs.lemmas.List.{append_assoc, append-nil, length-append, take-append-drop, get_or_append_left, get_or-append-add, get_or-map, length-map}
+use Rattle.std.proofs.lemmas.List.{append_assoc, append-nil, length-append, take-append-drop, get_or_append_left, get_or-append-add, get_or-map, get_or_past, length-map}
+use Rattle.std.proofs.lemmas.List.FromFn.{get_or-range_with_len, length-range_with_len, get_or-map-range_with_len, length-map-range_with_len}
 use Rattle.std.proofs.lemmas.List.Elements.{All-nil, All-cons, All-head, All-tail, All-append, filter-append}
 use Rattle.std.proofs.lemmas.List.Sums.{fold-append}
 
@@ -53,6 +54,9 @@ All-range P start (suc len) each =
     All-cons P start (range_with_len (start + 1) len) (each start (omega arith) (omega arith))
     (All-range P (start + 1) len (λ i low high. each i (omega arith) (omega arith)))
 
+pub All-from_range : (P : ℕ → Type 0) (len at : ℕ) → All P (range_with_len 0 len) → at < len → P at
+All-from_range P len at all within = subst P (get_or-range_with_len 0 len at 0 within ∙ zero-add at) (all at 0 (omega (arith, length-range_with_len 0 len)))
+
 module _ {A : Type 0} (p : A → Bool) where
   -- where each element passes, and where none does
   pub filter_all : (xs : List A) → All (λ x. p x ≡ true) xs → filter p xs ≡ xs
@@ -94,3 +98,10 @@ flat_map_at f start (suc len) at low high none = ⊎_elim
     (λ (other : start ≡ at → ⊥).
     rw (none start other) (flat_map_at f (start + 1) len at (omega arith) (omega arith) none))
     (cases_eq start at)
+
+-- what a function gives of the numbers below a bound, read within and past it
+pub get_or-map_range : {A : Type 0} (f : ℕ → A) (len at : ℕ) (d : A) → at < len → get_or (map f (range_with_len 0 len)) at d ≡ f at
+get_or-map_range f len at d within = get_or-map-range_with_len f 0 len at at d within (omega arith)
+
+pub get_or-map_range_past : {A : Type 0} (f : ℕ → A) (len at : ℕ) (d : A) → len ≤ at → get_or (map f (range_with_len 0 len)) at d ≡ d
+get_or-map_range_past f len at d past = get_or_past (map f (range_with_len 0 len)) at d (omega (arith, length-map-range_with_len f 0 len))

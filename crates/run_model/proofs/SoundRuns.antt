@@ -1,0 +1,77 @@
+-- Every run is sound, and so is each history that it begins with; its parts grow from there.
+use Rattle.std.proofs.Common.{◌≡◌, ℕ, ◌<◌, ◌≤◌, List, [], ◌∷◌, ◌++◌, length, All, AllPairs, sym, subst, arith}
+use Rattle.std.proofs.lemmas.List.{append-nil, append_assoc}
+use Rattle.std.proofs.lemmas.List.Elements.{All-nil}
+use Rattle.tact_base.proofs.ListLemmas.{from_right}
+use Rattle.tact_base.specs.declared.write.Write.{Write}
+use Rattle.run_model.specs.Config.{Setup}
+use Rattle.run_model.specs.Histories.{mine, IsPrefix}
+use Rattle.run_model.specs.Runs.{IsLawful, IsRun}
+use Rattle.run_model.specs.declared.entry.Entry.{Entry}
+use Rattle.run_model.specs.declared.entry.Message.{Message}
+use Rattle.run_model.proofs.PrefixLemmas.{IsPrefix-nil, IsPrefix-append, EachAfter-prefix, EachAfter-last}
+use Rattle.run_model.proofs.Growth.{Grows, Grows-refl, Grows-trans, Grows-history}
+use Rattle.run_model.proofs.Sound.{AreInOrder, IsInOrder, IsSoundKeeping, IsSoundMessage, Sound}
+use Rattle.run_model.proofs.SoundKeeping.{Vouches-empty}
+use Rattle.run_model.proofs.SoundStep.{Sound-push}
+
+AreInOrder-nil : (replica : ℕ) → AreInOrder replica []
+AreInOrder-nil replica = record {
+  origins = All-nil (λ (write : Write). write.origin ≡ replica);
+  indices = λ place d within. absurd (omega arith);
+  stamps = λ one other d before within. absurd (omega arith);
+  moments = λ one other d before within. absurd (omega arith);
+  stamps_least = All-nil (λ (write : Write). 1 ≤ write.stamp);
+}
+
+IsInOrder-nil : (replica : ℕ) → IsInOrder replica []
+IsInOrder-nil replica = record {
+  writes = AreInOrder-nil replica;
+  stamps_most = All-nil (λ (write : Write). write.stamp ≤ 0);
+  moments_most = All-nil (λ (write : Write). write.moment ≤ 0);
+}
+
+-- the empty history
+pub Sound-nil : (setup : Setup) → Sound setup []
+Sound-nil setup = record {
+  own = IsInOrder-nil;
+  kept = λ replica origin. record {
+    log = IsPrefix-nil [];
+    stamps = All-nil (λ (write : Write). write.stamp ≤ 0);
+    cover = Vouches-empty origin [] (IsInOrder-nil origin);
+    count = omega arith;
+  };
+  known = λ replica peer origin. omega arith;
+  sent = λ replica. All-nil (IsSoundMessage [] replica);
+  numbers = λ replica place d within. absurd (omega arith);
+}
+
+-- a history that a run begins with is a run
+pub IsRun-prefix : (setup : Setup) (front history : List Entry) → IsPrefix front history → IsRun setup history → IsRun setup front
+IsRun-prefix setup front history prefix run = EachAfter-prefix (IsLawful setup) front history prefix run
+
+pub Sound-run : (setup : Setup) (history : List Entry) → IsRun setup history → Sound setup history
+Sound-run setup history = from_right (λ history. IsRun setup history → Sound setup history)
+    (λ run. Sound-nil setup)
+    (λ before entry sound run.
+    Sound-push setup before entry (sound (IsRun-prefix setup before (before ++ entry ∷ []) (IsPrefix-append before (entry ∷ [])) run)) (EachAfter-last (IsLawful setup) before entry run))
+    history
+
+pub Sound-prefix : (setup : Setup) (front history : List Entry) → IsRun setup history → IsPrefix front history → Sound setup front
+Sound-prefix setup front history run prefix = Sound-run setup front (IsRun-prefix setup front history prefix run)
+
+-- each part grows from where a prefix leaves it
+Grows-onward : (setup : Setup) (front rest : List Entry) → IsRun setup (front ++ rest) → (replica : ℕ) → Grows replica (mine front replica) (mine (front ++ rest) replica)
+Grows-onward setup front rest = from_right (λ rest. IsRun setup (front ++ rest) → (replica : ℕ) → Grows replica (mine front replica) (mine (front ++ rest) replica))
+    (λ run replica. rw (append-nil front) (Grows-refl replica (mine front replica)))
+    (λ rest entry grows run replica.
+    let whole : IsRun setup ((front ++ rest) ++ entry ∷ []) = subst (IsRun setup) (sym (append_assoc front rest (entry ∷ []))) run in
+    let before : IsRun setup (front ++ rest) = IsRun-prefix setup (front ++ rest) ((front ++ rest) ++ entry ∷ []) (IsPrefix-append (front ++ rest) (entry ∷ [])) whole in
+    let lawful : IsLawful setup (front ++ rest) entry = EachAfter-last (IsLawful setup) (front ++ rest) entry whole in
+    subst (λ history. Grows replica (mine front replica) (mine history replica)) (append_assoc front rest (entry ∷ []))
+    (Grows-trans replica (mine front replica) (mine (front ++ rest) replica) (mine ((front ++ rest) ++ entry ∷ []) replica) (grows before replica) (Grows-history setup (front ++ rest) entry lawful.due replica)))
+    rest
+
+pub Grows-run : (setup : Setup) (front history : List Entry) → IsRun setup history → IsPrefix front history → (replica : ℕ) → Grows replica (mine front replica) (mine history replica)
+Grows-run setup front history run (rest, is) replica =
+    subst (λ whole. Grows replica (mine front replica) (mine whole replica)) (sym is) (Grows-onward setup front rest (subst (IsRun setup) is run) replica)
