@@ -6,3 +6,6 @@ pub mod CompareLemmas
 pub mod OrderLemmas
 pub mod CommitLemmas
 pub mod OrderSums
+pub mod ConitListLemmas
+pub mod SumsLemmas
+pub mod CoversLemmas

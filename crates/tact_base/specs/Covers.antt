@@ -5,6 +5,10 @@ use Rattle.std.specs.Option.{option_map}
 use Rattle.tact_base.specs.declared.write.Cover.{Cover}
 use Rattle.tact_base.specs.declared.write.Late.{Late}
 
+-- the cover of an origin of which nothing is known
+abbrev pub no_cover : Cover
+no_cover = record { count = 0; stamp = 0; moment = 0 }
+
 -- none of the three told numbers is less than the kept one
 abbrev pub is_later : Cover → Cover → Bool
 is_later kept told = nat_le kept.count told.count && (nat_le kept.stamp told.stamp && nat_le kept.moment told.moment)

@@ -8,6 +8,8 @@ mod items;
 mod laws;
 mod limits;
 mod numbers;
+mod slowest;
+mod sums;
 #[cfg(test)]
 mod tests;
 mod tokens;
@@ -25,5 +27,7 @@ pub use limits::{
     MESSAGE_WRITES, MOMENT_MAX, REPLICAS_MAX, REPLICAS_MIN, STAMP_MAX, VALUE_MAX, WEIGHT_MAX,
 };
 pub use numbers::{NumberFault, print_number, print_signed, read_number};
+pub use slowest::{Slowest, slowest_of};
+pub use sums::sum_on;
 pub use tokens::{TokenFault, whole_number, whole_signed};
 pub use write::{Cover, Covers, Late, Op, Write, WriteList};
