@@ -10,7 +10,8 @@ use Rattle.tact_base.specs.declared.write.Cover.{Cover}
 use Rattle.tact_base.specs.declared.write.Write.{Write}
 use Rattle.run_model.specs.Histories.{mine, last_moment, sent_in, taken_in, taken_from, sent_by_act, taken_by_act, is_call_of, calls_in, greatest}
 use Rattle.run_model.specs.OwnWrites.{own, accepted_by}
-use Rattle.run_model.specs.Kept.{Keeping, keeping, keeping_after, clock, known, told_have, no_cover}
+use Rattle.tact_base.specs.Covers.{no_cover}
+use Rattle.run_model.specs.Kept.{Keeping, keeping, keeping_after, clock, known, told_have}
 use Rattle.run_model.specs.declared.entry.Entry.{Entry}
 use Rattle.run_model.specs.declared.entry.Message.{Message}
 

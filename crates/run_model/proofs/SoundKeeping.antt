@@ -9,7 +9,8 @@ use Rattle.tact_base.specs.declared.write.Cover.{Cover}
 use Rattle.tact_base.specs.declared.write.Write.{Write}
 use Rattle.run_model.specs.Histories.{last_moment, IsPrefix}
 use Rattle.run_model.specs.OwnWrites.{own}
-use Rattle.run_model.specs.Kept.{Keeping, keeping_after, told_have, told_cover, told_first, told_writes, no_cover, clock}
+use Rattle.tact_base.specs.Covers.{no_cover}
+use Rattle.run_model.specs.Kept.{Keeping, keeping_after, told_have, told_cover, told_first, told_writes, clock}
 use Rattle.run_model.specs.declared.entry.Entry.{Entry}
 use Rattle.run_model.specs.declared.entry.Message.{Message}
 use Rattle.run_model.proofs.PrefixLemmas.{IsPrefix-nil, IsPrefix-append, IsPrefix-trans, IsPrefix-stretch}

@@ -10,7 +10,8 @@ use Rattle.tact_base.specs.declared.write.Write.{Write}
 use Rattle.run_model.specs.Config.{Setup}
 use Rattle.run_model.specs.Histories.{mine, last_moment, replicas_of, IsPrefix}
 use Rattle.run_model.specs.OwnWrites.{own}
-use Rattle.run_model.specs.Kept.{keeping, told_have, told_cover, told_first, told_writes, no_cover, log_of, have, clock, cover_of, known}
+use Rattle.tact_base.specs.Covers.{no_cover}
+use Rattle.run_model.specs.Kept.{keeping, told_have, told_cover, told_first, told_writes, log_of, have, clock, cover_of, known}
 use Rattle.run_model.specs.Messages.{first_for, writes_for, message_of}
 use Rattle.run_model.specs.declared.entry.Entry.{Entry}
 use Rattle.run_model.specs.declared.entry.Message.{Message}

@@ -2,7 +2,7 @@
 use Rattle.std.specs.Prelude.{ℕ, ◌==◌, max, List, [], ◌∷◌, filter, map, fold, length, slice_index, slice_index_or, if◌then◌else◌}
 use Rattle.std.specs.List.{flat_map}
 use Rattle.tact_base.specs.Logs.{log_after}
-use Rattle.tact_base.specs.Covers.{cover_after}
+use Rattle.tact_base.specs.Covers.{no_cover, cover_after}
 use Rattle.tact_base.specs.declared.write.Cover.{Cover}
 use Rattle.tact_base.specs.declared.write.Write.{Write}
 use Rattle.run_model.specs.Config.{Setup}
@@ -11,8 +11,6 @@ use Rattle.run_model.specs.OwnWrites.{own}
 use Rattle.run_model.specs.declared.entry.Entry.{Entry}
 use Rattle.run_model.specs.declared.entry.Message.{Message}
 
-abbrev pub no_cover : Cover
-no_cover = record { count = 0; stamp = 0; moment = 0 }
 
 -- what a message tells of an origin: how many of its writes the sender has, its cover, the index of the first told write, the told writes
 abbrev pub told_have : Message → ℕ → ℕ

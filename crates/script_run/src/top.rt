@@ -1,5 +1,5 @@
 //! The top call: the words of a command, and what it does.
-ghost use Rattle.std.specs.Prelude.{◌≡◌, ◌≤◌, map, MatchResult, string_bytes};
+ghost use Rattle.std.specs.Prelude.{◌≡◌, ◌≤◌, map, IfOk, IfErr, string_bytes};
 ghost use Rattle.run_model.specs.declared.status.Status.TheVariants.{Usage};
 ghost use Rattle.script_run.specs.Commands.{command_of};
 ghost use Rattle.script_run.specs.Playing.{Completes, HasCause, Writes};
@@ -28,11 +28,12 @@ pub fn tact<S: Source, K: Sink>(
     source: &mut S,
     sink: &mut K,
 ) -> Status
-    ensures answer { MatchResult (command_of (map string_bytes words.now))
-        (λ _. HasCause result (S.left source.old) (S.left source.new) (S.faults source.old) (S.faults source.new) (K.faults sink.old) (K.faults sink.new)
-        × Writes result (K.written sink.old) (K.written sink.new)
-        × Completes result (S.left source.old) (S.faults source.old) (S.faults source.new) (K.faults sink.old) (K.faults sink.new))
-        (λ kind. (result ≡ Usage kind) × (source.new ≡ source.old) × (sink.new ≡ sink.old)) }
+    ensures cause { IfOk (command_of (map string_bytes words.now)) (λ _.
+        HasCause result (S.left source.old) (S.left source.new) (S.faults source.old) (S.faults source.new) (K.faults sink.old) (K.faults sink.new)) }
+    ensures written { IfOk (command_of (map string_bytes words.now)) (λ _. Writes result (K.written sink.old) (K.written sink.new)) }
+    ensures complete { IfOk (command_of (map string_bytes words.now)) (λ _.
+        Completes result (S.left source.old) (S.faults source.old) (S.faults source.new) (K.faults sink.old) (K.faults sink.new)) }
+    ensures usage { IfErr (command_of (map string_bytes words.now)) (λ kind. (result ≡ Usage kind) × (source.new ≡ source.old) × (sink.new ≡ sink.old)) }
     ensures reads_never_fall { S.faults source.old ≤ S.faults source.new }
     ensures writes_never_fall { K.faults sink.old ≤ K.faults sink.new }
 {
