@@ -127,22 +127,6 @@ pub committed_to_prefix_in_order : (point later : ℕ) (writes : List Write) →
     → (rest : List Write) × (committed_to later (in_order writes) ≡ committed_to point (in_order writes) ++ rest)
 committed_to_prefix_in_order point later writes le = committed_to_prefix point later (in_order writes) le (IsSorted-in_order writes)
 
--- what a replica has seen of all writes: nothing else, and all up to a point
-pub record HasSeen (point : ℕ) (seen all : List Write) : Type 0 where
-  pub apart : Apart seen
-  pub among : (write : Write) → Contains seen write → Contains all write
-  pub early : (write : Write) → Contains all write → write.stamp ≤ point → Contains seen write
-
--- Of two such replicas, the committed writes of the one with the lower point are a prefix of the other's.
-pub committed_to_agree : (point later : ℕ) (one other all : List Write) → point ≤ later → Apart all → HasSeen point one all → HasSeen later other all
-    → (rest : List Write) × (committed_to later (in_order other) ≡ committed_to point (in_order one) ++ rest)
-committed_to_agree point later one other all le apart first second =
-    let whole = committed_to_prefix_in_order point later all le in (
-      whole.0,
-      committed_to_seen later other all second.apart apart second.among second.early
-          ∙ (whole.1 ∙ ap (λ (front : List Write). front ++ whole.0) (sym (committed_to_seen point one all first.apart apart first.among first.early))),
-    )
-
 -- committed writes are up to the point, and tentative ones past it
 pub All-committed_to : (point : ℕ) (writes : List Write) → All (λ write. write.stamp ≤ point) (committed_to point writes)
 All-committed_to point writes =

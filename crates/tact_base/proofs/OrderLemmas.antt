@@ -1,5 +1,5 @@
 -- The writes in order: the same writes, sorted, and one list whatever order they came in.
-use Rattle.std.proofs.Common.{◌≡◌, ◌≢◌, ℕ, ◌<◌, get_or, length, ◌++◌, flat_map, ap, Less, suc, zero, Bool, true, false, if◌then◌else◌, List, [], ◌∷◌, length, All, AllPairs, Contains, IsPermutation, IsSorted, refl, sym, ap₂, ◌∙◌, ⊎_elim, suc-add, arith}
+use Rattle.std.proofs.Common.{◌≡◌, ◌≢◌, ℕ, ◌<◌, get_or, ◌++◌, flat_map, take, drop, insert, take-append-drop, ap, append-nil, Less, suc, zero, Bool, true, false, if◌then◌else◌, List, [], ◌∷◌, length, All, AllPairs, Contains, IsPermutation, IsSorted, refl, sym, ap₂, ◌∙◌, ⊎_elim, suc-add, arith}
 use Rattle.std.proofs.lemmas.List.Elements.{All-nil, All-cons, All-head, All-tail, All-weaker, All-contains, recursion_from_All}
 use Rattle.std.proofs.lemmas.List.Sorted.{IsPermutation-refl, IsPermutation-sym, IsPermutation-cons, IsPermutation-trans, IsPermutation-middle, All-permutation, Contains-permutation, length_permutation, sorted_far}
 use Rattle.std.specs.List.Sorted.{IsStrictlySortedBy}
@@ -64,6 +64,12 @@ with_write_between write [] rest behind before = with_write_first write rest bef
 with_write_between write (first ∷ front) rest behind before =
     with_write_behind write first (front ++ rest) (All-head (λ earlier. comes_before write earlier ≡ false) first front behind)
     ∙ ap (λ (l : List Write). first ∷ l) (with_write_between write front rest (All-tail (λ earlier. comes_before write earlier ≡ false) first front behind) before)
+
+-- as std says where it goes
+pub with_write-insert : (write : Write) (writes : List Write) (i : ℕ) → All (λ earlier. comes_before write earlier ≡ false) (take i writes) → All (λ later. comes_before write later ≡ true) (drop i writes)
+    → with_write write writes ≡ insert writes i write
+with_write-insert write writes i behind before =
+    ap (with_write write) (sym (take-append-drop i writes)) ∙ with_write_between write (take i writes) (drop i writes) behind before
 
 -- a write put into its place
 pub IsPermutation-with_write : (write : Write) (writes : List Write) → IsPermutation (write ∷ writes) (with_write write writes)
@@ -183,12 +189,15 @@ first_same a b xs ys rising other in_other in_one =
     (λ (behind : Contains ys a).
     ⊎_elim (λ (is : a ≡ b). is)
     (λ (ahead : Contains xs b).
-    absurd (false≢true (sym (before_one_way a b (All-contains (λ later. comes_before a later ≡ true) xs b rising.0 ahead)) ∙ All-contains (λ later. comes_before b later ≡ true) ys a other.0 behind)))
+    let a_first = All-contains (λ later. comes_before a later ≡ true) xs b rising.0 ahead in
+    let b_first = All-contains (λ later. comes_before b later ≡ true) ys a other.0 behind in
+    absurd (false≢true (sym (before_one_way a b a_first) ∙ b_first)))
     (Contains-cases a b xs in_one))
     (Contains-cases b a ys in_other)
 
 -- two lists begin alike, the one rises and the other contains it: so it is behind the first
-rest_contained : (a b : Write) (xs ys : List Write) → a ≡ b → IsRising (a ∷ xs) → ((write : Write) → Contains (a ∷ xs) write → Contains (b ∷ ys) write) → (write : Write) → Contains xs write → Contains ys write
+rest_contained : (a b : Write) (xs ys : List Write) → a ≡ b → IsRising (a ∷ xs)
+    → ((write : Write) → Contains (a ∷ xs) write → Contains (b ∷ ys) write) → (write : Write) → Contains xs write → Contains ys write
 rest_contained a b xs ys same rising contained write within =
     ⊎_elim (λ (is : b ≡ write).
     absurd (false≢true (sym (before_itself write) ∙ rw (same ∙ is) at (All-contains (λ later. comes_before a later ≡ true) xs write rising.0 within))))
@@ -259,9 +268,15 @@ pub with_write_comm : (a b : Write) (writes : List Write) → AreApart a b → w
 with_write_comm a b writes apart =
     ⊎_elim (with_both a b writes) (λ (back : comes_before b a ≡ true). sym (with_both b a writes back)) (before_cases_apart a b apart)
 
--- One more write, apart from all others: it is put into its place.
+-- One more write, anywhere, apart from those before it: it is put into its place.
+pub in_order_middle : (front : List Write) (write : Write) (back : List Write) → All (λ earlier. AreApart earlier write) front
+    → in_order (front ++ write ∷ back) ≡ with_write write (in_order (front ++ back))
+in_order_middle [] write back apart = refl
+in_order_middle (first ∷ front) write back apart =
+    ap (with_write first) (in_order_middle front write back (All-tail (λ earlier. AreApart earlier write) first front apart))
+    ∙ with_write_comm first write (in_order (front ++ back)) (All-head (λ earlier. AreApart earlier write) first front apart)
+
+-- one more write at the end
 pub in_order_push : (writes : List Write) (write : Write) → All (λ earlier. AreApart earlier write) writes → in_order (writes ++ write ∷ []) ≡ with_write write (in_order writes)
-in_order_push [] write apart = refl
-in_order_push (first ∷ rest) write apart =
-    ap (with_write first) (in_order_push rest write (All-tail (λ earlier. AreApart earlier write) first rest apart))
-    ∙ with_write_comm first write (in_order rest) (All-head (λ earlier. AreApart earlier write) first rest apart)
+in_order_push writes write apart =
+    in_order_middle writes write [] apart ∙ ap (λ (l : List Write). with_write write (in_order l)) (append-nil writes)
