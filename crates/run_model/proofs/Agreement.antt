@@ -1,43 +1,28 @@
 -- What is committed anywhere in a run is a front of all its writes in order.
-use Rattle.std.proofs.Common.{◌≡◌, ◌⊎◌, ℕ, ◌+◌, ◌<◌, ◌≤◌, min, Bool, true, false, nat_le, List, [], ◌∷◌, ◌++◌, length, get_or, map, fold, filter, flat_map, All, refl, sym, ap, ◌∙◌, subst, inl, inr, ⊎_elim, le_trans, lt_of_le_of_lt, arith}
-use Rattle.std.specs.List.{range_with_len}
+use Rattle.std.proofs.Common.{◌≡◌, ℕ, ◌+◌, ◌<◌, ◌≤◌, false, nat_le, List, [], ◌++◌, length, get_or, map, filter, flat_map, All, sym, ap, ◌∙◌, subst, inl, inr, ⊎_elim, lt_of_le_of_lt, arith}
 use Rattle.std.proofs.lemmas.Bool.{cases_lt, lt-leb}
 use Rattle.std.proofs.lemmas.List.{append-nil, length-append, get_or-append-add}
-use Rattle.std.proofs.lemmas.List.Elements.{All-nil, All-cons, All-weaker, filter-append}
+use Rattle.std.proofs.lemmas.List.Elements.{All-weaker, filter-append}
 use Rattle.tact_base.proofs.ListLemmas.{All-range, All-from_range, All-from_map, filter_none, filter-flat_map, flat_map_agree}
+use Rattle.tact_base.proofs.KeepingLemmas.{least_of-is_least}
 use Rattle.tact_base.proofs.CommitLemmas.{committed_to-in_order, committed_to_prefix_in_order}
-use Rattle.tact_base.specs.Covers.{least_of, least_stamp}
 use Rattle.tact_base.specs.WriteOrder.{in_order, committed_to}
 use Rattle.tact_base.specs.declared.write.Cover.{Cover}
 use Rattle.tact_base.specs.declared.write.Write.{Write}
 use Rattle.run_model.specs.Config.{Setup}
 use Rattle.run_model.specs.Histories.{mine, replicas_of, IsPrefix}
 use Rattle.run_model.specs.OwnWrites.{own}
-use Rattle.run_model.specs.Kept.{log_of, have, cover_of, covers_of}
+use Rattle.run_model.specs.Kept.{log_of, cover_of, covers_of}
 use Rattle.run_model.specs.Order.{point, committed}
 use Rattle.run_model.specs.Reference.{all_writes}
 use Rattle.run_model.specs.Runs.{IsRun}
 use Rattle.run_model.specs.Promises.{IsAgreed}
 use Rattle.run_model.specs.declared.entry.Entry.{Entry}
 use Rattle.run_model.proofs.PrefixLemmas.{IsPrefix-trans}
-use Rattle.run_model.proofs.Growth.{Grows}
 use Rattle.run_model.proofs.Sound.{Vouches, Sound}
 use Rattle.run_model.proofs.SoundKeeping.{own-prefix, Vouches-grows}
 use Rattle.run_model.proofs.SoundRuns.{Sound-run, Sound-prefix, Grows-run}
 use Rattle.run_model.proofs.SoundViews.{Sound-log, Sound-count, Sound-cover}
-
--- the least of numbers
-least_from : (n : ℕ) (numbers : List ℕ) → (fold min n numbers ≤ n) × All (λ x. fold min n numbers ≤ x) numbers
-least_from n [] = (omega arith, All-nil (λ x. n ≤ x))
-least_from n (first ∷ numbers) =
-    let rest = least_from (min n first) numbers in
-    (omega (arith, rest.0), All-cons (λ x. fold min (min n first) numbers ≤ x) first numbers (omega (arith, rest.0)) rest.1)
-
-pub least_of-is_least : (numbers : List ℕ) → All (λ x. least_of numbers ≤ x) numbers
-least_of-is_least [] = All-nil (λ x. 0 ≤ x)
-least_of-is_least (first ∷ numbers) =
-    let rest = least_from first numbers in
-    All-cons (λ x. fold min first numbers ≤ x) first numbers rest.0 rest.1
 
 -- the point is at most the stamp of each cover
 pub point-le : (setup : Setup) (replica : ℕ) (part : List Entry) (origin : ℕ) → origin < setup.replicas → point setup replica part ≤ (cover_of replica part 0 origin).stamp
@@ -46,7 +31,7 @@ point-le setup replica part origin within =
     let covers = covers_of setup replica part 0 in
     All-from_range (λ o. p ≤ (cover_of replica part 0 o).stamp) setup.replicas origin
     (All-from_map (λ (cover : Cover). p ≤ cover.stamp) (cover_of replica part 0) (replicas_of setup)
-        (All-from_map (λ n. p ≤ n) (λ (cover : Cover). cover.stamp) covers (least_of-is_least (map (λ (cover : Cover). cover.stamp) covers))))
+    (All-from_map (λ n. p ≤ n) (λ (cover : Cover). cover.stamp) covers (least_of-is_least (map (λ (cover : Cover). cover.stamp) covers))))
     within
 
 -- A run, a history that it begins with, and a replica.

@@ -1,14 +1,14 @@
 -- The clock is the greatest of the stamps of own writes and of those of the covers in taken messages.
-use Rattle.std.proofs.Common.{◌≡◌, ◌⊎◌, ℕ, zero, suc, ◌+◌, ◌<◌, ◌≤◌, max, List, [], ◌∷◌, ◌++◌, length, map, filter, flat_map, get_or, All, None, Some, refl, sym, ap, ap₂, ◌∙◌, subst, ⊎_elim, arith}
+use Rattle.std.proofs.Common.{◌≡◌, ℕ, ◌<◌, ◌≤◌, max, List, [], ◌∷◌, ◌++◌, length, map, flat_map, All, None, Some, ap, ap₂, ◌∙◌, subst, ⊎_elim, arith}
 use Rattle.std.specs.List.{cons_option}
 use Rattle.std.proofs.lemmas.Bool.{cases_lt}
-use Rattle.std.proofs.lemmas.List.{append-nil, length-append, map-append, get_or_past}
+use Rattle.std.proofs.lemmas.List.{map-append, get_or_past}
 use Rattle.std.proofs.lemmas.List.Concat.{flat_map-append}
 use Rattle.std.proofs.lemmas.List.Elements.{All-head, All-weaker}
 use Rattle.tact_base.proofs.ListLemmas.{All-append_right, All-from_map, All-from_flat_map}
 use Rattle.tact_base.specs.declared.write.Cover.{Cover}
 use Rattle.tact_base.specs.declared.write.Write.{Write}
-use Rattle.run_model.specs.Histories.{sent_in, taken_in, greatest}
+use Rattle.run_model.specs.Histories.{taken_in, greatest}
 use Rattle.run_model.specs.OwnWrites.{own}
 use Rattle.tact_base.specs.Covers.{no_cover}
 use Rattle.run_model.specs.Kept.{clock, told_cover}
@@ -43,7 +43,7 @@ taken-le-clock part =
     All-weaker (λ (message : Message). All P message.covers) (λ (message : Message). (origin : ℕ) → (told_cover message origin).stamp ≤ clock part)
     (λ message all origin. omega (arith, told_cover-le message origin (greatest (taken_stamps part)) all)) (taken_in part)
     (All-from_flat_map P covers (taken_in part)
-        (All-from_map (λ n. n ≤ greatest (taken_stamps part)) (λ (cover : Cover). cover.stamp) (flat_map covers (taken_in part)) (greatest-is_most (taken_stamps part))))
+    (All-from_map (λ n. n ≤ greatest (taken_stamps part)) (λ (cover : Cover). cover.stamp) (flat_map covers (taken_in part)) (greatest-is_most (taken_stamps part))))
 
 -- One more entry.
 module _ (part : List Entry) (entry : Entry) where

@@ -1,33 +1,21 @@
 -- What a part goes on to: its own writes go on with later ones, and its clock, its moments and its logs don't fall.
-use Rattle.std.proofs.Common.{◌≡◌, ◌⊎◌, ℕ, zero, suc, ◌+◌, ◌-◌, ◌<◌, ◌≤◌, ◌==◌, Bool, true, false, cond, nat_lt, nat_le, List, [], ◌∷◌, ◌++◌, length, drop, All, Option, None, Some, unwrap_or, unsigned_abs, refl, sym, ap, ◌∙◌, subst, ⊎_elim, le_of_eq, le_trans, arith}
-use Rattle.std.specs.List.{slice_get, filter_map, cons_option}
-use Rattle.std.proofs.lemmas.Bool.{cases_eq, eq-eqb, ne_eqb}
+use Rattle.std.proofs.Common.{◌≡◌, ℕ, ◌<◌, ◌≤◌, List, [], ◌∷◌, ◌++◌, length, All, Option, None, Some, refl, sym, ap, ◌∙◌, ⊎_elim, le_of_eq, le_trans, arith}
+use Rattle.std.specs.List.{cons_option}
+use Rattle.std.proofs.lemmas.Bool.{cases_eq}
 use Rattle.std.proofs.lemmas.List.{append-nil, append_assoc, length-append}
 use Rattle.std.proofs.lemmas.List.Elements.{All-nil, All-append, All-weaker}
-use Rattle.std.proofs.lemmas.Option.{same_Some, some_pair_parts}
 use Rattle.tact_base.proofs.ListLemmas.{All-one}
-use Rattle.tact_base.specs.Logs.{log_after}
-use Rattle.tact_base.specs.Shares.{Fitting, heavy, held, short, fits, fitting}
-use Rattle.tact_base.specs.declared.conit_list.Weight.{Weight}
-use Rattle.tact_base.specs.declared.write.Op.{Op}
 use Rattle.tact_base.specs.declared.write.Write.{Write}
 use Rattle.run_model.specs.Config.{Setup}
-use Rattle.run_model.specs.Histories.{mine, peers_of, last_moment, taken_in}
-use Rattle.run_model.specs.OwnWrites.{own, asked_write, done_as, accepted_as, accepted_by}
-use Rattle.run_model.specs.Kept.{Keeping, keeping, keeping_after, told_first, told_writes, log_of, have, clock}
-use Rattle.run_model.specs.Missing.{missing_plus, greater_missing, reserved}
-use Rattle.run_model.specs.Loans.{share}
-use Rattle.run_model.specs.Replies.{first_some, refusal_by, refusal, weight_refusal, missing_of_sign, done, reply_of}
-use Rattle.run_model.specs.Runs.{IsDue, IsActDue}
-use Rattle.run_model.specs.declared.call.Request.{Request}
-use Rattle.run_model.specs.declared.call.Request.TheVariants as request
-use Rattle.run_model.specs.declared.call.Reply.{Reply}
-use Rattle.run_model.specs.declared.call.Reply.TheVariants as reply
-use Rattle.run_model.specs.declared.entry.Act.{Act}
-use Rattle.run_model.specs.declared.entry.Act.TheVariants as act
+use Rattle.run_model.specs.Histories.{mine, last_moment}
+use Rattle.run_model.specs.OwnWrites.{own}
+use Rattle.run_model.specs.Kept.{Keeping, keeping, told_first, told_writes, have, clock}
+use Rattle.run_model.specs.Runs.{IsDue}
 use Rattle.run_model.specs.declared.entry.Entry.{Entry}
 use Rattle.run_model.specs.declared.entry.Message.{Message}
-use Rattle.run_model.proofs.PartLemmas.{accepted_in, mine-push_cases, taken_by, own-push, own-push_none, own-push_some, last_moment-push, keeping-push_none, keeping-push_some}
+use Rattle.run_model.proofs.PartLemmas.{accepted_in, mine-push_cases, taken_by, own-push, last_moment-push, keeping-push_none, keeping-push_some}
+use Rattle.run_model.proofs.Accepted.{IsNext, log_of-same, log_of-other, accepted_is_next}
+use Rattle.tact_base.proofs.KeepingLemmas.{log_after-le}
 use Rattle.run_model.proofs.ClockLemmas.{clock-le-push}
 
 -- a write that a part may accept later
@@ -45,107 +33,7 @@ pub record Grows (replica : ℕ) (before after : List Entry) : Type 0 where
   pub last : last_moment before ≤ last_moment after
   pub have : (origin : ℕ) → have replica before origin ≤ have replica after origin
 
--- the write that a part of a replica accepts next, at a moment
-pub record IsNext (replica : ℕ) (part : List Entry) (at : ℕ) (write : Write) : Type 0 where
-  pub origin : write.origin ≡ replica
-  pub index : write.index ≡ length (own part)
-  pub stamp : write.stamp ≡ clock part + 1
-  pub moment : write.moment ≡ at
-
--- the log of a replica itself, and of another
-pub log_of-same : (replica : ℕ) (part : List Entry) → log_of replica part replica ≡ own part
-log_of-same replica part = ap (λ yes. cond yes (own part) (keeping part replica).log) (eq-eqb replica replica refl)
-
-pub log_of-other : (replica : ℕ) (part : List Entry) (origin : ℕ) → (origin ≡ replica → ⊥) → log_of replica part origin ≡ (keeping part origin).log
-log_of-other replica part origin other = ap (λ yes. cond yes (own part) (keeping part origin).log) (ne_eqb origin replica other)
-
--- what holds of each reply that a place may give holds of the first
-pub first_some-each : {A : Type 0} (f : A → Option Reply) (P : Reply → Type 0) → ((item : A) (given : Reply) → f item ≡ Some given → P given) → (items : List A) (given : Reply) → first_some f items ≡ Some given → P given
-first_some-each f P each [] given is = cc
-first_some-each f P each (item ∷ items) given is = go (f item) refl (first_some-each f P each items given) is
-  where
-    go : (here : Option Reply) → f item ≡ here → (first_some f items ≡ Some given → P given) → slice_get (cons_option here (filter_map f items)) 0 ≡ Some given → P given
-    go None is_here rest is = rest is
-    go (Some found) is_here rest is = each item given (is_here ∙ is)
-
--- a refusal accepts nothing
-refusal_by-accepts_none : (conit peer share reserved missing amount : ℕ) (fit : Fitting) (given : Reply) → refusal_by conit peer share reserved missing amount fit ≡ Some given → done_as given ≡ None
-refusal_by-accepts_none conit peer share reserved missing amount heavy given is = cc
-refusal_by-accepts_none conit peer share reserved missing amount held given is = cc
-refusal_by-accepts_none conit peer share reserved missing amount short given is = cc
-refusal_by-accepts_none conit peer share reserved missing amount fits given is = cc
-
-weight_refusal-accepts_none : (setup : Setup) (replica : ℕ) (part : List Entry) (weight : Weight) (given : Reply) → weight_refusal setup replica part weight ≡ Some given → done_as given ≡ None
-weight_refusal-accepts_none setup replica part weight =
-    first_some-each (λ peer. refusal setup replica part weight.conit peer (unsigned_abs weight.nweight) (missing_of_sign replica part peer weight.conit weight.nweight)) (λ given. done_as given ≡ None)
-    (λ peer given. refusal_by-accepts_none weight.conit peer (share setup replica part peer weight.conit) (reserved part weight.conit) (missing_of_sign replica part peer weight.conit weight.nweight) (unsigned_abs weight.nweight)
-    (fitting (share setup replica part peer weight.conit) (reserved part weight.conit) (missing_of_sign replica part peer weight.conit weight.nweight) (unsigned_abs weight.nweight)) given)
-    (peers_of setup replica)
-
--- a reply that accepts nothing, or accepts with the next index and stamp
-abbrev pub AcceptsNext : ℕ → List Entry → Reply → Type 0
-AcceptsNext replica part given = (index stamp : ℕ) → done_as given ≡ Some (index, stamp) → (index ≡ length (own part)) × (stamp ≡ clock part + 1)
-
-AcceptsNext-none : (replica : ℕ) (part : List Entry) (given : Reply) → done_as given ≡ None → AcceptsNext replica part given
-AcceptsNext-none replica part given none index stamp some = cc
-
-AcceptsNext-done : (replica : ℕ) (part : List Entry) → AcceptsNext replica part (done replica part)
-AcceptsNext-done replica part index stamp some =
-    let parts = some_pair_parts (have replica part replica) index (clock part + 1) stamp some in
-    (sym parts.0 ∙ ap length (log_of-same replica part), sym parts.1)
-
-AcceptsNext-write : (setup : Setup) (replica : ℕ) (part : List Entry) (weights : List Weight) → AcceptsNext replica part (unwrap_or (first_some (weight_refusal setup replica part) weights) (done replica part))
-AcceptsNext-write setup replica part weights =
-    go (first_some (weight_refusal setup replica part) weights) (first_some-each (weight_refusal setup replica part) (λ given. done_as given ≡ None) (weight_refusal-accepts_none setup replica part) weights)
-  where
-    go : (first : Option Reply) → ((given : Reply) → first ≡ Some given → done_as given ≡ None) → AcceptsNext replica part (unwrap_or first (done replica part))
-    go None none = AcceptsNext-done replica part
-    go (Some given) none = AcceptsNext-none replica part given (none given refl)
-
-AcceptsNext-held : (replica : ℕ) (part : List Entry) (refused : Bool) (conit holds amount : ℕ) → AcceptsNext replica part (cond refused (reply.NotHeld conit holds amount) (done replica part))
-AcceptsNext-held replica part true conit holds amount = AcceptsNext-none replica part (reply.NotHeld conit holds amount) refl
-AcceptsNext-held replica part false conit holds amount = AcceptsNext-done replica part
-
--- an accepted write is the next one
-accepted_as-next : (replica : ℕ) (part : List Entry) (at : ℕ) (asked : List Weight × Op) (given : Reply) (write : Write) → AcceptsNext replica part given → accepted_as replica at (Some asked) (done_as given) ≡ Some write → IsNext replica part at write
-accepted_as-next replica part at asked given write next some = go (done_as given) next some
-  where
-    go : (numbers : Option (ℕ × ℕ)) → ((index stamp : ℕ) → numbers ≡ Some (index, stamp) → (index ≡ length (own part)) × (stamp ≡ clock part + 1)) → accepted_as replica at (Some asked) numbers ≡ Some write → IsNext replica part at write
-    go None next some = cc
-    go (Some numbers) next some =
-        let is : record { origin = replica; index = numbers.0; stamp = numbers.1; moment = at; weights = asked.0; op = asked.1 } ≡ write = same_Some _ write some in
-        let both = next numbers.0 numbers.1 refl in
-        record { origin = sym (ap (λ (w : Write). w.origin) is); index = sym (ap (λ (w : Write). w.index) is) ∙ both.0; stamp = sym (ap (λ (w : Write). w.stamp) is) ∙ both.1; moment = sym (ap (λ (w : Write). w.moment) is) }
-
-called_is_next : (setup : Setup) (replica : ℕ) (part : List Entry) (at : ℕ) (asked : Request) (given : Reply) (write : Write) → given ≡ reply_of setup replica part at asked → accepted_as replica at (asked_write asked) (done_as given) ≡ Some write → IsNext replica part at write
-called_is_next setup replica part at (request.Write weights op) given write is some =
-    accepted_as-next replica part at (weights, op) given write (subst (AcceptsNext replica part) (sym is) (AcceptsNext-write setup replica part weights)) some
-called_is_next setup replica part at (request.Held weight op) given write is some =
-    accepted_as-next replica part at (weight ∷ [], op) given write
-    (subst (AcceptsNext replica part) (sym is) (AcceptsNext-held replica part (nat_lt (reserved part weight.conit) (unsigned_abs weight.nweight)) weight.conit (reserved part weight.conit) (unsigned_abs weight.nweight))) some
-called_is_next setup replica part at (request.Reserve conit amount) given write is some = cc
-called_is_next setup replica part at (request.Release conit amount) given write is some = cc
-called_is_next setup replica part at (request.Read key needs) given write is some = cc
-
-acted_is_next : (setup : Setup) (replica : ℕ) (part : List Entry) (at : ℕ) (done : Act) (write : Write) → IsActDue setup replica part at done → accepted_by replica at done ≡ Some write → IsNext replica part at write
-acted_is_next setup replica part at (act.Call client number asked given) write (counted, is) some = called_is_next setup replica part at asked given write is some
-acted_is_next setup replica part at (act.Send message) write due some = cc
-acted_is_next setup replica part at (act.Take message) write due some = cc
-acted_is_next setup replica part at (act.Lend to conit amount) write due some = cc
-acted_is_next setup replica part at (act.Back owner conit amount) write due some = cc
-acted_is_next setup replica part at act.Restart write due some = cc
-
-pub accepted_is_next : (setup : Setup) (part : List Entry) (entry : Entry) (write : Write) → IsDue setup part entry → accepted_in entry ≡ Some write → IsNext entry.replica part entry.moment write
-accepted_is_next setup part entry write due some = acted_is_next setup entry.replica part entry.moment entry.act write due.act some
-
--- a log doesn't get shorter
-pub log_after-le : {T : Type 0} (log : List T) (first : ℕ) (told : List T) → length log ≤ length (log_after log first told)
-log_after-le log first told = go (nat_le first (length log))
-  where
-    go : (fits : Bool) → length log ≤ length (cond fits (log ++ drop (length log - first) told) log)
-    go true = omega (arith, length-append log (drop (length log - first) told))
-    go false = omega arith
-
+-- a log that is kept doesn't get shorter
 keeping-le-push : (part : List Entry) (entry : Entry) (origin : ℕ) → length (keeping part origin).log ≤ length (keeping (part ++ entry ∷ []) origin).log
 keeping-le-push part entry origin = go (taken_by entry) refl
   where
@@ -170,12 +58,12 @@ Grows-trans replica one two three first second = record {
   new = first.new ++ second.new;
   own = second.own ∙ ap (λ writes. writes ++ second.new) first.own ∙ append_assoc (own one) first.new second.new;
   later =
-    All-append (IsLater one) first.new second.new first.later
-    (All-weaker (IsLater two) (IsLater one) (λ write later. record {
-      index = omega (arith, ap length first.own, length-append (own one) first.new, later.index);
-      stamp = omega (arith, first.clock, later.stamp);
-      moment = omega (arith, first.last, later.moment);
-    }) second.new second.later);
+      All-append (IsLater one) first.new second.new first.later
+      (All-weaker (IsLater two) (IsLater one) (λ write later. record {
+        index = omega (arith, ap length first.own, length-append (own one) first.new, later.index);
+        stamp = omega (arith, first.clock, later.stamp);
+        moment = omega (arith, first.last, later.moment);
+      }) second.new second.later);
   clock = omega (arith, first.clock, second.clock);
   last = omega (arith, first.last, second.last);
   have = λ origin. omega (arith, first.have origin, second.have origin);
@@ -213,7 +101,7 @@ module _ (setup : Setup) (part : List Entry) (entry : Entry) (due : IsDue setup 
     have = have-le-push;
   }
 
--- An entry that is due after the part of its replica: each part grows, the others by nothing.
+-- After an entry that is due after the part of its replica, each part has grown, the others by nothing.
 pub Grows-history : (setup : Setup) (history : List Entry) (entry : Entry) → IsDue setup (mine history entry.replica) entry → (replica : ℕ) → Grows replica (mine history replica) (mine (history ++ entry ∷ []) replica)
 Grows-history setup history entry due =
     mine-push_cases history entry (λ replica part. Grows replica (mine history replica) part) (Grows-push setup (mine history entry.replica) entry due)

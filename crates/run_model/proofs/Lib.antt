@@ -3,8 +3,10 @@ pub mod TextLemmas
 pub mod PrefixLemmas
 pub mod PartLemmas
 pub mod ClockLemmas
+pub mod Accepted
 pub mod Growth
 pub mod Sound
+pub mod SoundOwn
 pub mod SoundKeeping
 pub mod SoundViews
 pub mod SoundMessages

@@ -1,17 +1,15 @@
 -- What one more entry does to a history and to a part: to the entries of a replica, to its own writes, to the messages that it sent and took, and to what it keeps.
-use Rattle.std.proofs.Common.{◌≡◌, ℕ, zero, suc, ◌+◌, ◌<◌, ◌≤◌, ◌==◌, max, Bool, true, false, cond, List, [], ◌∷◌, ◌++◌, length, map, fold, filter, filter_map, flat_map, All, Option, None, Some, refl, sym, ap, ◌∙◌, subst, ⊎_elim, arith}
+use Rattle.std.proofs.Common.{◌≡◌, ℕ, ◌+◌, ◌≤◌, ◌==◌, max, Bool, true, false, cond, List, [], ◌∷◌, ◌++◌, length, map, fold, filter, All, Option, None, Some, refl, sym, ap, ◌∙◌, subst, ⊎_elim, arith}
 use Rattle.std.specs.List.{cons_option}
 use Rattle.std.proofs.lemmas.Bool.{cases_eq, eq-eqb, ne_eqb}
-use Rattle.std.proofs.lemmas.List.{append-nil, length-append, map-append, map_push}
-use Rattle.std.proofs.lemmas.List.Concat.{flat_map-append}
-use Rattle.std.proofs.lemmas.List.Elements.{filter-append, filter_map-append, All-nil, All-cons, All-head, All-tail, All-weaker, All-map}
-use Rattle.tact_base.proofs.ListLemmas.{fold-push, All-append_left, All-append_right}
-use Rattle.tact_base.specs.declared.write.Cover.{Cover}
+use Rattle.std.proofs.lemmas.List.{append-nil, length-append, map_push}
+use Rattle.std.proofs.lemmas.List.Elements.{filter-append, filter_map-append, All-nil, All-cons, All-head, All-tail, All-weaker}
+use Rattle.tact_base.proofs.ListLemmas.{fold-push}
 use Rattle.tact_base.specs.declared.write.Write.{Write}
 use Rattle.run_model.specs.Histories.{mine, last_moment, sent_in, taken_in, taken_from, sent_by_act, taken_by_act, is_call_of, calls_in, greatest}
 use Rattle.run_model.specs.OwnWrites.{own, accepted_by}
 use Rattle.tact_base.specs.Covers.{no_cover}
-use Rattle.run_model.specs.Kept.{Keeping, keeping, keeping_after, clock, known, told_have}
+use Rattle.run_model.specs.Kept.{keeping, keeping_after, known, told_have}
 use Rattle.run_model.specs.declared.entry.Entry.{Entry}
 use Rattle.run_model.specs.declared.entry.Message.{Message}
 

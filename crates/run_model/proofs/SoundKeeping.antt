@@ -1,20 +1,19 @@
 -- What a replica keeps of an origin stays sound while the origin goes on, and when a sound message is taken.
-use Rattle.std.proofs.Common.{◌≡◌, ℕ, ◌+◌, ◌-◌, ◌<◌, ◌≤◌, Bool, true, false, cond, nat_le, List, [], ◌∷◌, ◌++◌, length, drop, All, refl, sym, ap, ◌∙◌, subst, arith}
-use Rattle.std.proofs.lemmas.Bool.{leb-true}
+use Rattle.std.proofs.Common.{ℕ, ◌-◌, ◌<◌, ◌≤◌, List, length, drop, All, sym, ap, subst, arith}
 use Rattle.std.proofs.lemmas.List.{length-append}
-use Rattle.std.proofs.lemmas.List.Elements.{All-nil, All-append, All-weaker, All-drop}
-use Rattle.tact_base.specs.Covers.{is_later, later_cover, cover_after}
+use Rattle.std.proofs.lemmas.List.Elements.{All-append, All-weaker, All-drop}
 use Rattle.tact_base.specs.Logs.{log_after}
 use Rattle.tact_base.specs.declared.write.Cover.{Cover}
 use Rattle.tact_base.specs.declared.write.Write.{Write}
-use Rattle.run_model.specs.Histories.{last_moment, IsPrefix}
+use Rattle.tact_base.proofs.KeepingLemmas.{log_after-le, log_after-cases, cover_after-cases}
+use Rattle.run_model.specs.Histories.{IsPrefix}
 use Rattle.run_model.specs.OwnWrites.{own}
 use Rattle.tact_base.specs.Covers.{no_cover}
-use Rattle.run_model.specs.Kept.{Keeping, keeping_after, told_have, told_cover, told_first, told_writes, clock}
+use Rattle.run_model.specs.Kept.{Keeping, keeping_after, told_cover, told_first, told_writes, clock}
 use Rattle.run_model.specs.declared.entry.Entry.{Entry}
 use Rattle.run_model.specs.declared.entry.Message.{Message}
-use Rattle.run_model.proofs.PrefixLemmas.{IsPrefix-nil, IsPrefix-append, IsPrefix-trans, IsPrefix-stretch}
-use Rattle.run_model.proofs.Growth.{IsLater, Grows, log_after-le}
+use Rattle.run_model.proofs.PrefixLemmas.{IsPrefix-trans, IsPrefix-stretch}
+use Rattle.run_model.proofs.Growth.{IsLater, Grows}
 use Rattle.run_model.proofs.Sound.{IsInOrder, Vouches, IsSoundKeeping, IsSoundTold}
 
 -- what a part has stands at the beginning of what it goes on to
@@ -51,23 +50,6 @@ IsSoundKeeping-grows low high kept origin before after rises grows sound = recor
   count = sound.count;
 }
 
--- a cover after a told one is the told one, within the log, or the kept one
-pub cover_after-cases : (P : Cover → Type 0) (have : ℕ) (kept told : Cover) → (told.count ≤ have → P told) → P kept → P (cover_after have kept told)
-cover_after-cases P have kept told of_told of_kept = go (nat_le told.count have) refl (is_later kept told)
-  where
-    go : (fits : Bool) → nat_le told.count have ≡ fits → (later : Bool) → P (cond fits (cond later told kept) kept)
-    go true is true = of_told (leb-true told.count have is)
-    go true is false = of_kept
-    go false is later = of_kept
-
--- a log after told writes has those past its end, or is as it was
-log_after-cases : (P : List Write → Type 0) (log : List Write) (first : ℕ) (told : List Write) → (first ≤ length log → P (log ++ drop (length log - first) told)) → P log → P (log_after log first told)
-log_after-cases P log first told of_more of_log = go (nat_le first (length log)) refl
-  where
-    go : (fits : Bool) → nat_le first (length log) ≡ fits → P (cond fits (log ++ drop (length log - first) told) log)
-    go true is = of_more (leb-true first (length log) is)
-    go false is = of_log
-
 -- A sound message is taken.
 pub IsSoundKeeping-after : (clock : ℕ) (origin : ℕ) (kept : Keeping) (message : Message) (had : ℕ) (part : List Entry) → IsSoundTold message origin had part
     → All (λ (write : Write). write.stamp ≤ clock) (told_writes message origin) → IsSoundKeeping clock kept part → IsSoundKeeping clock (keeping_after origin kept message) part
@@ -78,10 +60,10 @@ IsSoundKeeping-after clock origin kept message had part told below sound =
     let log = log_after kept.log first writes in
     record {
       log = log_after-cases (λ log. IsPrefix log (own part)) kept.log first writes
-      (λ fits. IsPrefix-stretch kept.log writes (own part) first sound.log told.writes fits) sound.log;
+          (λ fits. IsPrefix-stretch kept.log writes (own part) first sound.log told.writes fits) sound.log;
       stamps = log_after-cases (All IsBelow) kept.log first writes
-      (λ fits. All-append IsBelow kept.log (drop (length kept.log - first) writes) sound.stamps (All-drop IsBelow (length kept.log - first) writes below)) sound.stamps;
+          (λ fits. All-append IsBelow kept.log (drop (length kept.log - first) writes) sound.stamps (All-drop IsBelow (length kept.log - first) writes below)) sound.stamps;
       cover = cover_after-cases (Vouches part) (length log) kept.cover (told_cover message origin) (λ within. told.cover) sound.cover;
       count = cover_after-cases (λ cover. cover.count ≤ length log) (length log) kept.cover (told_cover message origin) (λ within. within)
-      (omega (arith, sound.count, log_after-le kept.log first writes));
+          (omega (arith, sound.count, log_after-le kept.log first writes));
     }

@@ -1,5 +1,5 @@
 -- What a sent message tells is so, and stays so.
-use Rattle.std.proofs.Common.{◌≡◌, ◌≢◌, ℕ, ◌+◌, ◌<◌, ◌≤◌, ◌==◌, min, max, Bool, true, false, cond, slice_index, List, [], ◌∷◌, ◌++◌, length, get_or, map, take, drop, filter, flat_map, All, refl, sym, ap, ap₂, ◌∙◌, subst, ⊎_elim, le_of_eq, arith}
+use Rattle.std.proofs.Common.{◌≡◌, ◌≢◌, ℕ, ◌<◌, ◌≤◌, ◌==◌, min, max, Bool, true, false, cond, slice_index, List, [], length, take, drop, filter, flat_map, All, refl, sym, ap, ap₂, ◌∙◌, subst, ⊎_elim, arith}
 use Rattle.std.specs.List.{range_with_len}
 use Rattle.std.proofs.lemmas.Bool.{cases_eq, cases_lt, eq-eqb, ne_eqb}
 use Rattle.std.proofs.lemmas.List.Elements.{All-weaker, All-take, All-drop}
@@ -12,14 +12,14 @@ use Rattle.run_model.specs.Histories.{mine, last_moment, replicas_of, IsPrefix}
 use Rattle.run_model.specs.OwnWrites.{own}
 use Rattle.tact_base.specs.Covers.{no_cover}
 use Rattle.run_model.specs.Kept.{keeping, told_have, told_cover, told_first, told_writes, log_of, have, clock, cover_of, known}
-use Rattle.run_model.specs.Messages.{first_for, writes_for, message_of}
+use Rattle.run_model.specs.Messages.{first_for, message_of}
 use Rattle.run_model.specs.declared.entry.Entry.{Entry}
 use Rattle.run_model.specs.declared.entry.Message.{Message}
-use Rattle.run_model.proofs.PrefixLemmas.{IsPrefix-nil, IsPrefix-same, IsPrefix-trans, IsPrefix-take, IsPrefix-filter, IsPrefix-drop}
+use Rattle.run_model.proofs.PrefixLemmas.{IsPrefix-nil, IsPrefix-trans, IsPrefix-take, IsPrefix-filter, IsPrefix-drop}
 use Rattle.run_model.proofs.Growth.{Grows}
 use Rattle.run_model.proofs.Sound.{IsInOrder, Vouches, IsSoundTold, IsSoundMessage, Sound}
 use Rattle.run_model.proofs.SoundKeeping.{own-prefix, Vouches-empty, Vouches-grows}
-use Rattle.run_model.proofs.SoundViews.{own_cover, cover_of-same, cover_of-other, Vouches-own, Sound-log, Sound-origins, Sound-stamps, Sound-count, Sound-cover}
+use Rattle.run_model.proofs.SoundViews.{own_cover, cover_of-same, cover_of-other, Vouches-own, Sound-log, Sound-origins, Sound-stamps, Sound-count}
 
 -- what was told stays so
 pub IsSoundTold-grows : (message : Message) (origin had has : ℕ) (before after : List Entry) → had ≤ has → Grows origin before after → IsSoundTold message origin had before → IsSoundTold message origin has after
@@ -27,7 +27,7 @@ IsSoundTold-grows message origin had has before after more grows told = record {
   have = omega (arith, told.have);
   first = omega (arith, told.first);
   writes = IsPrefix-trans (told_writes message origin) (drop (told_first message origin) (own before)) (drop (told_first message origin) (own after)) told.writes
-  (IsPrefix-drop (told_first message origin) (own before) (own after) (own-prefix origin before after grows));
+      (IsPrefix-drop (told_first message origin) (own before) (own after) (own-prefix origin before after grows));
   cover = Vouches-grows origin before after (told_cover message origin) grows told.cover;
   count = told.count;
 }
@@ -151,10 +151,10 @@ module _ (setup : Setup) (history : List Entry) (sound : Sound setup history) (r
   IsSoundMessage-sent further within grows same_own same_clock last in_order = record {
     from = refl;
     told = λ origin. ⊎_elim
-    (λ (inside : origin < setup.replicas).
-    told_within origin (have replica (mine further replica) origin) (mine further origin) inside ((grows replica).have origin) (own-prefix origin (mine history origin) (mine further origin) (grows origin)) (vouches origin))
-    (λ (past : setup.replicas ≤ origin). told_past origin (have replica (mine further replica) origin) (mine further origin) past (in_order origin))
-    (cases_lt origin setup.replicas);
+        (λ (inside : origin < setup.replicas).
+        told_within origin (have replica (mine further replica) origin) (mine further origin) inside ((grows replica).have origin) (own-prefix origin (mine history origin) (mine further origin) (grows origin)) (vouches origin))
+        (λ (past : setup.replicas ≤ origin). told_past origin (have replica (mine further replica) origin) (mine further origin) past (in_order origin))
+        (cases_lt origin setup.replicas);
     stamps = sent_stamps within;
   }
     where

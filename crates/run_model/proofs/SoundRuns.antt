@@ -1,5 +1,5 @@
 -- Every run is sound, and so is each history that it begins with; its parts grow from there.
-use Rattle.std.proofs.Common.{◌≡◌, ℕ, ◌<◌, ◌≤◌, List, [], ◌∷◌, ◌++◌, length, All, AllPairs, sym, subst, arith}
+use Rattle.std.proofs.Common.{◌≡◌, ℕ, ◌≤◌, List, [], ◌∷◌, ◌++◌, sym, subst, arith}
 use Rattle.std.proofs.lemmas.List.{append-nil, append_assoc}
 use Rattle.std.proofs.lemmas.List.Elements.{All-nil}
 use Rattle.tact_base.proofs.ListLemmas.{from_right}
@@ -8,10 +8,9 @@ use Rattle.run_model.specs.Config.{Setup}
 use Rattle.run_model.specs.Histories.{mine, IsPrefix}
 use Rattle.run_model.specs.Runs.{IsLawful, IsRun}
 use Rattle.run_model.specs.declared.entry.Entry.{Entry}
-use Rattle.run_model.specs.declared.entry.Message.{Message}
 use Rattle.run_model.proofs.PrefixLemmas.{IsPrefix-nil, IsPrefix-append, EachAfter-prefix, EachAfter-last}
 use Rattle.run_model.proofs.Growth.{Grows, Grows-refl, Grows-trans, Grows-history}
-use Rattle.run_model.proofs.Sound.{AreInOrder, IsInOrder, IsSoundKeeping, IsSoundMessage, Sound}
+use Rattle.run_model.proofs.Sound.{AreInOrder, IsInOrder, IsSoundMessage, Sound}
 use Rattle.run_model.proofs.SoundKeeping.{Vouches-empty}
 use Rattle.run_model.proofs.SoundStep.{Sound-push}
 

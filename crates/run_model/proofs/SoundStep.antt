@@ -1,43 +1,27 @@
 -- An entry that is lawful after a sound history leaves it sound.
-use Rattle.std.proofs.Common.{◌≡◌, ℕ, ◌+◌, ◌<◌, ◌≤◌, ◌==◌, List, [], ◌∷◌, ◌++◌, length, get_or, All, AllPairs, Contains, Option, None, Some, refl, sym, ap, ap₂, ◌∙◌, subst, ⊎_elim, le_of_eq, le_trans, arith}
+use Rattle.std.proofs.Common.{◌≡◌, ℕ, ◌<◌, ◌≤◌, ◌==◌, List, [], ◌∷◌, ◌++◌, length, All, Contains, Option, None, Some, refl, sym, ap, ◌∙◌, subst, ⊎_elim, le_trans, arith}
 use Rattle.std.proofs.lemmas.Bool.{cases_eq, cases_lt}
-use Rattle.std.proofs.lemmas.List.{append-nil, length-append, length_push, get_or_append_left, get_or_push}
-use Rattle.std.proofs.lemmas.List.Elements.{All-nil, All-push, All-weaker, All-contains, All-filter}
-use Rattle.std.proofs.lemmas.List.Quantifiers.{all_pairs_push}
+use Rattle.std.proofs.lemmas.List.{length_push, get_or_append_left, get_or_push}
+use Rattle.std.proofs.lemmas.List.Elements.{All-push, All-weaker, All-contains, All-filter}
 use Rattle.std.proofs.lemmas.Option.{same_Some}
 use Rattle.tact_base.specs.declared.write.Write.{Write}
 use Rattle.run_model.specs.Config.{Setup}
 use Rattle.run_model.specs.Histories.{mine, last_moment, sent_in, sent_by_act, taken_by_act}
 use Rattle.run_model.specs.OwnWrites.{own, accepted_by}
-use Rattle.run_model.specs.Kept.{Keeping, keeping, keeping_after, told_have, told_cover, told_writes, have, clock, known}
+use Rattle.run_model.specs.Kept.{keeping, told_have, told_cover, have, clock, known}
 use Rattle.run_model.specs.Messages.{message_of}
-use Rattle.run_model.specs.Runs.{IsDue, IsActDue, WasSent, IsLawful}
+use Rattle.run_model.specs.Runs.{IsActDue, WasSent, IsLawful}
 use Rattle.run_model.specs.declared.entry.Act.{Act}
 use Rattle.run_model.specs.declared.entry.Act.TheVariants as act
 use Rattle.run_model.specs.declared.entry.Entry.{Entry}
 use Rattle.run_model.specs.declared.entry.Message.{Message}
-use Rattle.run_model.proofs.PartLemmas.{accepted_in, sent_by, taken_by, mine-push_same, mine-push_cases, own-push_none, own-push_some, sent_in-push_none, sent_in-push_some, keeping-push_none, keeping-push_some, last_moment-push, known-push_none, known-push_from, known-push_other}
-use Rattle.run_model.proofs.ClockLemmas.{own-le-clock, clock-le-push, clock-push_none, told-le-clock}
-use Rattle.run_model.proofs.Growth.{IsNext, Grows, Grows-history, accepted_is_next}
-use Rattle.run_model.proofs.Sound.{AreInOrder, IsInOrder, IsSoundKeeping, IsSoundTold, IsSoundMessage, HaveTheirPlaces, Sound}
+use Rattle.run_model.proofs.PartLemmas.{sent_by, taken_by, mine-push_same, mine-push_cases, own-push_none, sent_in-push_none, sent_in-push_some, keeping-push_none, keeping-push_some, last_moment-push, known-push_none, known-push_from, known-push_other}
+use Rattle.run_model.proofs.ClockLemmas.{clock-le-push, clock-push_none, told-le-clock}
+use Rattle.run_model.proofs.Growth.{Grows, Grows-history}
+use Rattle.run_model.proofs.Sound.{IsInOrder, IsSoundKeeping, IsSoundTold, IsSoundMessage, HaveTheirPlaces, Sound}
+use Rattle.run_model.proofs.SoundOwn.{IsInOrder-push}
 use Rattle.run_model.proofs.SoundKeeping.{IsSoundKeeping-grows, IsSoundKeeping-after}
 use Rattle.run_model.proofs.SoundMessages.{IsSoundTold-grows, IsSoundMessage-grows, IsSoundMessage-sent}
-
--- one more write, later than those before it
-AreInOrder-push : (replica : ℕ) (writes : List Write) (write : Write) → write.origin ≡ replica → write.index ≡ length writes → All (λ (earlier : Write). earlier.stamp < write.stamp) writes → All (λ (earlier : Write). earlier.moment ≤ write.moment) writes → 1 ≤ write.stamp
-    → AreInOrder replica writes → AreInOrder replica (writes ++ write ∷ [])
-AreInOrder-push replica writes write origin index above after least in_order = record {
-  origins = All-push (λ (w : Write). w.origin ≡ replica) writes write in_order.origins origin;
-  indices = λ place d within. ⊎_elim
-  (λ (earlier : place < length writes). rw (get_or_append_left writes (write ∷ []) d place earlier) (in_order.indices place d earlier))
-  (λ (last : length writes ≤ place).
-  let at : length writes ≡ place = omega (arith, length_push writes write) in
-  ap (λ (w : Write). w.index) (get_or_push writes write d place at) ∙ index ∙ at)
-  (cases_lt place (length writes));
-  stamps = all_pairs_push (λ (one other : Write). one.stamp < other.stamp) writes write in_order.stamps above;
-  moments = all_pairs_push (λ (one other : Write). one.moment ≤ other.moment) writes write in_order.moments after;
-  stamps_least = All-push (λ (w : Write). 1 ≤ w.stamp) writes write in_order.stamps_least least;
-}
 
 -- one more message, with its place
 HaveTheirPlaces-push : (messages : List Message) (message : Message) → HaveTheirPlaces messages → message.number ≡ length messages → HaveTheirPlaces (messages ++ message ∷ [])
@@ -47,38 +31,6 @@ HaveTheirPlaces-push messages message numbered is place d within = ⊎_elim
     let at : length messages ≡ place = omega (arith, length_push messages message) in
     ap (λ (m : Message). m.number) (get_or_push messages message d place at) ∙ is ∙ at)
     (cases_lt place (length messages))
-
--- One more entry of a part.
-module _ (setup : Setup) (part : List Entry) (entry : Entry) (due : IsDue setup part entry) (sound : IsInOrder entry.replica part) where
-  writes-push : (accepted : Option Write) → accepted_in entry ≡ accepted → AreInOrder entry.replica (own (part ++ entry ∷ []))
-  writes-push None none = subst (AreInOrder entry.replica) (sym (own-push_none part entry none)) sound.writes
-  writes-push (Some write) some =
-      let next = accepted_is_next setup part entry write due some in
-      subst (AreInOrder entry.replica) (sym (own-push_some part entry write some))
-      (AreInOrder-push entry.replica (own part) write next.origin next.index
-      (All-weaker (λ (w : Write). w.stamp ≤ clock part) (λ (w : Write). w.stamp < write.stamp) (λ w below. omega (arith, below, next.stamp)) (own part) sound.stamps_most)
-      (All-weaker (λ (w : Write). w.moment ≤ last_moment part) (λ (w : Write). w.moment ≤ write.moment) (λ w before. omega (arith, before, next.moment, due.moment)) (own part) sound.moments_most)
-      (omega (arith, next.stamp)) sound.writes)
-
-  moments-push : (accepted : Option Write) → accepted_in entry ≡ accepted → All (λ (write : Write). write.moment ≤ entry.moment) (own (part ++ entry ∷ []))
-  moments-push accepted is =
-      let IsBefore = λ (write : Write). write.moment ≤ entry.moment in
-      let before : All IsBefore (own part) =
-      All-weaker (λ (w : Write). w.moment ≤ last_moment part) IsBefore (λ w before. omega (arith, before, due.moment)) (own part) sound.moments_most in
-      go accepted is before
-    where
-      go : (accepted : Option Write) → accepted_in entry ≡ accepted → All (λ (write : Write). write.moment ≤ entry.moment) (own part) → All (λ (write : Write). write.moment ≤ entry.moment) (own (part ++ entry ∷ []))
-      go None none before = subst (All (λ (write : Write). write.moment ≤ entry.moment)) (sym (own-push_none part entry none)) before
-      go (Some write) some before =
-          subst (All (λ (write : Write). write.moment ≤ entry.moment)) (sym (own-push_some part entry write some))
-          (All-push (λ (write : Write). write.moment ≤ entry.moment) (own part) write before (le_of_eq (accepted_is_next setup part entry write due some).moment))
-
-  pub IsInOrder-push : IsInOrder entry.replica (part ++ entry ∷ [])
-  IsInOrder-push = record {
-    writes = writes-push (accepted_in entry) refl;
-    stamps_most = own-le-clock (part ++ entry ∷ []);
-    moments_most = subst (λ last. All (λ (write : Write). write.moment ≤ last) (own (part ++ entry ∷ []))) (sym (last_moment-push part entry)) (moments-push (accepted_in entry) refl);
-  }
 
 -- what a sent message is, and that its act neither accepts nor takes
 pub record IsSent (setup : Setup) (replica : ℕ) (part : List Entry) (at : ℕ) (done : Act) (message : Message) : Type 0 where

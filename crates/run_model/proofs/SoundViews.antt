@@ -1,17 +1,16 @@
 -- What a sound history says of the logs and the covers of a replica, its own among them.
-use Rattle.std.proofs.Common.{◌≡◌, ℕ, ◌+◌, ◌<◌, ◌≤◌, ◌==◌, Bool, true, false, cond, List, [], ◌∷◌, ◌++◌, length, get_or, All, refl, sym, ap, ◌∙◌, subst, ⊎_elim, le_of_eq, arith}
+use Rattle.std.proofs.Common.{◌≡◌, ℕ, ◌≤◌, cond, List, length, All, refl, ap, ⊎_elim, arith}
 use Rattle.std.proofs.lemmas.Bool.{cases_eq, eq-eqb, ne_eqb}
-use Rattle.std.proofs.lemmas.List.Elements.{All-weaker}
 use Rattle.tact_base.specs.declared.write.Cover.{Cover}
 use Rattle.tact_base.specs.declared.write.Write.{Write}
 use Rattle.run_model.specs.Config.{Setup}
 use Rattle.run_model.specs.Histories.{mine, last_moment, IsPrefix}
 use Rattle.run_model.specs.OwnWrites.{own}
-use Rattle.run_model.specs.Kept.{Keeping, keeping, log_of, have, clock, cover_of}
+use Rattle.run_model.specs.Kept.{keeping, log_of, have, clock, cover_of}
 use Rattle.run_model.specs.declared.entry.Entry.{Entry}
 use Rattle.run_model.proofs.PrefixLemmas.{IsPrefix-same, IsPrefix-length, IsPrefix-All}
-use Rattle.run_model.proofs.Growth.{log_of-same, log_of-other}
-use Rattle.run_model.proofs.Sound.{IsInOrder, Vouches, IsSoundKeeping, Sound}
+use Rattle.run_model.proofs.Accepted.{log_of-same, log_of-other}
+use Rattle.run_model.proofs.Sound.{IsInOrder, Vouches, Sound}
 
 -- the cover that a replica tells of itself, and of another
 abbrev pub own_cover : List Entry → ℕ → Cover

@@ -10,5 +10,4 @@ ghost use Rattle.run_model.specs.declared.entry.Entry.{Entry};
 /// at any two times, one is a prefix of the other.
 pub fn runs_agree()
     ensures { (setup : Setup) (history : List Entry) → IsRun setup history → IsAgreed setup history }
-{
-}
+{}

@@ -1,6 +1,7 @@
 pub mod NumbersLemmas
 pub mod TokenLemmas
 pub mod ListLemmas
+pub mod KeepingLemmas
 pub mod ElementLemmas
 pub mod CompareLemmas
 pub mod OrderLemmas
