@@ -13,3 +13,4 @@ pub mod Reference
 pub mod Promises
 pub mod Call
 pub mod Text
+pub mod ScriptRuns
