@@ -13,3 +13,4 @@ pub mod SoundMessages
 pub mod SoundStep
 pub mod SoundRuns
 pub mod Agreement
+pub mod WorkedRun

@@ -1,5 +1,5 @@
 //! What a run of the project is made of: the requests of clients and the replies to them, messages,
-//! entries, the setup that all of it is made for, and the text of each.
+//! entries, the setup that all of it is made for, the text of each, and what is true of every run.
 #![tactic(auto)]
 
 mod call;
