@@ -10,3 +10,4 @@ pub mod OrderSums
 pub mod ConitListLemmas
 pub mod SumsLemmas
 pub mod CoversLemmas
+pub mod LogsLemmas

@@ -7,3 +7,4 @@ pub mod Logs
 pub mod Covers
 pub mod Shares
 pub mod Admission
+pub mod Roomy

@@ -8,6 +8,7 @@ mod items;
 mod laws;
 mod limits;
 mod numbers;
+mod roomy_list;
 mod slowest;
 mod sums;
 #[cfg(test)]
@@ -27,6 +28,7 @@ pub use limits::{
     MESSAGE_WRITES, MOMENT_MAX, REPLICAS_MAX, REPLICAS_MIN, STAMP_MAX, VALUE_MAX, WEIGHT_MAX,
 };
 pub use numbers::{NumberFault, print_number, print_signed, read_number};
+pub use roomy_list::RoomyList;
 pub use slowest::{Slowest, slowest_of};
 pub use sums::sum_on;
 pub use tokens::{TokenFault, whole_number, whole_signed};

@@ -1,0 +1,99 @@
+ghost use Rattle.std.specs.Prelude.{◌≡◌, ◌+◌, ◌<◌, ◌≤◌, [], ◌∷◌, ◌++◌, OnOk, OnErr, IsOk, length, insert};
+
+use crate::NoMemory;
+use std::alloc::Global;
+use std::marker::Model;
+
+/// A list whose memory can be taken ahead: while there is room, an item is put in without any. Contracts
+/// see the items and the room, the number of items that can surely still be put in.
+#[derive(Debug, Drop)]
+pub struct RoomyList<T> {
+    items: Vec<T>,
+}
+
+impl<T> Model for RoomyList<T> {
+    ghost use Rattle.std.specs.Prelude.{◌-◌, vec_len};
+    ghost use Rattle.std.specs.Vec.{vec_capacity};
+    ghost use Rattle.tact_base.specs.Roomy.{Roomy};
+
+    ghost Value = { Roomy T };
+
+    ghost view = { λ list. record {
+      items = list.items.items;
+      room = vec_capacity list.items - vec_len list.items;
+    } };
+}
+
+impl<T> RoomyList<T> {
+    /// The empty list without room, whose items will lie in memory of `alloc`. Takes no memory.
+    pub fn new(alloc: Global) -> Self
+        ensures { result.items ≡ [] }
+    {
+        RoomyList {
+            items: Vec::new(alloc),
+        }
+    }
+
+    /// The items, in order.
+    pub fn items(&self) -> &[T]
+        ensures { result.now ≡ self.now.items }
+    {
+        &self.items
+    }
+
+    /// Makes room for at least `count` more items, without memory where there is so much. `NoMemory`
+    /// leaves the list as it was.
+    pub fn reserve(&mut self, count: u64) -> Result<(), NoMemory>
+        ensures items { self.new.items ≡ self.old.items }
+        ensures kept { self.old.room ≤ self.new.room }
+        ensures ok { OnOk result (count ≤ self.new.room) }
+        ensures enough { count ≤ self.old.room → IsOk result }
+        ensures err { OnErr result (self.new ≡ self.old) }
+    {
+        self.items.reserve(count as usize)?;
+        Ok(())
+    }
+}
+
+impl<T: Drop> RoomyList<T> {
+    /// Appends an item. Takes no memory.
+    pub fn push(&mut self, item: T)
+        requires { 0 < self.old.room }
+        ensures items { self.new.items ≡ self.old.items ++ item ∷ [] }
+        ensures room { self.old.room ≤ self.new.room + 1 }
+    {
+        if self.items.push(item).is_err() {
+            unreachable!();
+        }
+    }
+
+    /// Puts an item before the one at `place`. Takes no memory.
+    pub fn insert(&mut self, place: usize, item: T)
+        requires place { place ≤ length self.old.items }
+        requires room { 0 < self.old.room }
+        ensures items { self.new.items ≡ insert self.old.items place item }
+        ensures room { self.old.room ≤ self.new.room + 1 }
+    {
+        if self.items.insert(place, item).is_err() {
+            unreachable!();
+        }
+    }
+}
+
+impl<T: Clone> RoomyList<T> {
+    /// Appends copies of items whose clones never fail and are equal to them. Takes no memory.
+    pub fn append(&mut self, items: &[T])
+        requires room { length items.now ≤ self.old.room }
+        requires sure { (x : T) → T.is_infallible x }
+        requires exact { (x y : T) → T.is_clone x y → y ≡ x }
+        ensures items { self.new.items ≡ self.old.items ++ items.now }
+        ensures room { self.old.room ≤ self.new.room + length items.now }
+    {
+        for item in items {
+            match item.clone() {
+                Ok(copy) => self.push(copy),
+                Err(_) => unreachable!(),
+            }
+        }
+    }
+}
