@@ -14,3 +14,4 @@ pub mod Promises
 pub mod Call
 pub mod Text
 pub mod ScriptRuns
+pub mod Worked

@@ -12,6 +12,7 @@ mod script_line;
 mod status;
 mod text;
 mod tokens;
+mod worked;
 
 pub use call::{Reply, Request, Sums};
 pub use cause::Cause;
@@ -22,3 +23,4 @@ pub use laws::runs_agree;
 pub use script_line::Line;
 pub use status::{ByteKind, InputKind, LineKind, LoadKind, Status, UsageKind};
 pub use text::line_of;
+pub use worked::worked_scripts;
