@@ -1,5 +1,5 @@
 -- The least stamp over covers, and the least replica that has it.
-use Rattle.std.proofs.Common.{◌≡◌, ℕ, ◌+◌, ◌<◌, ◌≤◌, min, suc, zero, Bool, true, false, ltb, ◌==◌, List, [], ◌∷◌, length, get_or, map, fold, refl, sym, arith}
+use Rattle.std.proofs.Common.{◌≡◌, ℕ, ◌<◌, ◌≤◌, min, suc, zero, ltb, ◌==◌, List, [], ◌∷◌, length, get_or, map, fold, arith}
 use Rattle.std.specs.List.{IsFirstBest}
 use Rattle.std.proofs.lemmas.List.{get_or-map, length-map}
 use Rattle.std.proofs.lemmas.List.Sums.{position_or_len_is}

@@ -1,5 +1,5 @@
 -- A log after told writes.
-use Rattle.std.proofs.Common.{◌≡◌, ℕ, ◌-◌, ◌<◌, ◌≤◌, min, List, ◌++◌, length, take, drop, cond, ap, ◌∙◌, sym, refl}
+use Rattle.std.proofs.Common.{◌≡◌, ℕ, ◌-◌, ◌<◌, ◌≤◌, min, List, ◌++◌, length, take, drop, ap, ◌∙◌, sym, refl}
 use Rattle.std.proofs.lemmas.List.{take_rest, drop_min}
 use Rattle.std.proofs.lemmas.Bool.{le-leb, lt-leb}
 use Rattle.tact_base.specs.Logs.{log_after}

@@ -1,5 +1,5 @@
 -- Whether a read is admitted, need by need (after the three errors of Yu and Vahdat's conits).
-use Rattle.std.specs.Prelude.{ℕ, ◌+◌, ◌-◌, ◌*◌, nat_lt, List, length, sum, slice_index, Option, None, Some, if◌then◌else◌}
+use Rattle.std.specs.Prelude.{ℕ, ◌-◌, ◌*◌, nat_lt, List, length, sum, slice_index, Option, Some, if◌then◌else◌}
 use Rattle.std.specs.List.{position_or_len}
 use Rattle.std.specs.Option.{option_map}
 use Rattle.tact_base.specs.declared.conit_list.Need.{Need}

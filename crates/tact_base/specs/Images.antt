@@ -1,5 +1,5 @@
 -- What keys hold after operations: the fold of the operations, in order, from the empty image.
-use Rattle.std.specs.Prelude.{ℕ, ◌+◌, Bool, ℤ, pos, negsuc, ◌+ℤ◌, ◌-ℤ◌, ◌==◌, not, ◌&&◌, int_le, List, [], ◌∷◌, map, fold, if◌then◌else◌}
+use Rattle.std.specs.Prelude.{ℕ, Bool, ℤ, pos, ◌+ℤ◌, ◌-ℤ◌, ◌==◌, not, ◌&&◌, int_le, List, map, fold, if◌then◌else◌}
 use Rattle.std.specs.Int.{int_min, int_max}
 use Rattle.tact_base.specs.declared.limits.TheConstants.{VALUE_MAX}
 use Rattle.tact_base.specs.declared.write.Op.{Op}

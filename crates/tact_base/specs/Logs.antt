@@ -1,5 +1,5 @@
 -- The log of an origin's writes at a replica, as anti-entropy extends it.
-use Rattle.std.specs.Prelude.{ℕ, ◌-◌, Bool, nat_le, List, ◌++◌, length, drop, if◌then◌else◌}
+use Rattle.std.specs.Prelude.{ℕ, ◌-◌, nat_le, List, ◌++◌, length, drop, if◌then◌else◌}
 
 -- A log after told writes of its origin, which begin at the index `first`: those that it lacks are added,
 -- unless they begin past its end, which would leave a gap.
