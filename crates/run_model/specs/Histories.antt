@@ -1,9 +1,9 @@
 -- Histories and parts: what happened, in order, and what one replica did of it.
-use Rattle.std.specs.Prelude.{◌≡◌, ℕ, ◌==◌, Bool, false, not, max, List, [], ◌∷◌, ◌++◌, filter, fold, length, map, Option, None, Some}
+use Rattle.std.specs.Prelude.{◌≡◌, ℕ, ◌==◌, Bool, false, not, max, List, ◌∷◌, ◌++◌, filter, fold, length, Option, None, Some}
 use Rattle.std.specs.List.{filter_map, range_with_len}
 use Rattle.run_model.specs.Config.{Setup}
 use Rattle.run_model.specs.declared.entry.Act.{Act}
-use Rattle.run_model.specs.declared.entry.Act.TheVariants.{Call, Send, Take, Lend, Back, Restart}
+use Rattle.run_model.specs.declared.entry.Act.TheVariants.{Call, Send, Take}
 use Rattle.run_model.specs.declared.entry.Entry.{Entry}
 use Rattle.run_model.specs.declared.entry.Message.{Message}
 

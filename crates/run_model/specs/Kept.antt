@@ -1,5 +1,5 @@
 -- What a replica keeps of each origin: its log and its cover (anti-entropy after Golding, with this project's `Cover`).
-use Rattle.std.specs.Prelude.{ℕ, ◌==◌, max, List, [], ◌∷◌, filter, map, fold, length, slice_index, slice_index_or, if◌then◌else◌}
+use Rattle.std.specs.Prelude.{ℕ, ◌==◌, max, List, [], filter, map, fold, length, slice_index, slice_index_or, if◌then◌else◌}
 use Rattle.std.specs.List.{flat_map}
 use Rattle.tact_base.specs.Logs.{log_after}
 use Rattle.tact_base.specs.Covers.{no_cover, cover_after}
@@ -10,7 +10,6 @@ use Rattle.run_model.specs.Histories.{replicas_of, taken_in, taken_from, greates
 use Rattle.run_model.specs.OwnWrites.{own}
 use Rattle.run_model.specs.declared.entry.Entry.{Entry}
 use Rattle.run_model.specs.declared.entry.Message.{Message}
-
 
 -- what a message tells of an origin: how many of its writes the sender has, its cover, the index of the first told write, the told writes
 abbrev pub told_have : Message → ℕ → ℕ

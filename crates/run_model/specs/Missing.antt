@@ -1,5 +1,5 @@
 -- What a peer may miss of a replica's writes, and what is reserved (this project's own rules).
-use Rattle.std.specs.Prelude.{ℕ, ◌-◌, ◌+◌, ◌==◌, ◌&&◌, max, nat_le, unsigned_abs, List, filter, sum_by, if◌then◌else◌}
+use Rattle.std.specs.Prelude.{ℕ, ◌-◌, ◌==◌, max, nat_le, unsigned_abs, List, filter, sum_by, if◌then◌else◌}
 use Rattle.tact_base.specs.Sums.{plus_sum, minus_sum}
 use Rattle.tact_base.specs.declared.write.Write.{Write}
 use Rattle.run_model.specs.OwnWrites.{own}

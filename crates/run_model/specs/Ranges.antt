@@ -5,12 +5,11 @@ use Rattle.tact_base.specs.ConitList.{IsConitList}
 use Rattle.tact_base.specs.declared.limits.TheConstants.{CLIENTS, WEIGHT_MAX, AMOUNT_MAX, KEY_MAX, VALUE_MAX, MOMENT_MAX, STAMP_MAX, LENT_MAX, HISTORY_MAX, MESSAGE_WRITES}
 use Rattle.tact_base.specs.declared.conit_list.Need.{Need}
 use Rattle.tact_base.specs.declared.conit_list.Weight.{Weight}
-use Rattle.tact_base.specs.declared.write.Cover.{Cover}
 use Rattle.tact_base.specs.declared.write.Op.{Op}
 use Rattle.tact_base.specs.declared.write.Op.TheVariants as op
 use Rattle.tact_base.specs.declared.write.Write.{Write}
 use Rattle.run_model.specs.Config.{Setup}
-use Rattle.run_model.specs.Histories.{replicas_of, conits_of}
+use Rattle.run_model.specs.Histories.{replicas_of}
 use Rattle.run_model.specs.Kept.{told_have, told_cover, told_first, told_writes}
 use Rattle.run_model.specs.declared.call.Request.{Request}
 use Rattle.run_model.specs.declared.call.Request.TheVariants as request

@@ -1,5 +1,5 @@
 -- What is true of a whole history, and how far from it a replica is (the three errors after Yu and Vahdat's conits).
-use Rattle.std.specs.Prelude.{◌≡◌, ◌≢◌, ℕ, ◌-◌, ◌<◌, ℤ, ◌-ℤ◌, unsigned_abs, List, [], ◌∷◌, ◌++◌, filter, map, nat_le, Any}
+use Rattle.std.specs.Prelude.{ℕ, ◌-◌, ◌<◌, ℤ, ◌-ℤ◌, unsigned_abs, List, [], ◌∷◌, filter, map, nat_le, Any}
 use Rattle.std.specs.List.{flat_map}
 use Rattle.tact_base.specs.Covers.{least_of}
 use Rattle.tact_base.specs.Sums.{net_sum, order_sum}

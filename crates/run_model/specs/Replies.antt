@@ -1,7 +1,7 @@
 -- The reply that is due to a request: the first case that applies.
-use Rattle.std.specs.Prelude.{ℕ, ◌+◌, ◌==◌, Bool, nat_lt, ℤ, pos, negsuc, unsigned_abs, List, [], ◌∷◌, map, slice_get, Option, None, Some, if◌then◌else◌}
-use Rattle.std.specs.List.{filter_map, flat_map}
-use Rattle.std.specs.Option.{option_or, option_map, option_map_or}
+use Rattle.std.specs.Prelude.{ℕ, ◌+◌, ◌==◌, nat_lt, ℤ, pos, negsuc, unsigned_abs, List, map, slice_get, Option, None, Some, if◌then◌else◌}
+use Rattle.std.specs.List.{filter_map}
+use Rattle.std.specs.Option.{option_map}
 use Rattle.std.specs.Prelude.{unwrap_or}
 use Rattle.tact_base.specs.Admission.{Hindrance, lent as too_much_lent, unordered, stale, hindrance, wanted_moment}
 use Rattle.tact_base.specs.Covers.{slowest, first_late}
@@ -11,7 +11,6 @@ use Rattle.tact_base.specs.declared.conit_list.Need.{Need}
 use Rattle.tact_base.specs.declared.conit_list.Weight.{Weight}
 use Rattle.run_model.specs.Config.{Setup}
 use Rattle.run_model.specs.Histories.{replicas_of, peers_of}
-use Rattle.run_model.specs.OwnWrites.{own}
 use Rattle.run_model.specs.Kept.{have, clock, covers_of}
 use Rattle.run_model.specs.Missing.{missing_plus, missing_minus, greater_missing, reserved}
 use Rattle.run_model.specs.Loans.{share, out}
@@ -66,7 +65,7 @@ abbrev pub need_refusal : Setup → ℕ → List Entry → ℕ → Need → Opti
 need_refusal setup replica part moment need =
     option_map (waiting_by need moment)
     (hindrance need (outs_of setup replica part need.conit) (order_sum (tentative setup replica part) need.conit)
-        (slowest (covers_of setup replica part moment)) (first_late (covers_of setup replica part moment) replica (wanted_moment moment need)))
+    (slowest (covers_of setup replica part moment)) (first_late (covers_of setup replica part moment) replica (wanted_moment moment need)))
 
 -- the reply to a request that is made of a part's replica at a moment
 abbrev pub reply_of : Setup → ℕ → List Entry → ℕ → Request → Reply

@@ -47,7 +47,7 @@ pub record Fits (setup : Setup) (replica : ℕ) (part : List Entry) (message : M
   pub returned : (conit : ℕ) → conit < setup.conits → slice_index message.returned conit ≤ lent setup replica part message.from conit
   -- what is added stands above the point and at most at the stamp of the sender
   pub stamps : (origin : ℕ) → origin < setup.replicas → told_first message origin ≤ have replica part origin
-    → All (λ (write : Write). (point setup replica part < write.stamp) × (write.stamp ≤ (told_cover message message.from).stamp)) (added replica part message origin)
+      → All (λ (write : Write). (point setup replica part < write.stamp) × (write.stamp ≤ (told_cover message message.from).stamp)) (added replica part message origin)
 
 -- a part that can be: each entry is due after those before it, and each taken message fits there
 abbrev pub FitsIfTaken : Setup → ℕ → List Entry → Act → Type 0

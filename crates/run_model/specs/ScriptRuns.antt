@@ -1,8 +1,7 @@
 -- What a script means: the history that its lines make, one after another, and the text of it.
-use Rattle.std.specs.Prelude.{ℕ, ◌+◌, ◌≤◌, nat_le, ℤ, List, [], ◌∷◌, ◌++◌, length, drop, map, fold, codes, decimal, slice_get, Option, None, Some, if◌then◌else◌}
-use Rattle.std.specs.List.{flat_map, join_with_byte, last_or, filter_map}
+use Rattle.std.specs.Prelude.{ℕ, nat_le, List, [], ◌∷◌, ◌++◌, length, drop, map, fold, codes, decimal, slice_get, Option, None, Some, if◌then◌else◌}
+use Rattle.std.specs.List.{flat_map, join_with_byte, last_or}
 use Rattle.std.specs.Fmt.{signed_decimal}
-use Rattle.tact_base.specs.Admission.{wanted_moment}
 use Rattle.tact_base.specs.declared.conit_list.Need.{Need}
 use Rattle.tact_base.specs.declared.write.Write.{Write}
 use Rattle.run_model.specs.Config.{Setup}
@@ -13,7 +12,7 @@ use Rattle.run_model.specs.Messages.{message_of}
 use Rattle.run_model.specs.Order.{point, committed, tentative}
 use Rattle.run_model.specs.Reference.{reference, num_error, order_error, age}
 use Rattle.run_model.specs.Replies.{reply_of}
-use Rattle.run_model.specs.Text.{line_text, spaced, entry_text, header_text, end_text}
+use Rattle.run_model.specs.Text.{line_text, entry_text, header_text, end_text}
 use Rattle.run_model.specs.declared.call.Request.{Request}
 use Rattle.run_model.specs.declared.call.Request.TheVariants as request
 use Rattle.run_model.specs.declared.call.Reply.TheVariants as reply
@@ -107,9 +106,9 @@ abbrev pub show_text : Setup → List Entry → ℕ → List ℕ
 show_text setup history replica =
     let part = mine history replica in
     comment (codes "show" ∷ decimal replica ∷ codes "have" ∷ map (λ origin. decimal (have replica part origin)) (replicas_of setup)
-        ++ codes "clock" ∷ decimal (clock part) ∷ codes "point" ∷ decimal (point setup replica part)
-        ∷ codes "committed" ∷ decimal (length (committed setup replica part)) ∷ codes "last" ∷ place_token (last_or None (committed setup replica part))
-        ∷ codes "tentative" ∷ decimal (length (tentative setup replica part)) ∷ [])
+    ++ codes "clock" ∷ decimal (clock part) ∷ codes "point" ∷ decimal (point setup replica part)
+    ∷ codes "committed" ∷ decimal (length (committed setup replica part)) ∷ codes "last" ∷ place_token (last_or None (committed setup replica part))
+    ∷ codes "tentative" ∷ decimal (length (tentative setup replica part)) ∷ [])
 
 -- an error and its bound
 abbrev pub bounded_token : ℕ → ℕ → List ℕ
@@ -119,8 +118,8 @@ bounded_token error bound = join_with_byte 47 (decimal error ∷ decimal bound �
 abbrev pub need_text : Setup → List Entry → ℕ → ℕ → Need → List ℕ
 need_text setup history replica moment need =
     comment (codes "need" ∷ decimal need.conit ∷ codes "num" ∷ bounded_token (num_error setup history replica need.conit) need.num
-        ∷ codes "order" ∷ bounded_token (order_error setup history replica need.conit) need.order
-        ∷ codes "stale" ∷ bounded_token (age setup history replica moment) need.stale ∷ [])
+    ∷ codes "order" ∷ bounded_token (order_error setup history replica need.conit) need.order
+    ∷ codes "stale" ∷ bounded_token (age setup history replica moment) need.stale ∷ [])
 
 -- the comments on an act: one for each need of a read that was answered with a value
 abbrev pub act_comments : Setup → List Entry → ℕ → ℕ → Act → List ℕ

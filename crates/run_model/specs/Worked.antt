@@ -28,9 +28,11 @@ need conit num order stale = record { conit = conit; num = num; order = order; s
 
 -- a write over the share waits, and names the peer
 abbrev pub one_over_the_share : Setup × List Line
-one_over_the_share = (even 3 1 10 5,
-    line.Write 0 0 (op.Add 7 (pos 1)) (weight 0 (pos 5) 1 ∷ [])
-    ∷ line.Write 0 0 (op.Add 7 (pos 1)) (weight 0 (pos 1) 1 ∷ []) ∷ [])
+one_over_the_share = (
+  even 3 1 10 5,
+  line.Write 0 0 (op.Add 7 (pos 1)) (weight 0 (pos 5) 1 ∷ [])
+      ∷ line.Write 0 0 (op.Add 7 (pos 1)) (weight 0 (pos 1) 1 ∷ []) ∷ [],
+)
 
 abbrev pub one_over_the_share_text : List ℕ
 one_over_the_share_text =
@@ -40,14 +42,16 @@ one_over_the_share_text =
 
 -- after one peer has it, the wait is for the other
 abbrev pub another_peer_still_misses : Setup × List Line
-another_peer_still_misses = (even 3 1 10 5,
-    line.Write 0 0 (op.Add 7 (pos 1)) (weight 0 (pos 5) 1 ∷ [])
-    ∷ line.Write 0 0 (op.Add 7 (pos 1)) (weight 0 (pos 1) 1 ∷ [])
-    ∷ line.Send 0 1 (0 ∷ 0 ∷ 0 ∷ [])
-    ∷ line.Take 1 0 0
-    ∷ line.Send 1 0 (0 ∷ 0 ∷ 0 ∷ [])
-    ∷ line.Take 0 1 0
-    ∷ line.Write 0 0 (op.Add 7 (pos 1)) (weight 0 (pos 1) 1 ∷ []) ∷ [])
+another_peer_still_misses = (
+  even 3 1 10 5,
+  line.Write 0 0 (op.Add 7 (pos 1)) (weight 0 (pos 5) 1 ∷ [])
+      ∷ line.Write 0 0 (op.Add 7 (pos 1)) (weight 0 (pos 1) 1 ∷ [])
+      ∷ line.Send 0 1 (0 ∷ 0 ∷ 0 ∷ [])
+      ∷ line.Take 1 0 0
+      ∷ line.Send 1 0 (0 ∷ 0 ∷ 0 ∷ [])
+      ∷ line.Take 0 1 0
+      ∷ line.Write 0 0 (op.Add 7 (pos 1)) (weight 0 (pos 1) 1 ∷ []) ∷ [],
+)
 
 abbrev pub another_peer_still_misses_text : List ℕ
 another_peer_still_misses_text =
@@ -62,8 +66,10 @@ another_peer_still_misses_text =
 
 -- a weight that passes the share alone
 abbrev pub too_heavy : Setup × List Line
-too_heavy = (even 3 1 10 5,
-    line.Write 0 0 (op.Add 7 (pos 1)) (weight 0 (pos 6) 1 ∷ []) ∷ [])
+too_heavy = (
+  even 3 1 10 5,
+  line.Write 0 0 (op.Add 7 (pos 1)) (weight 0 (pos 6) 1 ∷ []) ∷ [],
+)
 
 abbrev pub too_heavy_text : List ℕ
 too_heavy_text =
@@ -72,15 +78,17 @@ too_heavy_text =
 
 -- positive and negative weights are summed apart
 abbrev pub signs : Setup × List Line
-signs = (even 3 1 10 5,
-    line.Write 0 0 (op.Add 7 (pos 1)) (weight 0 (pos 5) 1 ∷ [])
-    ∷ line.Send 0 2 (0 ∷ 0 ∷ 0 ∷ [])
-    ∷ line.Write 0 0 (op.Add 7 (pos 1)) (weight 0 (negsuc 4) 1 ∷ [])
-    ∷ line.Write 0 0 (op.Add 7 (pos 1)) (weight 0 (pos 1) 1 ∷ [])
-    ∷ line.Read 2 0 7 (need 0 10 9 9 ∷ [])
-    ∷ line.Take 2 0 0
-    ∷ line.Read 2 0 7 (need 0 10 9 9 ∷ [])
-    ∷ line.Ref 0 ∷ [])
+signs = (
+  even 3 1 10 5,
+  line.Write 0 0 (op.Add 7 (pos 1)) (weight 0 (pos 5) 1 ∷ [])
+      ∷ line.Send 0 2 (0 ∷ 0 ∷ 0 ∷ [])
+      ∷ line.Write 0 0 (op.Add 7 (pos 1)) (weight 0 (negsuc 4) 1 ∷ [])
+      ∷ line.Write 0 0 (op.Add 7 (pos 1)) (weight 0 (pos 1) 1 ∷ [])
+      ∷ line.Read 2 0 7 (need 0 10 9 9 ∷ [])
+      ∷ line.Take 2 0 0
+      ∷ line.Read 2 0 7 (need 0 10 9 9 ∷ [])
+      ∷ line.Ref 0 ∷ [],
+)
 
 abbrev pub signs_text : List ℕ
 signs_text =
@@ -98,14 +106,16 @@ signs_text =
 
 -- a message that is taken again changes nothing
 abbrev pub a_repeat : Setup × List Line
-a_repeat = (even 2 1 10 10,
-    line.Write 0 0 (op.Add 7 (pos 1)) (weight 0 (pos 5) 1 ∷ [])
-    ∷ line.Send 0 1 (0 ∷ 0 ∷ [])
-    ∷ line.Take 1 0 0
-    ∷ line.Show 1
-    ∷ line.At 3
-    ∷ line.Take 1 0 0
-    ∷ line.Show 1 ∷ [])
+a_repeat = (
+  even 2 1 10 10,
+  line.Write 0 0 (op.Add 7 (pos 1)) (weight 0 (pos 5) 1 ∷ [])
+      ∷ line.Send 0 1 (0 ∷ 0 ∷ [])
+      ∷ line.Take 1 0 0
+      ∷ line.Show 1
+      ∷ line.At 3
+      ∷ line.Take 1 0 0
+      ∷ line.Show 1 ∷ [],
+)
 
 abbrev pub a_repeat_text : List ℕ
 a_repeat_text =
@@ -119,15 +129,17 @@ a_repeat_text =
 
 -- a batch over a gap adds nothing, and its cover isn't kept
 abbrev pub a_gap : Setup × List Line
-a_gap = (even 2 1 100 100,
-    line.Write 0 0 (op.Add 7 (pos 1)) []
-    ∷ line.Send 0 1 (0 ∷ 0 ∷ [])
-    ∷ line.Write 0 0 (op.Add 7 (pos 1)) []
-    ∷ line.Write 0 0 (op.Add 7 (pos 1)) []
-    ∷ line.Send 0 1 (2 ∷ 0 ∷ [])
-    ∷ line.Take 1 0 0
-    ∷ line.Take 1 0 1
-    ∷ line.Show 1 ∷ [])
+a_gap = (
+  even 2 1 100 100,
+  line.Write 0 0 (op.Add 7 (pos 1)) []
+      ∷ line.Send 0 1 (0 ∷ 0 ∷ [])
+      ∷ line.Write 0 0 (op.Add 7 (pos 1)) []
+      ∷ line.Write 0 0 (op.Add 7 (pos 1)) []
+      ∷ line.Send 0 1 (2 ∷ 0 ∷ [])
+      ∷ line.Take 1 0 0
+      ∷ line.Take 1 0 1
+      ∷ line.Show 1 ∷ [],
+)
 
 abbrev pub a_gap_text : List ℕ
 a_gap_text =
@@ -143,15 +155,17 @@ a_gap_text =
 
 -- an acknowledgement that comes after a newer one takes nothing back
 abbrev pub an_old_acknowledgement : Setup × List Line
-an_old_acknowledgement = (even 2 1 10 10,
-    line.Write 0 0 (op.Add 7 (pos 1)) (weight 0 (pos 10) 1 ∷ [])
-    ∷ line.Send 1 0 (0 ∷ 0 ∷ [])
-    ∷ line.Send 0 1 (0 ∷ 0 ∷ [])
-    ∷ line.Take 1 0 0
-    ∷ line.Send 1 0 (0 ∷ 0 ∷ [])
-    ∷ line.Take 0 1 1
-    ∷ line.Take 0 1 0
-    ∷ line.Write 0 0 (op.Add 7 (pos 1)) (weight 0 (pos 10) 1 ∷ []) ∷ [])
+an_old_acknowledgement = (
+  even 2 1 10 10,
+  line.Write 0 0 (op.Add 7 (pos 1)) (weight 0 (pos 10) 1 ∷ [])
+      ∷ line.Send 1 0 (0 ∷ 0 ∷ [])
+      ∷ line.Send 0 1 (0 ∷ 0 ∷ [])
+      ∷ line.Take 1 0 0
+      ∷ line.Send 1 0 (0 ∷ 0 ∷ [])
+      ∷ line.Take 0 1 1
+      ∷ line.Take 0 1 0
+      ∷ line.Write 0 0 (op.Add 7 (pos 1)) (weight 0 (pos 10) 1 ∷ []) ∷ [],
+)
 
 abbrev pub an_old_acknowledgement_text : List ℕ
 an_old_acknowledgement_text =
@@ -167,14 +181,16 @@ an_old_acknowledgement_text =
 
 -- writes of one stamp are ordered by origin
 abbrev pub equal_stamps : Setup × List Line
-equal_stamps = (even 2 1 10 10,
-    line.Write 0 0 (op.Put 1 (pos 5)) []
-    ∷ line.Write 1 0 (op.Put 1 (pos 6)) []
-    ∷ line.Sync 0 1
-    ∷ line.Show 0
-    ∷ line.Show 1
-    ∷ line.Read 0 0 1 []
-    ∷ line.Read 1 0 1 [] ∷ [])
+equal_stamps = (
+  even 2 1 10 10,
+  line.Write 0 0 (op.Put 1 (pos 5)) []
+      ∷ line.Write 1 0 (op.Put 1 (pos 6)) []
+      ∷ line.Sync 0 1
+      ∷ line.Show 0
+      ∷ line.Show 1
+      ∷ line.Read 0 0 1 []
+      ∷ line.Read 1 0 1 [] ∷ [],
+)
 
 abbrev pub equal_stamps_text : List ℕ
 equal_stamps_text =
@@ -192,13 +208,15 @@ equal_stamps_text =
 
 -- an earlier write that comes later is applied before
 abbrev pub rollback : Setup × List Line
-rollback = (even 3 1 10 5,
-    line.Write 0 0 (op.Add 1 (pos 5)) []
-    ∷ line.Write 1 0 (op.Shift 1 2 5) []
-    ∷ line.Read 1 0 2 []
-    ∷ line.Send 0 1 (0 ∷ 0 ∷ 0 ∷ [])
-    ∷ line.Take 1 0 0
-    ∷ line.Read 1 0 2 [] ∷ [])
+rollback = (
+  even 3 1 10 5,
+  line.Write 0 0 (op.Add 1 (pos 5)) []
+      ∷ line.Write 1 0 (op.Shift 1 2 5) []
+      ∷ line.Read 1 0 2 []
+      ∷ line.Send 0 1 (0 ∷ 0 ∷ 0 ∷ [])
+      ∷ line.Take 1 0 0
+      ∷ line.Read 1 0 2 [] ∷ [],
+)
 
 abbrev pub rollback_text : List ℕ
 rollback_text =
@@ -212,10 +230,12 @@ rollback_text =
 
 -- tentative order weight at its bound and past it
 abbrev pub order_bound : Setup × List Line
-order_bound = (even 3 1 10 5,
-    line.Write 0 0 (op.Add 1 (pos 1)) (weight 0 (pos 1) 4 ∷ [])
-    ∷ line.Read 0 0 1 (need 0 10 4 0 ∷ [])
-    ∷ line.Read 0 0 1 (need 0 10 3 0 ∷ []) ∷ [])
+order_bound = (
+  even 3 1 10 5,
+  line.Write 0 0 (op.Add 1 (pos 1)) (weight 0 (pos 1) 4 ∷ [])
+      ∷ line.Read 0 0 1 (need 0 10 4 0 ∷ [])
+      ∷ line.Read 0 0 1 (need 0 10 3 0 ∷ []) ∷ [],
+)
 
 abbrev pub order_bound_text : List ℕ
 order_bound_text =
@@ -227,15 +247,17 @@ order_bound_text =
 
 -- a cover at the wanted moment and before it
 abbrev pub staleness : Setup × List Line
-staleness = (even 2 1 10 10,
-    line.At 5
-    ∷ line.Read 0 0 1 (need 0 10 0 9 ∷ [])
-    ∷ line.At 100
-    ∷ line.Send 1 0 (0 ∷ 0 ∷ [])
-    ∷ line.Take 0 1 0
-    ∷ line.At 110
-    ∷ line.Read 0 0 1 (need 0 10 0 10 ∷ [])
-    ∷ line.Read 0 0 1 (need 0 10 0 9 ∷ []) ∷ [])
+staleness = (
+  even 2 1 10 10,
+  line.At 5
+      ∷ line.Read 0 0 1 (need 0 10 0 9 ∷ [])
+      ∷ line.At 100
+      ∷ line.Send 1 0 (0 ∷ 0 ∷ [])
+      ∷ line.Take 0 1 0
+      ∷ line.At 110
+      ∷ line.Read 0 0 1 (need 0 10 0 10 ∷ [])
+      ∷ line.Read 0 0 1 (need 0 10 0 9 ∷ []) ∷ [],
+)
 
 abbrev pub staleness_text : List ℕ
 staleness_text =
@@ -250,14 +272,16 @@ staleness_text =
 
 -- a return counts once it is told, by whichever message
 abbrev pub a_lost_return : Setup × List Line
-a_lost_return = (even 3 1 10 5,
-    line.Read 0 0 1 (need 0 9 0 0 ∷ [])
-    ∷ line.Back 1 0 0 1
-    ∷ line.Send 1 0 (0 ∷ 0 ∷ 0 ∷ [])
-    ∷ line.Read 0 0 1 (need 0 9 0 0 ∷ [])
-    ∷ line.Send 1 0 (0 ∷ 0 ∷ 0 ∷ [])
-    ∷ line.Take 0 1 1
-    ∷ line.Read 0 0 1 (need 0 9 0 0 ∷ []) ∷ [])
+a_lost_return = (
+  even 3 1 10 5,
+  line.Read 0 0 1 (need 0 9 0 0 ∷ [])
+      ∷ line.Back 1 0 0 1
+      ∷ line.Send 1 0 (0 ∷ 0 ∷ 0 ∷ [])
+      ∷ line.Read 0 0 1 (need 0 9 0 0 ∷ [])
+      ∷ line.Send 1 0 (0 ∷ 0 ∷ 0 ∷ [])
+      ∷ line.Take 0 1 1
+      ∷ line.Read 0 0 1 (need 0 9 0 0 ∷ []) ∷ [],
+)
 
 abbrev pub a_lost_return_text : List ℕ
 a_lost_return_text =
@@ -273,11 +297,13 @@ a_lost_return_text =
 
 -- loans and returns over their limits make no entry
 abbrev pub loans : Setup × List Line
-loans = (even 2 1 10 4,
-    line.Lend 0 1 0 7
-    ∷ line.Lend 0 1 0 6
-    ∷ line.Lend 0 1 0 1
-    ∷ line.Back 1 0 0 5 ∷ [])
+loans = (
+  even 2 1 10 4,
+  line.Lend 0 1 0 7
+      ∷ line.Lend 0 1 0 6
+      ∷ line.Lend 0 1 0 1
+      ∷ line.Back 1 0 0 5 ∷ [],
+)
 
 abbrev pub loans_text : List ℕ
 loans_text =
@@ -289,13 +315,15 @@ loans_text =
 
 -- what is reserved is kept, spent and given back
 abbrev pub allowances : Setup × List Line
-allowances = (even 2 1 10 10,
-    line.Reserve 0 0 0 10
-    ∷ line.Write 0 0 (op.Add 7 (pos 1)) (weight 0 (pos 1) 1 ∷ [])
-    ∷ line.Held 0 0 (op.Add 7 (pos 1)) (weight 0 (pos 10) 1)
-    ∷ line.Write 0 0 (op.Add 7 (pos 1)) (weight 0 (pos 1) 1 ∷ [])
-    ∷ line.Held 0 0 (op.Add 7 (pos 1)) (weight 0 (pos 1) 1)
-    ∷ line.Release 0 0 0 1 ∷ [])
+allowances = (
+  even 2 1 10 10,
+  line.Reserve 0 0 0 10
+      ∷ line.Write 0 0 (op.Add 7 (pos 1)) (weight 0 (pos 1) 1 ∷ [])
+      ∷ line.Held 0 0 (op.Add 7 (pos 1)) (weight 0 (pos 10) 1)
+      ∷ line.Write 0 0 (op.Add 7 (pos 1)) (weight 0 (pos 1) 1 ∷ [])
+      ∷ line.Held 0 0 (op.Add 7 (pos 1)) (weight 0 (pos 1) 1)
+      ∷ line.Release 0 0 0 1 ∷ [],
+)
 
 abbrev pub allowances_text : List ℕ
 allowances_text =
@@ -309,9 +337,11 @@ allowances_text =
 
 -- what is lent at the opening bounds a read
 abbrev pub admission_of_one_replica : Setup × List Line
-admission_of_one_replica = (even 3 1 10 5,
-    line.Read 1 0 1 (need 0 9 0 0 ∷ [])
-    ∷ line.Read 1 0 1 (need 0 10 0 0 ∷ []) ∷ [])
+admission_of_one_replica = (
+  even 3 1 10 5,
+  line.Read 1 0 1 (need 0 9 0 0 ∷ [])
+      ∷ line.Read 1 0 1 (need 0 10 0 0 ∷ []) ∷ [],
+)
 
 abbrev pub admission_of_one_replica_text : List ℕ
 admission_of_one_replica_text =
@@ -322,12 +352,14 @@ admission_of_one_replica_text =
 
 -- a restart changes nothing but the count of entries
 abbrev pub restarts : Setup × List Line
-restarts = (even 2 1 0 0,
-    line.At 5
-    ∷ line.Restart 0
-    ∷ line.At 4
-    ∷ line.Restart 0
-    ∷ line.Show 0 ∷ [])
+restarts = (
+  even 2 1 0 0,
+  line.At 5
+      ∷ line.Restart 0
+      ∷ line.At 4
+      ∷ line.Restart 0
+      ∷ line.Show 0 ∷ [],
+)
 
 abbrev pub restarts_text : List ℕ
 restarts_text =

@@ -21,5 +21,4 @@ pub fn worked_scripts()
     ensures allowances { text_of allowances ≡ allowances_text }
     ensures admission_of_one_replica { text_of admission_of_one_replica ≡ admission_of_one_replica_text }
     ensures restarts { text_of restarts ≡ restarts_text }
-{
-}
+{}
