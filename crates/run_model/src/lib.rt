@@ -23,4 +23,5 @@ pub use laws::runs_agree;
 pub use script_line::Line;
 pub use status::{ByteKind, InputKind, LineKind, LoadKind, Status, UsageKind};
 pub use text::line_of;
+pub use tokens::{all_or_nothing, put_number, put_row, put_token};
 pub use worked::worked_scripts;

@@ -7,8 +7,8 @@ ghost use Rattle.run_model.specs.Text.{spaced, BeginsWith};
 
 use tact_base::{Bytes, NoMemory, print_number, print_signed};
 
-// Hands on how appending to `out` ended, and takes back what was appended since `start` if it failed.
-pub(crate) fn all_or_nothing(
+/// Hands on how appending to `out` ended, and takes back what was appended since `start` if it failed.
+pub fn all_or_nothing(
     done: Result<(), NoMemory>,
     start: usize,
     out: &mut Bytes,
@@ -23,7 +23,8 @@ pub(crate) fn all_or_nothing(
     done
 }
 
-pub(crate) fn put_row(word: &[u8], numbers: &[u64], out: &mut Bytes) -> Result<(), NoMemory>
+/// Appends a word and numbers, with a space before each.
+pub fn put_row(word: &[u8], numbers: &[u64], out: &mut Bytes) -> Result<(), NoMemory>
     ensures ok { OnOk result (out.new ≡ out.old ++ spaced (word.now ∷ map decimal numbers.now)) }
     ensures err { OnErr result (BeginsWith out.old out.new) }
 {
@@ -67,7 +68,8 @@ pub(crate) fn put_sums(sums: &[i64], out: &mut Bytes) -> Result<(), NoMemory>
     Ok(())
 }
 
-pub(crate) fn put_token(token: &[u8], out: &mut Bytes) -> Result<(), NoMemory>
+/// Appends a token with a space before it.
+pub fn put_token(token: &[u8], out: &mut Bytes) -> Result<(), NoMemory>
     ensures ok { OnOk result (out.new ≡ out.old ++ spaced (token.now ∷ [])) }
     ensures err { OnErr result (BeginsWith out.old out.new) }
 {
@@ -75,7 +77,8 @@ pub(crate) fn put_token(token: &[u8], out: &mut Bytes) -> Result<(), NoMemory>
     out.append(token)
 }
 
-pub(crate) fn put_number(number: u64, out: &mut Bytes) -> Result<(), NoMemory>
+/// Appends a number with a space before it.
+pub fn put_number(number: u64, out: &mut Bytes) -> Result<(), NoMemory>
     ensures ok { OnOk result (out.new ≡ out.old ++ 32 ∷ decimal number) }
     ensures err { OnErr result (BeginsWith out.old out.new) }
 {

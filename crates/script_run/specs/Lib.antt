@@ -7,3 +7,4 @@ pub mod Seats
 pub mod Worlds
 pub mod Playing
 pub mod Commands
+pub mod Shown

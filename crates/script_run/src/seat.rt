@@ -1,5 +1,6 @@
 //! A replica as plain lists: what it has of each origin, and what it knows of its peers.
-ghost use Rattle.std.specs.Prelude.{◌≡◌, ◌*◌, ◌<◌, ◌≤◌, length, vec_len, IfOk, OnOk};
+ghost use Rattle.std.specs.Prelude.{◌≡◌, ◌*◌, ◌<◌, ◌≤◌, ◌==◌, [], if◌then◌else◌, length, slice_index_or, vec_len, IfOk, OnOk};
+ghost use Rattle.tact_base.specs.Covers.{no_cover};
 
 use run_model::{Act, Reply, Request};
 use std::alloc::Global;
@@ -65,6 +66,7 @@ impl Seat {
     /// How many writes of an origin it has.
     pub(crate) fn have(&self, origin: u32) -> u64
         requires { origin < self.now.replicas }
+        ensures { result ≡ length (slice_index_or self.now.logs.items origin []) }
     {
         self.logs[origin as usize].len() as u64
     }
@@ -93,7 +95,9 @@ impl Seat {
     }
 
     /// Its clock.
-    pub(crate) fn clock(&self) -> u64 {
+    pub(crate) fn clock(&self) -> u64
+        ensures { result ≡ self.now.clock }
+    {
         self.clock
     }
 
@@ -108,6 +112,9 @@ impl Seat {
     /// The cover of an origin: of itself its own state, at this moment.
     pub(crate) fn cover(&self, origin: u32, moment: u64) -> Cover
         requires { origin < self.now.replicas }
+        ensures { result ≡ (if origin == self.now.replica
+            then record { count = length (slice_index_or self.now.logs.items origin []); stamp = self.now.clock; moment = moment }
+            else slice_index_or self.now.covers.items origin no_cover) }
     {
         if origin == self.replica {
             Cover {
@@ -123,6 +130,7 @@ impl Seat {
     /// The log of an origin.
     pub(crate) fn log(&self, origin: u32) -> &[Write]
         requires { origin < self.now.replicas }
+        ensures { result.now ≡ slice_index_or self.now.logs.items origin [] }
     {
         self.logs[origin as usize].items()
     }

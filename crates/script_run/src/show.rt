@@ -1,17 +1,16 @@
 //! The comment that shows a replica.
-ghost use Rattle.std.specs.Prelude.{◌≡◌, ◌<◌};
+ghost use Rattle.std.specs.Prelude.{◌≡◌, ◌<◌, ◌≤◌, ◌^◌, ◌∷◌, ◌++◌, [], length, map, fold, codes, decimal, None, OnOk, OnErr};
+ghost use Rattle.std.specs.List.{last_or};
+ghost use Rattle.std.specs.Option.{option_map};
+ghost use Rattle.tact_base.specs.WriteOrder.{in_order, committed_to, tentative_past};
+ghost use Rattle.run_model.specs.ScriptRuns.{place_token};
+ghost use Rattle.run_model.specs.Text.{spaced, BeginsWith};
+ghost use Rattle.script_run.specs.Shown as shown;
 
 use crate::seat::Seat;
+use run_model::{all_or_nothing, put_number, put_row, put_token};
+use std::mem::size_of_val;
 use tact_base::{Bytes, NoMemory, Write, print_number};
-
-/// How many of the writes that a replica has seen are committed, and which of them is the last; and how
-/// many are tentative.
-#[derive(Clone, Copy)]
-struct Counted {
-    committed: u64,
-    last: Option<Place>,
-    tentative: u64,
-}
 
 /// The place of a write in the order of all writes.
 #[derive(Clone, Copy, PartialEq, Eq, PartialOrd, Ord)]
@@ -21,7 +20,9 @@ struct Place {
     index: u64,
 }
 
-fn place_of(write: &Write) -> Place {
+fn place_of(write: &Write) -> Place
+    ensures { result ≡ shown.place_of write.now }
+{
     Place {
         stamp: write.stamp,
         origin: write.origin,
@@ -29,47 +30,53 @@ fn place_of(write: &Write) -> Place {
     }
 }
 
-impl Counted {
-    // The count with one more write, where writes are committed up to the point.
-    fn with(self, write: &Write, point: u64) -> Counted {
-        let Counted {
-            committed,
-            last,
-            tentative,
-        } = self;
-        if write.stamp > point {
-            return Counted {
-                committed,
-                last,
-                tentative: tentative.saturating_add(1),
-            };
-        }
-        let place = place_of(write);
-        let is_later = last.is_none_or(|before| before < place);
-        Counted {
-            committed: committed.saturating_add(1),
-            last: if is_later { Some(place) } else { last },
-            tentative,
-        }
+// The later of two places, of which the first may be missing.
+fn later_place(last: Option<Place>, place: Place) -> Option<Place>
+    ensures { result ≡ shown.later_place last place }
+{
+    match last {
+        None => Some(place),
+        Some(before) => Some(if before < place { place } else { before }),
     }
 }
 
-fn count_writes(seat: &Seat, point: u64) -> Counted {
-    let mut counted = Counted {
-        committed: 0,
-        last: None,
-        tentative: 0,
-    };
-    for origin in 0..seat.replicas() {
-        for write in seat.log(origin) {
-            counted = counted.with(write, point);
+// The log of an origin. It lies in memory, where a write takes 16 bytes and more.
+fn log_of(seat: &Seat, origin: u32) -> &[Write]
+    requires { origin < seat.now.replicas }
+    ensures log { result.now ≡ shown.log_at seat.now origin }
+    ensures few { length result.now < 2 ^ 60 }
+{
+    let log = seat.log(origin);
+    let _bytes = size_of_val(log);
+    log
+}
+
+
+// How many writes of a log have a stamp of at most the point.
+fn count_to(log: &[Write], point: u64) -> u64
+    ensures value { result ≡ length (committed_to point log.now) }
+    ensures within { result ≤ length log.now }
+{
+    log.iter().filter(|write| write.stamp <= point).count() as u64
+}
+
+// The last place so far, after the writes of a log that have a stamp of at most the point.
+fn last_of(log: &[Write], point: u64, last: Option<Place>) -> Option<Place>
+    ensures { result ≡ fold (shown.later_to point) last log.now }
+{
+    let mut last = last;
+    for write in log {
+        if write.stamp <= point {
+            last = later_place(last, place_of(write));
         }
     }
-    counted
+    last
 }
 
 /// The least stamp over the covers of all replicas.
-fn point(seat: &Seat) -> u64 {
+fn point(seat: &Seat) -> u64
+    ensures { result ≡ shown.point_at seat.now }
+{
     let mut point = seat.clock();
     for origin in 0..seat.replicas() {
         point = point.min(seat.cover(origin, 0).stamp);
@@ -77,31 +84,118 @@ fn point(seat: &Seat) -> u64 {
     point
 }
 
-// Appends a word or a sign, and a number.
-fn put(out: &mut Bytes, before: &[u8], number: u64) -> Result<(), NoMemory> {
-    out.append(before)?;
-    print_number(out, number)
+/// How many writes a replica has.
+fn count_all(seat: &Seat) -> u64
+    ensures { result ≡ length (shown.writes_at seat.now) }
+{
+    let mut count = 0;
+    for origin in 0..seat.replicas() {
+        count += log_of(seat, origin).len() as u64;
+    }
+    count
 }
 
-/// Appends the line that shows a replica, with its line feed.
-pub(crate) fn show(seat: &Seat, out: &mut Bytes) -> Result<(), NoMemory> {
-    let point = point(seat);
-    let counted = count_writes(seat, point);
-    put(out, b"# show ", u64::from(seat.replica()))?;
-    out.append(b" have")?;
+/// How many of them are committed up to the point.
+fn count_committed(seat: &Seat, point: u64) -> u64
+    ensures { result ≡ length (committed_to point (in_order (shown.writes_at seat.now))) }
+{
+    let mut count = 0;
     for origin in 0..seat.replicas() {
-        put(out, b" ", seat.have(origin))?;
+        count += count_to(log_of(seat, origin), point);
     }
-    put(out, b" clock ", seat.clock())?;
-    put(out, b" point ", point)?;
-    put(out, b" committed ", counted.committed)?;
-    match counted.last {
-        None => out.append(b" last none")?,
+    count
+}
+
+/// The place of the last of these.
+fn last_committed(seat: &Seat, point: u64) -> Option<Place>
+    ensures { result ≡ option_map shown.place_of (last_or None (committed_to point (in_order (shown.writes_at seat.now)))) }
+{
+    let mut last = None;
+    for origin in 0..seat.replicas() {
+        last = last_of(seat.log(origin), point, last);
+    }
+    last
+}
+
+// Appends how many writes of each origin a replica has.
+fn print_haves(seat: &Seat, out: &mut Bytes) -> Result<(), NoMemory>
+    ensures ok { OnOk result (out.new ≡ out.old ++ spaced (map decimal (shown.haves_at seat.now))) }
+    ensures err { OnErr result (BeginsWith out.old out.new) }
+{
+    for origin in 0..seat.replicas() {
+        put_number(seat.have(origin), out)?;
+    }
+    Ok(())
+}
+
+// Appends which replica it is, and how many writes of each origin it has.
+fn print_logs(seat: &Seat, out: &mut Bytes) -> Result<(), NoMemory>
+    ensures ok { OnOk result (out.new ≡ out.old
+        ++ spaced (codes "show" ∷ decimal seat.now.replica ∷ codes "have" ∷ map decimal (shown.haves_at seat.now))) }
+    ensures err { OnErr result (BeginsWith out.old out.new) }
+{
+    put_row(b"show", &[u64::from(seat.replica())], out)?;
+    put_token(b"have", out)?;
+    print_haves(seat, out)
+}
+
+// Appends the place of the last committed write.
+fn print_last(seat: &Seat, point: u64, out: &mut Bytes) -> Result<(), NoMemory>
+    ensures ok { OnOk result (out.new ≡ out.old
+        ++ spaced (place_token (last_or None (committed_to point (in_order (shown.writes_at seat.now)))) ∷ [])) }
+    ensures err { OnErr result (BeginsWith out.old out.new) }
+{
+    match last_committed(seat, point) {
+        None => put_token(b"none", out),
         Some(place) => {
-            put(out, b" last ", u64::from(place.origin))?;
-            put(out, b".", place.index)?;
+            put_number(u64::from(place.origin), out)?;
+            out.push(b'.')?;
+            print_number(out, place.index)
         }
     }
-    put(out, b" tentative ", counted.tentative)?;
+}
+
+// Appends what of the writes of a replica is committed at the point, and what is tentative.
+fn print_writes(seat: &Seat, point: u64, out: &mut Bytes) -> Result<(), NoMemory>
+    ensures ok { OnOk result (out.new ≡ out.old ++ spaced (shown.writes_tokens point (shown.writes_at seat.now))) }
+    ensures err { OnErr result (BeginsWith out.old out.new) }
+{
+    let committed = count_committed(seat, point);
+    let tentative = count_all(seat) - committed;
+    put_row(b"committed", &[committed], out)?;
+    put_token(b"last", out)?;
+    print_last(seat, point, out)?;
+    put_row(b"tentative", &[tentative], out)
+}
+
+// Appends its clock, its point, and what of its writes is committed and tentative.
+fn print_state(seat: &Seat, out: &mut Bytes) -> Result<(), NoMemory>
+    ensures ok { OnOk result (out.new ≡ out.old ++ spaced (codes "clock" ∷ decimal seat.now.clock
+        ∷ codes "point" ∷ decimal (shown.point_at seat.now) ∷ shown.writes_tokens (shown.point_at seat.now) (shown.writes_at seat.now))) }
+    ensures err { OnErr result (BeginsWith out.old out.new) }
+{
+    let point = point(seat);
+    put_row(b"clock", &[seat.clock()], out)?;
+    put_row(b"point", &[point], out)?;
+    print_writes(seat, point, out)
+}
+
+fn print_seat(seat: &Seat, out: &mut Bytes) -> Result<(), NoMemory>
+    ensures ok { OnOk result (out.new ≡ out.old ++ shown.seat_text seat.now) }
+    ensures err { OnErr result (BeginsWith out.old out.new) }
+{
+    out.append(b"#")?;
+    print_logs(seat, out)?;
+    print_state(seat, out)?;
     out.push(b'\n')
+}
+
+/// Appends the line that shows a replica, with its line feed. `NoMemory` leaves `out` as it was.
+pub(crate) fn show(seat: &Seat, out: &mut Bytes) -> Result<(), NoMemory>
+    ensures ok { OnOk result (out.new ≡ out.old ++ shown.seat_text seat.now) }
+    ensures err { OnErr result (out.new ≡ out.old) }
+{
+    let start = out.len();
+    let done = print_seat(seat, out);
+    all_or_nothing(done, start, out)
 }
