@@ -14,3 +14,8 @@ pub mod SoundStep
 pub mod SoundRuns
 pub mod Agreement
 pub mod WorkedRun
+pub mod Placed
+pub mod EntriesInRange
+pub mod ClockBound
+pub mod InRange
+pub mod Firsts

@@ -72,14 +72,14 @@ module _ (setup : Setup) (history : List Entry) (sound : Sound setup history) (r
   message = message_of setup replica part at to given
 
   -- what it has of an origin, before it is cut to its room
-  abbrev onward : ℕ → List Write
+  abbrev pub onward : ℕ → List Write
   onward origin = drop (first_for replica part to given origin) (log_of replica part origin)
 
-  onward-origins : (origin : ℕ) → All (λ (write : Write). write.origin ≡ origin) (onward origin)
+  pub onward-origins : (origin : ℕ) → All (λ (write : Write). write.origin ≡ origin) (onward origin)
   onward-origins origin =
       All-drop (λ (write : Write). write.origin ≡ origin) (first_for replica part to given origin) (log_of replica part origin) (Sound-origins setup history sound replica origin)
 
-  first_for-le : (origin : ℕ) → first_for replica part to given origin ≤ have replica part origin
+  pub first_for-le : (origin : ℕ) → first_for replica part to given origin ≤ have replica part origin
   first_for-le origin = go (origin == to)
     where
       go : (own : Bool) → cond own (have replica part origin) (min (have replica part origin) (max (slice_index given origin) (known part to origin))) ≤ have replica part origin
@@ -100,7 +100,7 @@ module _ (setup : Setup) (history : List Entry) (sound : Sound setup history) (r
       subst (λ cover. All (λ (write : Write). write.stamp ≤ cover.stamp) message.writes) (sym told) below
 
   -- its writes of an origin are a front of what it has onward
-  told_writes-within : (origin : ℕ) → origin < setup.replicas → IsPrefix (told_writes message origin) (onward origin)
+  pub told_writes-within : (origin : ℕ) → origin < setup.replicas → IsPrefix (told_writes message origin) (onward origin)
   told_writes-within origin within =
       let whole = flat_map onward (replicas_of setup) in
       subst (IsPrefix (told_writes message origin)) (joined-within onward onward-origins setup.replicas origin within)

@@ -51,7 +51,7 @@ sent_is setup replica part at (act.Back owner conit amount) message due some = c
 sent_is setup replica part at act.Restart message due some = cc
 
 -- a taken message was sent
-taken_was_sent : (history : List Entry) (done : Act) (message : Message) → WasSent history done → taken_by_act done ≡ Some message → Contains (sent_in (mine history message.from)) message
+pub taken_was_sent : (history : List Entry) (done : Act) (message : Message) → WasSent history done → taken_by_act done ≡ Some message → Contains (sent_in (mine history message.from)) message
 taken_was_sent history (act.Take taken) message was_sent some = subst (λ m. Contains (sent_in (mine history m.from)) m) (same_Some taken message some) was_sent
 taken_was_sent history (act.Call client number asked given) message was_sent some = cc
 taken_was_sent history (act.Send sent) message was_sent some = cc

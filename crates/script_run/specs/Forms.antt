@@ -1,9 +1,10 @@
 -- What each line of a script says. The forms that are built are `start`, `write` without weights, `send A B`, `take` and `show`.
-use Rattle.std.specs.Prelude.{◌≡◌, ℕ, ◌-◌, ◌*◌, ◌^◌, ◌<◌, ◌==◌, Bool, false, is_some, List, [], ◌∷◌, ◌++◌, length, map, fold, replicate, slice_get, slice_set, slice_index_or, Option, Some, None, Result, Ok, Err, if◌then◌else◌}
+use Rattle.std.specs.Prelude.{◌≡◌, ◌≢◌, ℕ, ◌-◌, ◌*◌, ◌^◌, ◌<◌, ◌==◌, Bool, false, is_some, List, [], ◌∷◌, ◌++◌, length, map, fold, replicate, slice_get, slice_set, slice_index_or, Option, Some, None, Result, Ok, Err, if◌then◌else◌}
 use Rattle.std.specs.List.{flat_map, range_with_len}
 use Rattle.std.specs.Option.{option_map_or}
 use Rattle.tact_base.specs.declared.limits.TheConstants.{REPLICAS_MIN, REPLICAS_MAX, CONITS_MAX, CLIENTS, ALPHA_MAX, AMOUNT_MAX}
 use Rattle.run_model.specs.Config.{Setup, setup, config_fault}
+use Rattle.run_model.specs.Ranges.{IsOpInRange}
 use Rattle.run_model.specs.declared.script_line.Line.{Line}
 use Rattle.run_model.specs.declared.script_line.Line.TheVariants as line
 use Rattle.run_model.specs.declared.status.LineKind.{LineKind}
@@ -127,10 +128,10 @@ of_whole sent (line.Take replica from number) =
     if is_sent sent from number replica then Ok (line.Take replica from number) else Err NoMessage
 of_whole sent other = Ok other
 
--- The replicas of a line are among so many and its clients among eight, and its form is built.
+-- The replicas of a line are among so many and its clients among eight, its operation is in range, no replica sends to itself, and its form is built.
 abbrev pub NamesOnly : ℕ → Line → Type 0
-NamesOnly replicas (line.Write replica client op weights) = (replica < replicas) × (client < CLIENTS) × (weights ≡ [])
-NamesOnly replicas (line.Send from to firsts) = (from < replicas) × (to < replicas) × (length firsts ≡ replicas)
+NamesOnly replicas (line.Write replica client op weights) = (replica < replicas) × (client < CLIENTS) × (weights ≡ []) × IsOpInRange op
+NamesOnly replicas (line.Send from to firsts) = (from < replicas) × (to < replicas) × (length firsts ≡ replicas) × (to ≢ from)
 NamesOnly replicas (line.Take replica from number) = (replica < replicas) × (from < replicas)
 NamesOnly replicas (line.Show replica) = replica < replicas
 NamesOnly replicas other = ⊥

@@ -41,7 +41,7 @@ writes_tokens point writes =
 unfoldable pub shown_text : ℕ → List ℕ → ℕ → ℕ → List Write → List ℕ
 shown_text replica haves clock point writes =
     comment (codes "show" ∷ decimal replica ∷ codes "have" ∷ map decimal haves
-        ++ codes "clock" ∷ decimal clock ∷ codes "point" ∷ decimal point ∷ writes_tokens point writes)
+    ++ codes "clock" ∷ decimal clock ∷ codes "point" ∷ decimal point ∷ writes_tokens point writes)
 
 -- and of this one
 abbrev pub seat_text : Seat → List ℕ

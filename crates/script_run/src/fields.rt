@@ -1,7 +1,8 @@
 //! The fields of a line. Each reader is given what is left of the line, and answers its value and what
 //! is left after it.
-ghost use Rattle.std.specs.Prelude.{◌≡◌, ◌-◌, ◌<◌, ◌≤◌, ◌^◌, IfOk};
+ghost use Rattle.std.specs.Prelude.{◌≡◌, ◌≢◌, ◌-◌, ◌<◌, ◌≤◌, ◌^◌, IfOk, unsigned_abs};
 ghost use Rattle.tact_base.specs.Numbers.{whole_number, whole_signed};
+ghost use Rattle.run_model.specs.Ranges.{IsOpInRange};
 ghost use Rattle.script_run.specs.Cutting.{tokens};
 ghost use Rattle.script_run.specs.Fields.{Gives, token_at, in_line, number_at, count_at, signed_at, replica_at, other_replica_at, client_at, put_at, add_at, shift_at, op_at, end_at};
 
@@ -33,7 +34,8 @@ fn number_of(token: &[u8], most: u64) -> Result<u64, LineFault>
 
 fn signed_of(token: &[u8], size: u64) -> Result<i64, LineFault>
     requires { size < 2 ^ 63 }
-    ensures { Gives (λ x. x) result (in_line (whole_signed token.now size)) }
+    ensures within { IfOk result (λ x. unsigned_abs x ≤ size) }
+    ensures number { Gives (λ x. x) result (in_line (whole_signed token.now size)) }
 {
     match whole_signed(token, size) {
         Ok(number) => Ok(number),
@@ -68,7 +70,8 @@ pub(crate) fn count_at(rest: &[u8], least: u32, most: u32) -> Result<(u32, &[u8]
 #[tactic(auto, unfolding(crate::specs::Fields::signed_at))]
 fn signed_at(rest: &[u8], size: u64) -> Result<(i64, &[u8]), LineFault>
     requires { size < 2 ^ 63 }
-    ensures { Gives (λ x. (x.0, tokens x.1.now)) result (signed_at size (tokens rest.now)) }
+    ensures within { IfOk result (λ x. unsigned_abs x.0 ≤ size) }
+    ensures number { Gives (λ x. (x.0, tokens x.1.now)) result (signed_at size (tokens rest.now)) }
 {
     let (token, rest) = token_at(rest)?;
     let number = signed_of(token, size)?;
@@ -92,6 +95,7 @@ pub(crate) fn other_replica_at(
 ) -> Result<(u32, &[u8]), LineFault>
     requires { 0 < replicas }
     ensures within { IfOk result (λ x. x.0 < replicas) }
+    ensures other { IfOk result (λ x. x.0 ≢ first) }
     ensures replica { Gives (λ x. (x.0, tokens x.1.now)) result (other_replica_at replicas first (tokens rest.now)) }
 {
     let (second, rest) = replica_at(rest, replicas)?;
@@ -111,7 +115,8 @@ pub(crate) fn client_at(rest: &[u8]) -> Result<(u32, &[u8]), LineFault>
 
 #[tactic(auto, unfolding(crate::specs::Fields::put_at))]
 fn put_at(rest: &[u8]) -> Result<(Op, &[u8]), LineFault>
-    ensures { Gives (λ x. (x.0, tokens x.1.now)) result (put_at (tokens rest.now)) }
+    ensures within { IfOk result (λ x. IsOpInRange x.0) }
+    ensures op { Gives (λ x. (x.0, tokens x.1.now)) result (put_at (tokens rest.now)) }
 {
     let (key, rest) = number_at(rest, KEY_MAX)?;
     let (value, rest) = signed_at(rest, VALUE_MAX)?;
@@ -120,7 +125,8 @@ fn put_at(rest: &[u8]) -> Result<(Op, &[u8]), LineFault>
 
 #[tactic(auto, unfolding(crate::specs::Fields::add_at))]
 fn add_at(rest: &[u8]) -> Result<(Op, &[u8]), LineFault>
-    ensures { Gives (λ x. (x.0, tokens x.1.now)) result (add_at (tokens rest.now)) }
+    ensures within { IfOk result (λ x. IsOpInRange x.0) }
+    ensures op { Gives (λ x. (x.0, tokens x.1.now)) result (add_at (tokens rest.now)) }
 {
     let (key, rest) = number_at(rest, KEY_MAX)?;
     let (delta, rest) = signed_at(rest, VALUE_MAX)?;
@@ -129,7 +135,8 @@ fn add_at(rest: &[u8]) -> Result<(Op, &[u8]), LineFault>
 
 #[tactic(auto, unfolding(crate::specs::Fields::shift_at))]
 fn shift_at(rest: &[u8]) -> Result<(Op, &[u8]), LineFault>
-    ensures { Gives (λ x. (x.0, tokens x.1.now)) result (shift_at (tokens rest.now)) }
+    ensures within { IfOk result (λ x. IsOpInRange x.0) }
+    ensures op { Gives (λ x. (x.0, tokens x.1.now)) result (shift_at (tokens rest.now)) }
 {
     let (from, rest) = number_at(rest, KEY_MAX)?;
     let (to, rest) = number_at(rest, KEY_MAX)?;
@@ -139,7 +146,8 @@ fn shift_at(rest: &[u8]) -> Result<(Op, &[u8]), LineFault>
 
 #[tactic(auto, unfolding(crate::specs::Fields::op_at))]
 pub(crate) fn op_at(rest: &[u8]) -> Result<(Op, &[u8]), LineFault>
-    ensures { Gives (λ x. (x.0, tokens x.1.now)) result (op_at (tokens rest.now)) }
+    ensures within { IfOk result (λ x. IsOpInRange x.0) }
+    ensures op { Gives (λ x. (x.0, tokens x.1.now)) result (op_at (tokens rest.now)) }
 {
     let (word, rest) = token_at(rest)?;
     if word == b"put".as_slice() {

@@ -51,7 +51,6 @@ fn log_of(seat: &Seat, origin: u32) -> &[Write]
     log
 }
 
-
 // How many writes of a log have a stamp of at most the point.
 fn count_to(log: &[Write], point: u64) -> u64
     ensures value { result ≡ length (committed_to point log.now) }

@@ -1,0 +1,52 @@
+-- The firsts that a message has ask for the same message.
+use Rattle.std.proofs.Common.{◌≡◌, ℕ, ◌<◌, ◌≤◌, ◌==◌, min, max, Bool, true, false, cond, slice_index, length, List, [], ◌∷◌, take, drop, map, flat_map, All, refl, ap, ap₂, arith}
+use Rattle.std.proofs.lemmas.List.Elements.{All-head, All-tail}
+use Rattle.tact_base.proofs.ListLemmas.{All-range, flat_map_agree, get_or-map_range}
+use Rattle.tact_base.specs.declared.limits.TheConstants.{MESSAGE_WRITES}
+use Rattle.tact_base.specs.declared.write.Write.{Write}
+use Rattle.run_model.specs.Config.{Setup}
+use Rattle.run_model.specs.Histories.{replicas_of, conits_of, sent_in}
+use Rattle.run_model.specs.Kept.{log_of, have, covers_of, known}
+use Rattle.run_model.specs.Loans.{lent, returned}
+use Rattle.run_model.specs.Messages.{first_for, writes_for, message_of}
+use Rattle.run_model.specs.declared.entry.Entry.{Entry}
+use Rattle.run_model.specs.declared.entry.Message.{Message}
+
+map_agree : {X A : Type 0} (f g : X → A) (xs : List X) → All (λ x. f x ≡ g x) xs → map f xs ≡ map g xs
+map_agree f g [] all = refl
+map_agree f g (x ∷ xs) all = ap₂ (λ y ys. y ∷ ys) (All-head (λ x. f x ≡ g x) x xs all) (map_agree f g xs (All-tail (λ x. f x ≡ g x) x xs all))
+
+-- What a replica sends to another, where these firsts are given.
+module _ (setup : Setup) (replica : ℕ) (part : List Entry) (to : ℕ) (given : List ℕ) where
+  abbrev firsts : List ℕ
+  firsts = map (first_for replica part to given) (replicas_of setup)
+
+  first_again : (origin : ℕ) → origin < setup.replicas → first_for replica part to given origin ≡ first_for replica part to firsts origin
+  first_again origin within = go (origin == to) (get_or-map_range (first_for replica part to given) setup.replicas origin 0 within)
+    where
+      go : (own : Bool) → slice_index firsts origin ≡ cond own (have replica part origin) (min (have replica part origin) (max (slice_index given origin) (known part to origin)))
+          → cond own (have replica part origin) (min (have replica part origin) (max (slice_index given origin) (known part to origin)))
+          ≡ cond own (have replica part origin) (min (have replica part origin) (max (slice_index firsts origin) (known part to origin)))
+      go true is = refl
+      go false is = omega (arith, is)
+
+  pub message_again : (at : ℕ) → message_of setup replica part at to given ≡ message_of setup replica part at to firsts
+  message_again at =
+      let same : All (λ origin. first_for replica part to given origin ≡ first_for replica part to firsts origin) (replicas_of setup) =
+      All-range (λ origin. first_for replica part to given origin ≡ first_for replica part to firsts origin) 0 setup.replicas (λ origin low high. first_again origin (omega (arith, high))) in
+      let onward = λ (given : List ℕ) (origin : ℕ). drop (first_for replica part to given origin) (log_of replica part origin) in
+      let same_onward : All (λ origin. onward given origin ≡ onward firsts origin) (replicas_of setup) =
+      All-range (λ origin. onward given origin ≡ onward firsts origin) 0 setup.replicas (λ origin low high. ap (λ k. drop k (log_of replica part origin)) (first_again origin (omega (arith, high)))) in
+      ap₂ (λ (firsts : List ℕ) (writes : List Write). record {
+        from = replica;
+        to = to;
+        number = length (sent_in part);
+        haves = map (have replica part) (replicas_of setup);
+        covers = covers_of setup replica part at;
+        firsts = firsts;
+        writes = writes;
+        lent = map (lent setup replica part to) (conits_of setup);
+        returned = map (returned part to) (conits_of setup);
+      })
+      (map_agree (first_for replica part to given) (first_for replica part to firsts) (replicas_of setup) same)
+      (ap (take MESSAGE_WRITES) (flat_map_agree (onward given) (onward firsts) (replicas_of setup) same_onward))
