@@ -1,0 +1,39 @@
+use Rattle.std.proofs.Common.{◌≡◌, ◌≢◌, ◌<◌, false, All, length, nat_le, sym, ap, ◌∙◌, subst}
+use Rattle.std.specs.declared.cmp.Ordering.TheVariants.{Equal}
+use Rattle.std.proofs.lemmas.Bool.{lt-leb}
+use Rattle.std.proofs.lemmas.List.Sums.{count_by-le-length}
+use Rattle.tact_base.specs.declared.write.Write.{Write}
+use Rattle.tact_base.specs.WriteOrder.{write_cmp, comes_before, with_write}
+use Rattle.commit_order.proofs.WriteOrderLemmas.{before_first, with_write-point, filter-with_write, sorted-with_write}
+use Rattle.commit_order.proofs.Partitions.{partitioned-point}
+use Rattle.commit_order.specs.Order.{OrderState}
+use Rattle.commit_order.specs.Places.{place_in}
+use Rattle.commit_order.proofs.ordered.Ordered.insert.Goals as goal
+
+apart : (c : goal.After-insert_copy) → All (λ held. write_cmp held c.args.write.now ≢ Equal) c.self.inside.writes.items
+apart c = subst (λ (s : OrderState). All (λ held. write_cmp held c.args.write.now ≢ Equal) s.writes) (sym c.self.view_is) c.requires.new
+
+put : (c : goal.After-insert_copy) → c.insert_copy.new.list.items ≡ with_write c.args.write.now c.self.inside.writes.items
+put c =
+    let write = c.args.write.now in
+    let writes = c.self.inside.writes.items in
+    let before = λ (w : Write). comes_before w write in
+    let place : c.place-place.result ≡ place_in writes write.stamp write.origin write.index =
+    subst (λ (s : OrderState). c.place-place.result ≡ place_in s.writes write.stamp write.origin write.index) (sym c.self.view_is) c.place-place.ensures in
+    let point = partitioned-point before writes (before_first write writes c.self.invariant.0) in
+    c.insert_copy.ensures.items
+    ∙ rw place (sym (with_write-point write writes (place_in writes write.stamp write.origin write.index) c.self.invariant.0 (apart c) (count_by-le-length before writes) point))
+
+pub invariant_of-self : goal.invariant_of-self
+invariant_of-self c =
+    let write = c.args.write.now in
+    let writes = c.self.inside.writes.items in
+    let tentative : c.self.inside.point < write.stamp = subst (λ (s : OrderState). s.point < write.stamp) (sym c.self.view_is) c.requires.tentative in
+    let late : nat_le write.stamp c.self.inside.point ≡ false = lt-leb write.stamp c.self.inside.point tentative in
+    rw (put c) (
+      sorted-with_write write writes (apart c) c.self.invariant.0,
+      c.self.invariant.1 ∙ ap length (sym (filter-with_write (λ w. nat_le w.stamp c.self.inside.point) write writes late)),
+    )
+
+pub returns-clause-writes : goal.returns-clause-writes
+returns-clause-writes c = rw (← c.self.view_is) (put c)

@@ -1,0 +1,7 @@
+//! All writes that a replica has seen, in the order of stamps, origins and indices; a front of them is
+//! committed.
+#![tactic(auto)]
+
+mod ordered;
+
+pub use ordered::Ordered;

@@ -1,0 +1,200 @@
+ghost use Rattle.std.specs.Prelude.{◌≡◌, ◌≢◌, ◌+◌, ◌<◌, ◌≤◌, [], All, OnOk, OnErr, IfOk, IsOk, length, insert};
+ghost use Rattle.std.specs.declared.cmp.Ordering.TheVariants.{Equal};
+ghost use Rattle.std.specs.List.Sorted.{IsStrictlySortedBy};
+ghost use Rattle.std.specs.Ordering.{is_lt};
+ghost use Rattle.tact_base.specs.WriteOrder.{write_cmp, with_write, committed_to, tentative_past};
+ghost use Rattle.commit_order.specs.Places.{place_cmp, place_in};
+
+use std::alloc::Global;
+use std::marker::Model;
+use tact_base::{NoMemory, RoomyList, Write};
+
+/// Writes in order of stamp, then origin, then index, of which those up to the last point are committed.
+/// Contracts see the writes, the last point and the room: how many more writes can surely be put in without
+/// taking memory.
+#[derive(Debug, Drop)]
+pub struct Ordered {
+    writes: RoomyList<Write>,
+    committed: usize,
+    point: u64,
+}
+
+impl Model for Ordered {
+    ghost use Rattle.std.specs.Prelude.{◌≡◌, length};
+    ghost use Rattle.std.specs.List.Sorted.{IsStrictlySortedBy};
+    ghost use Rattle.tact_base.specs.WriteOrder.{write_cmp, committed_to};
+    ghost use Rattle.commit_order.specs.Order.{OrderState};
+
+    ghost Value = { OrderState };
+
+    ghost view = { λ s. record { writes = s.writes.items; point = s.point; room = s.writes.room } };
+
+    ghost invariant = { λ s. IsStrictlySortedBy write_cmp s.writes.items
+        × (s.committed ≡ length (committed_to s.point s.writes.items)) };
+}
+
+impl Ordered {
+    /// No writes, with the last point 0; they will lie in memory of `alloc`. Takes no memory.
+    pub fn new(alloc: Global) -> Ordered
+        ensures writes { result.writes ≡ [] }
+        ensures point { result.point ≡ 0 }
+    {
+        Ordered {
+            writes: RoomyList::new(alloc),
+            committed: 0,
+            point: 0,
+        }
+    }
+
+    /// Makes room for at least `k` more writes, without memory where there is so much. `NoMemory` leaves
+    /// everything as it was.
+    pub fn reserve(&mut self, k: u64) -> Result<(), NoMemory>
+        ensures writes { self.new.writes ≡ self.old.writes }
+        ensures point { self.new.point ≡ self.old.point }
+        ensures room { OnOk result (k ≤ self.new.room) }
+        ensures enough { k ≤ self.old.room → IsOk result }
+        ensures kept { self.old.room ≤ self.new.room }
+        ensures err { OnErr result (self.new ≡ self.old) }
+    {
+        self.writes.reserve(k)
+    }
+
+    /// How many of the writes come before one of this stamp, origin and index. Takes no memory.
+    pub fn place(&self, stamp: u64, origin: u32, index: u64) -> u64
+        ensures { result ≡ place_in self.now.writes stamp origin index }
+    {
+        let before = |write: &Write| comes_before(write, stamp, origin, index);
+        self.writes.items().partition_point(before) as u64
+    }
+
+    /// Puts a write in its place, which is answered. Takes no memory.
+    pub fn insert(&mut self, write: &Write) -> u64
+        requires room { 0 < self.old.room }
+        requires new { All (λ held. write_cmp held write.now ≢ Equal) self.old.writes }
+        requires tentative { self.old.point < write.now.stamp }
+        ensures place { result ≡ place_in self.old.writes write.now.stamp write.now.origin write.now.index }
+        ensures writes { self.new.writes ≡ with_write write.now self.old.writes }
+        ensures point { self.new.point ≡ self.old.point }
+        ensures room { self.old.room ≤ self.new.room + 1 }
+    {
+        let place = self.place(write.stamp, write.origin, write.index);
+        insert_copy(&mut self.writes, place as usize, write);
+        place
+    }
+
+    /// Commits the writes with a stamp of at most `stamp`, and answers how many writes are committed now.
+    /// Takes no memory.
+    pub fn commit_to(&mut self, stamp: u64) -> u64
+        requires { self.old.point ≤ stamp }
+        ensures count { result ≡ length (committed_to stamp self.old.writes) }
+        ensures writes { self.new.writes ≡ self.old.writes }
+        ensures point { self.new.point ≡ stamp }
+        ensures room { self.new.room ≡ self.old.room }
+    {
+        let committed = self
+            .writes
+            .items()
+            .partition_point(|write| write.stamp <= stamp);
+        self.committed = committed;
+        self.point = stamp;
+        committed as u64
+    }
+
+    /// The committed writes, in order.
+    pub fn committed(&self) -> &[Write]
+        ensures committed { result.now ≡ committed_to self.now.point self.now.writes }
+        ensures sorted { IsStrictlySortedBy write_cmp self.now.writes }
+    {
+        self.writes.items().split_at(self.committed).0
+    }
+
+    /// The other writes, in order.
+    pub fn tentative(&self) -> &[Write]
+        ensures tentative { result.now ≡ tentative_past self.now.point self.now.writes }
+        ensures sorted { IsStrictlySortedBy write_cmp self.now.writes }
+    {
+        self.writes.items().split_at(self.committed).1
+    }
+}
+
+fn comes_before(write: &Write, stamp: u64, origin: u32, index: u64) -> bool
+    ensures { result ≡ is_lt (place_cmp write.now stamp origin index) }
+{
+    (write.stamp, write.origin, write.index) < (stamp, origin, index)
+}
+
+// Puts a copy of an item, whose clones never fail and are equal to it, before the one at `place`. Takes no
+// memory.
+fn insert_copy<T: Clone>(list: &mut RoomyList<T>, place: usize, item: &T)
+    requires place { place ≤ length list.old.items }
+    requires room { 0 < list.old.room }
+    requires sure { (x : T) → T.is_infallible x }
+    requires exact { (x y : T) → T.is_clone x y → y ≡ x }
+    ensures items { list.new.items ≡ insert list.old.items place item.now }
+    ensures room { list.old.room ≤ list.new.room + 1 }
+{
+    match item.clone() {
+        Ok(copy) => list.insert(place, copy),
+        Err(_) => unreachable!(),
+    }
+}
+
+#[cfg(test)]
+mod tests {
+    use super::*;
+    use std::test::Fail;
+    use tact_base::{Op, Weights};
+
+    fn write(stamp: u64, origin: u32, index: u64) -> Result<Write, Fail>
+        ensures { IfOk result (λ w. (w.stamp ≡ stamp) × (w.origin ≡ origin) × (w.index ≡ index)) }
+    {
+        Ok(Write {
+            origin,
+            index,
+            stamp,
+            moment: 0,
+            weights: Weights::new(&[])?,
+            op: Op::Put { key: 1, value: 5 },
+        })
+    }
+
+    // The stamps, origins and indices of writes.
+    fn places(alloc: Global, writes: &[Write]) -> Result<Vec<(u64, u32, u64)>, Fail> {
+        let mut places = Vec::new(alloc);
+        for write in writes {
+            places.push((write.stamp, write.origin, write.index))?;
+        }
+        Ok(places)
+    }
+
+    #[test]
+    fn puts_writes_in_order(rt: HostRuntime) -> Result<(), Fail> {
+        let mut ordered = Ordered::new(rt.alloc());
+        ordered.reserve(3)?;
+        assert_eq!(rt; ordered.insert(&write(3, 0, 1)?), 0);
+        assert_eq!(rt; ordered.insert(&write(1, 1, 0)?), 0);
+        assert_eq!(rt; ordered.insert(&write(1, 0, 0)?), 0);
+        for (stamp, origin, index, place) in [
+            (1, 0, 0, 0),
+            (1, 0, 1, 1),
+            (1, 1, 0, 1),
+            (1, 1, 1, 2),
+            (2, 0, 0, 2),
+            (3, 1, 0, 3),
+        ] {
+            assert_eq!(rt;
+                ordered.place(stamp, origin, index),
+                place,
+                "{stamp}, {origin}, {index}"
+            );
+        }
+        assert_eq!(rt; ordered.committed().len(), 0);
+        assert_eq!(rt; ordered.commit_to(1), 2);
+        assert_eq!(rt; ordered.commit_to(2), 2);
+        let committed = places(rt.alloc(), ordered.committed())?;
+        assert_eq!(rt; committed.as_slice(), [(1, 0, 0), (1, 1, 0)].as_slice());
+        let tentative = places(rt.alloc(), ordered.tentative())?;
+        assert_eq!(rt; tentative.as_slice(), [(3, 0, 1)].as_slice());
+        Ok(())
+    }
+}
