@@ -1,13 +1,13 @@
 -- The history that a script makes is a run.
-use Rattle.std.proofs.Common.{◌≡◌, ℕ, ◌+◌, ◌<◌, ◌≤◌, List, [], ◌∷◌, ◌++◌, length, get_or, map, replicate, Option, None, Some, refl, sym, ap, ap₂, ◌∙◌, subst, append_assoc, arith}
-use Rattle.std.specs.List.{slice_get, fold}
-use Rattle.std.proofs.lemmas.List.{append-nil, length-append, length_push, length-replicate, get_or-replicate}
+use Rattle.std.proofs.Common.{◌≡◌, ℕ, ◌+◌, ◌<◌, ◌≤◌, List, [], ◌∷◌, ◌++◌, length, Option, None, Some, refl, sym, ap, ◌∙◌, subst, append_assoc, arith}
+use Rattle.std.specs.List.{slice_get}
+use Rattle.std.proofs.lemmas.List.{append-nil, length_push, length-replicate, get_or-replicate}
 use Rattle.std.proofs.lemmas.List.Sums.{fold_push}
 use Rattle.tact_base.specs.declared.limits.TheConstants.{HISTORY_MAX}
 use Rattle.run_model.specs.Config.{Setup, IsSetup}
 use Rattle.run_model.specs.Histories.{mine, sent_in}
 use Rattle.run_model.specs.Runs.{IsLawful, IsRun}
-use Rattle.run_model.specs.ScriptRuns.{Played, not_played, takes_one, takes, after_line, played_by, history_of}
+use Rattle.run_model.specs.ScriptRuns.{Played, not_played, takes_one, after_line, played_by, history_of}
 use Rattle.run_model.specs.declared.entry.Entry.{Entry}
 use Rattle.run_model.specs.declared.entry.Message.{Message}
 use Rattle.run_model.specs.declared.script_line.Line.{Line}
@@ -16,7 +16,7 @@ use Rattle.run_model.proofs.PrefixLemmas.{EachAfter-nil}
 use Rattle.script_run.specs.Forms.{NamesOnly, setup_of, sent_after, sent_by}
 use Rattle.script_run.specs.Scripts.{IsAddressed, FitsAfter, AreLines, IsScript}
 use Rattle.script_run.proofs.ScriptLemmas.{setup_of_more, sent_by_more, script_more}
-use Rattle.script_run.proofs.Played.{IsPlayed, IsNamed, writes, sends_to, takes_it, write_is_lawful, send_is_lawful, take_is_lawful, played_quiet, played_sent, named_message}
+use Rattle.script_run.proofs.Played.{IsPlayed, writes, sends_to, takes_it, write_is_lawful, send_is_lawful, take_is_lawful, played_quiet, played_sent, named_message}
 
 -- a line of so many replicas makes at most one entry
 pushed-most : (history : List Entry) (entry : Entry) → length (history ++ entry ∷ []) ≤ length history + 1

@@ -1,5 +1,5 @@
 -- What is true of what the lines of a script have made, and how it goes on entry by entry.
-use Rattle.std.proofs.Common.{◌≡◌, ◌≢◌, ℕ, ◌+◌, ◌<◌, ◌≤◌, ◌==◌, max, Bool, true, false, List, [], ◌∷◌, ◌++◌, length, get_or, set, map, All, Contains, Option, None, Some, refl, sym, ap, ◌∙◌, subst, ⊎_elim, get_or-set_same, get_or-set_other, arith}
+use Rattle.std.proofs.Common.{◌≡◌, ◌≢◌, ℕ, ◌<◌, ◌==◌, true, false, List, [], ◌∷◌, ◌++◌, length, get_or, set, map, Contains, Option, None, Some, refl, sym, ap, ◌∙◌, subst, ⊎_elim, get_or-set_same, get_or-set_other, arith}
 use Rattle.std.specs.List.{slice_get}
 use Rattle.std.specs.Option.{option_map, option_map_or}
 use Rattle.std.proofs.lemmas.Bool.{cases_eq, eqb-true}
@@ -10,19 +10,17 @@ use Rattle.tact_base.specs.declared.limits.TheConstants.{CLIENTS, HISTORY_MAX}
 use Rattle.tact_base.specs.declared.conit_list.Weight.{Weight}
 use Rattle.tact_base.specs.declared.write.Op.{Op}
 use Rattle.run_model.specs.Config.{Setup, IsSetup}
-use Rattle.run_model.specs.Histories.{mine, last_moment, moment_at, sent_in, calls_in, replicas_of}
-use Rattle.run_model.specs.Kept.{clock}
+use Rattle.run_model.specs.Histories.{mine, last_moment, moment_at, sent_in, calls_in}
 use Rattle.run_model.specs.Messages.{message_of}
 use Rattle.run_model.specs.Ranges.{IsOpInRange, IsWeightInRange, AreWeightsInRange, IsMessageInRange, IsActInRange}
 use Rattle.run_model.specs.Replies.{reply_of}
-use Rattle.run_model.specs.Runs.{IsActDue, IsDue, WasSent, IsLawful, IsRun}
+use Rattle.run_model.specs.Runs.{IsActDue, IsDue, IsLawful, IsRun}
 use Rattle.run_model.specs.ScriptRuns.{Played}
 use Rattle.run_model.specs.declared.call.Request.TheVariants as request
 use Rattle.run_model.specs.declared.entry.Act.{Act}
 use Rattle.run_model.specs.declared.entry.Act.TheVariants as act
 use Rattle.run_model.specs.declared.entry.Entry.{Entry}
 use Rattle.run_model.specs.declared.entry.Message.{Message}
-use Rattle.run_model.specs.declared.script_line.Line.TheVariants as line
 use Rattle.run_model.proofs.PrefixLemmas.{EachAfter-push}
 use Rattle.run_model.proofs.PartLemmas.{sent_by, mine-push_same, mine-push_other, mine-push_cases, sent_in-push_none, sent_in-push_some, last_moment-push}
 use Rattle.run_model.proofs.ClockBound.{clock-run}
@@ -32,7 +30,6 @@ use Rattle.run_model.proofs.InRange.{IsBounded, IsBounded-short, length-mine, me
 use Rattle.run_model.proofs.Sound.{IsSoundMessage}
 use Rattle.run_model.proofs.SoundRuns.{Sound-run}
 use Rattle.script_run.specs.Forms.{is_sent}
-use Rattle.script_run.specs.Scripts.{IsAddressed}
 
 -- whom a message is for
 abbrev pub receiver_of : Message → ℕ

@@ -1,5 +1,5 @@
 -- The lines of a script, as a world does them one by one.
-use Rattle.std.proofs.Common.{◌≡◌, ℕ, zero, suc, ◌+◌, ◌<◌, Bool, true, false, List, [], ◌∷◌, ◌++◌, length, get_or, set, map, take, drop, refl, ap, sym, ◌∙◌, subst, arith, add-one}
+use Rattle.std.proofs.Common.{◌≡◌, ℕ, zero, suc, ◌+◌, ◌<◌, Bool, true, false, List, [], ◌∷◌, ◌++◌, length, get_or, map, take, drop, refl, ap, sym, ◌∙◌, subst, arith, add-one}
 use Rattle.std.proofs.lemmas.List.{take_more}
 use Rattle.std.proofs.Math.Seq.{drop-cons}
 use Rattle.std.proofs.lemmas.Bool.{false≢true}
@@ -8,11 +8,11 @@ use Rattle.std.specs.Option.{option_map_or}
 use Rattle.run_model.specs.declared.script_line.Line.{Line}
 use Rattle.run_model.specs.declared.script_line.Line.TheVariants as line
 use Rattle.run_model.specs.Config.{Setup}
-use Rattle.script_run.specs.Forms.{sent_after, sent_by, setup_of, is_sent, NamesOnly}
+use Rattle.script_run.specs.Forms.{sent_after, sent_by, setup_of, NamesOnly}
 use Rattle.script_run.specs.Scripts.{FitsAfter, AreLines, IsScript, IsAddressed}
 use Rattle.script_run.specs.Worlds.{IsWorld, Stands, TakesThere, MayStep, sent_counts, counts_after}
 use Rattle.script_run.specs.declared.world.World.{World}
-use Rattle.script_run.proofs.ScriptLemmas.{length-sent_by, setup_of_more, sent_by_more, script_more}
+use Rattle.script_run.proofs.ScriptLemmas.{length-sent_by, setup_of_more, sent_by_more}
 use Rattle.script_run.proofs.WorldLemmas.{counts_set, counts_at}
 
 -- the first line alone is a script, and the others may follow it

@@ -1,12 +1,11 @@
 -- Scripts as they grow by a line.
-use Rattle.std.proofs.Common.{◌≡◌, ℕ, ◌<◌, List, [], ◌∷◌, ◌++◌, length, refl, ap, sym, ◌∙◌, subst, append_assoc, arith}
+use Rattle.std.proofs.Common.{◌≡◌, ℕ, List, [], ◌∷◌, ◌++◌, length, refl, ◌∙◌, append_assoc}
 use Rattle.std.proofs.lemmas.List.{append-nil, length-set, length-replicate}
 use Rattle.std.proofs.lemmas.List.Sums.{fold_push}
 use Rattle.std.specs.List.{fold}
 use Rattle.std.specs.Prelude.{replicate}
 use Rattle.run_model.specs.declared.script_line.Line.{Line}
 use Rattle.run_model.specs.declared.script_line.Line.TheVariants as line
-use Rattle.run_model.specs.Config.{Setup}
 use Rattle.script_run.specs.Forms.{sent_after, sent_by, setup_of}
 use Rattle.script_run.specs.Scripts.{line_after, later_line, FitsAfter, AreLines, IsScript}
 

@@ -1,5 +1,5 @@
 -- What is shown of a replica: its sums and texts as they grow origin by origin, the last committed write, and the part that it stands for.
-use Rattle.std.proofs.Common.{◌≡◌, ◌≢◌, ℕ, zero, suc, ◌+◌, ◌-◌, ◌<◌, ◌≤◌, ◌==◌, min, Bool, true, false, if◌then◌else◌, List, [], ◌∷◌, ◌++◌, length, get_or, map, fold, filter, flat_map, All, decimal, codes, Option, None, Some, nat_le, append_assoc, refl, sym, ap, ◌∙◌, eq-eqb, arith}
+use Rattle.std.proofs.Common.{◌≡◌, ℕ, zero, suc, ◌+◌, ◌-◌, ◌<◌, ◌≤◌, ◌==◌, min, Bool, true, false, if◌then◌else◌, List, [], ◌∷◌, ◌++◌, length, get_or, map, fold, flat_map, All, decimal, codes, Option, None, Some, nat_le, append_assoc, refl, sym, ap, ◌∙◌, eq-eqb, arith}
 use Rattle.std.specs.Cmp.{IsTotalOrder, IsStrictWeakOrder}
 use Rattle.std.specs.List.{range_with_len, last_or}
 use Rattle.std.specs.Option.{option_map}
@@ -15,7 +15,7 @@ use Rattle.tact_base.specs.Covers.{least_of, no_cover}
 use Rattle.tact_base.specs.declared.write.Cover.{Cover}
 use Rattle.tact_base.specs.WriteOrder.{comes_before, with_write, in_order, committed_to, tentative_past}
 use Rattle.tact_base.specs.declared.write.Write.{Write}
-use Rattle.tact_base.proofs.CommitLemmas.{committed_to-in_order, tentative_past-in_order, length-committed_tentative}
+use Rattle.tact_base.proofs.CommitLemmas.{committed_to-in_order, length-committed_tentative}
 use Rattle.tact_base.proofs.CompareLemmas.{before_upto}
 use Rattle.tact_base.proofs.CoversLemmas.{least_of-le, least_of-ge}
 use Rattle.tact_base.proofs.ListLemmas.{fold-push}

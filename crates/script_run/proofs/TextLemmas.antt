@@ -1,8 +1,6 @@
 -- A text that is read line by line.
-use Rattle.std.proofs.Common.{◌≡◌, ℕ, ◌+◌, List, [], ◌∷◌, length, Result, Ok, Err, refl, ap, sym, ◌∙◌, arith}
+use Rattle.std.proofs.Common.{◌≡◌, ℕ, ◌+◌, List, [], ◌∷◌, length, Ok, refl, ap, ◌∙◌, arith}
 use Rattle.run_model.specs.declared.script_line.Line.{Line}
-use Rattle.run_model.specs.declared.script_line.Line.TheVariants as line
-use Rattle.run_model.specs.declared.status.LineKind.{LineKind}
 use Rattle.script_run.specs.Cutting.{cut, raw_lines}
 use Rattle.script_run.specs.Scripts.{lines_after, goes_on, read_from, IsScript}
 

@@ -8,7 +8,7 @@ use Rattle.tact_base.specs.declared.tokens.TokenFault.TheVariants as token
 use Rattle.tact_base.specs.declared.write.Op.{Op}
 use Rattle.tact_base.specs.declared.write.Op.TheVariants.{Put, Add, Shift}
 use Rattle.run_model.specs.declared.status.LineKind.{LineKind}
-use Rattle.run_model.specs.declared.status.LineKind.TheVariants.{Missing, UnknownWord, NotNumber, OutOfRange, SameReplica, Extra, NotBuilt}
+use Rattle.run_model.specs.declared.status.LineKind.TheVariants.{Missing, UnknownWord, NotNumber, OutOfRange, SameReplica}
 use Rattle.script_run.specs.declared.fault.LineFault.{LineFault}
 use Rattle.script_run.specs.declared.fault.LineFault.TheVariants as faults
 

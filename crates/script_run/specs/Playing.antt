@@ -1,10 +1,13 @@
 -- When each answer of `play` comes, and what it leaves.
-use Rattle.std.specs.Prelude.{◌≡◌, ◌⊎◌, ℕ, ◌<◌, ◌≤◌, List, Option, IfSome, length, Result, Ok, Err}
+use Rattle.std.specs.Prelude.{◌≡◌, ◌⊎◌, ℕ, ◌<◌, ◌≤◌, List, Option, IfSome, length, Ok, Err}
 use Rattle.run_model.specs.declared.script_line.Line.{Line}
-use Rattle.run_model.specs.declared.status.LineKind.{LineKind}
 use Rattle.run_model.specs.declared.status.InputKind.TheVariants as input
 use Rattle.run_model.specs.declared.status.Status.{Status}
 use Rattle.run_model.specs.declared.status.Status.TheVariants as status
+use Rattle.run_model.specs.Promises.{IsAgreed}
+use Rattle.run_model.specs.Runs.{IsRun}
+use Rattle.run_model.specs.ScriptRuns.{history_of, play_text}
+use Rattle.script_run.specs.Forms.{setup_of}
 use Rattle.script_run.specs.Scripts.{script_of, IsScript}
 use Rattle.script_run.specs.declared.playing.TheConstants.{INPUT_MAX}
 use Rattle.tact_io.specs.Faults.{HasRisen}
@@ -23,12 +26,25 @@ HasCause status.WriteFault left rest reads reads' writes writes' = HasRisen writ
 HasCause status.NoMemory left rest reads reads' writes writes' = Unit {0}
 HasCause (status.Usage kind) left rest reads reads' writes writes' = ⊥
 
--- what each answer leaves of the sink: all of one text, a front of it, or nothing more
-abbrev pub Writes : Status → Option (List ℕ) → Option (List ℕ) → Type 0
-Writes status.Done before after = (text : List ℕ) × Gains before after text
-Writes status.WriteFault before after = (text : List ℕ) × GainsPart before after text
-Writes status.NoMemory before after = (text : List ℕ) × Gains before after text
-Writes other before after = after ≡ before
+-- A text is that of the script which an input is, and the history that it tells is a run in which of two committed prefixes one is a prefix of the other.
+abbrev pub IsPlayOf : List ℕ → List ℕ → Type 0
+IsPlayOf input text =
+    (lines : List Line) × (script_of input ≡ Ok lines) × IsScript lines × (text ≡ play_text (setup_of lines) lines)
+    × IsRun (setup_of lines) (history_of (setup_of lines) lines) × IsAgreed (setup_of lines) (history_of (setup_of lines) lines)
+
+-- what each answer leaves of the sink: the text of what the source had left, a front of it, or nothing more
+abbrev pub Writes : Status → Option (List ℕ) → Option (List ℕ) → Option (List ℕ) → Type 0
+Writes status.Done left before after = (text : List ℕ) × Gains before after text × IfSome left (λ input. IsPlayOf input text)
+Writes status.WriteFault left before after = (text : List ℕ) × GainsPart before after text × IfSome left (λ input. IsPlayOf input text)
+Writes status.NoMemory left before after = (text : List ℕ) × Gains before after text
+Writes other left before after = after ≡ before
+
+-- the same of a text that is given
+abbrev pub WritesText : List ℕ → Status → Option (List ℕ) → Option (List ℕ) → Type 0
+WritesText text status.Done before after = Gains before after text
+WritesText text status.WriteFault before after = GainsPart before after text
+WritesText text status.NoMemory before after = GainsPart before after text
+WritesText text other before after = after ≡ before
 
 -- without a fault a script that isn't too long is done, unless memory runs out
 abbrev pub Completes : Status → Option (List ℕ) → ℕ → ℕ → ℕ → ℕ → Type 0

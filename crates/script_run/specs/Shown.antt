@@ -1,5 +1,5 @@
 -- What is shown of a replica: what it has of each origin, its clock, and what is committed and tentative of the writes that it has.
-use Rattle.std.specs.Prelude.{◌≡◌, ℕ, ◌==◌, Bool, nat_le, List, [], ◌∷◌, ◌++◌, length, map, slice_index_or, codes, decimal, Option, None, Some, if◌then◌else◌}
+use Rattle.std.specs.Prelude.{ℕ, ◌==◌, Bool, nat_le, List, [], ◌∷◌, ◌++◌, length, map, slice_index_or, codes, decimal, Option, None, Some, if◌then◌else◌}
 use Rattle.std.specs.List.{flat_map, last_or, range_with_len}
 use Rattle.std.specs.declared.cmp.Ordering.{Ordering}
 use Rattle.std.specs.Ordering.{nat_cmp, ordering_then, is_lt}

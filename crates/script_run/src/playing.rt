@@ -1,10 +1,12 @@
 //! `play`: a script in, the text of its run out.
-ghost use Rattle.std.specs.Prelude.{◌≡◌, ◌≤◌, ◌⊎◌, [], ◌∷◌};
+ghost use Rattle.std.specs.Prelude.{◌≡◌, ◌≤◌, ◌⊎◌, [], ◌∷◌, ◌++◌, length, replicate, IfOk, OnOk};
+ghost use Rattle.run_model.specs.ScriptRuns.{not_played, played_by, lines_text, play_text};
 ghost use Rattle.run_model.specs.declared.status.Status.TheVariants.{Done, NoMemory as OutOfMemory};
 ghost use Rattle.tact_io.specs.Faults.{HasRisen};
-ghost use Rattle.script_run.specs.Playing.{Completes, HasCause, IsWritten, Writes};
+ghost use Rattle.script_run.specs.Forms.{setup_of};
+ghost use Rattle.script_run.specs.Playing.{Completes, HasCause, IsWritten, Writes, WritesText};
 ghost use Rattle.script_run.specs.Scripts.{IsScript};
-ghost use Rattle.script_run.specs.Worlds.{Stands};
+ghost use Rattle.script_run.specs.Worlds.{IsWorld, Plays, Stands, sent_counts};
 
 use crate::script::{Script, ScriptFault, parse_script};
 use crate::world::World;
@@ -28,7 +30,7 @@ pub const INPUT_MAX: u64 = 67_108_864;
 /// After each answer but Done, WriteFault and NoMemory nothing was written.
 pub fn play<S: Source, K: Sink>(alloc: Global, source: &mut S, sink: &mut K) -> Status
     ensures cause { HasCause result (S.left source.old) (S.left source.new) (S.faults source.old) (S.faults source.new) (K.faults sink.old) (K.faults sink.new) }
-    ensures written { Writes result (K.written sink.old) (K.written sink.new) }
+    ensures written { Writes result (S.left source.old) (K.written sink.old) (K.written sink.new) }
     ensures reads_never_fall { S.faults source.old ≤ S.faults source.new }
     ensures writes_never_fall { K.faults sink.old ≤ K.faults sink.new }
 
@@ -59,7 +61,7 @@ pub fn play<S: Source, K: Sink>(alloc: Global, source: &mut S, sink: &mut K) -> 
 // The status after the text was written, or a front of it.
 fn written<K: Sink>(sink: &mut K, text: &[u8]) -> Status
     ensures outcome { IsWritten result (K.faults sink.old) (K.faults sink.new) }
-    ensures written { Writes result (K.written sink.old) (K.written sink.new) }
+    ensures written { WritesText text.now result (K.written sink.old) (K.written sink.new) }
     ensures never_falls { K.faults sink.old ≤ K.faults sink.new }
     ensures complete { ¬ HasRisen (K.faults sink.old) (K.faults sink.new) → (result ≡ Done) ⊎ (result ≡ OutOfMemory) }
 {
@@ -72,16 +74,36 @@ fn written<K: Sink>(sink: &mut K, text: &[u8]) -> Status
 
 // The text of the script's run.
 fn text_of(alloc: Global, script: &Script) -> Result<Bytes, NoMemory>
-    requires { IsScript script.now }
+    requires script { IsScript script.now }
+    requires few { length script.now ≤ 10000 }
+    ensures { IfOk result (λ text. text ≡ play_text (setup_of script.now) script.now) }
 {
     let mut text = Bytes::new(alloc);
     head_of(script.config(), &mut text)?;
     let mut world = World::new(alloc, script.config())?;
-    if let [first, later @ ..] = script.lines() {
-        run_lines(&mut world, first, later, &mut text)?;
-    }
+    run_script(&mut world, script.lines(), &mut text)?;
     end_of(world.count(), &mut text)?;
     Ok(text)
+}
+
+// Does what the lines of a script say, in a world in which nothing has happened.
+fn run_script(world: &mut World, lines: &[Line], text: &mut Bytes) -> Result<(), NoMemory>
+    requires script { IsScript lines.now }
+    requires few { length lines.now ≤ 10000 }
+    requires world { IsWorld world.old }
+    requires config { world.old.config ≡ setup_of lines.now }
+    requires sent { sent_counts world.old ≡ replicate world.old.config.replicas 0 }
+    requires plays { Plays world.old not_played }
+    ensures plays { OnOk result (Plays world.new (played_by (setup_of lines.now) lines.now)) }
+    ensures text { OnOk result (text.new ≡ text.old ++ lines_text (setup_of lines.now) not_played lines.now) }
+{
+    match lines {
+        [] => Ok(()),
+        [first, later @ ..] => {
+            run_lines(world, first, later, text)?;
+            Ok(())
+        }
+    }
 }
 
 // Does what the lines of a script after its first one say.
@@ -93,6 +115,10 @@ fn run_lines(
 ) -> Result<(), NoMemory>
     requires script { IsScript (first.now ∷ later.now) }
     requires world { Stands world.old (first.now ∷ []) }
+    requires plays { Plays world.old not_played }
+    requires few { length (first.now ∷ later.now) ≤ 10000 }
+    ensures plays { OnOk result (Plays world.new (played_by (setup_of (first.now ∷ later.now)) (first.now ∷ later.now))) }
+    ensures text { OnOk result (text.new ≡ text.old ++ lines_text (setup_of (first.now ∷ later.now)) not_played (first.now ∷ later.now)) }
 {
     for line in later {
         world.step(line, text)?;

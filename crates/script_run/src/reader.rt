@@ -204,6 +204,7 @@ fn one_more(reader: &mut Reader, alloc: Global, number: u64, raw: &[u8]) -> Resu
     requires { IsReading reader.old }
     ensures reading { OnOk result (IsReading reader.new) }
     ensures few { OnOk result (number ≤ 10000) }
+    ensures grows { OnOk result (length reader.new.lines ≤ length reader.old.lines + 1) }
     ensures read { Gives (λ _. reader.new.lines) result (lines_after number reader.old.lines raw.now) }
 {
     if let Some(kind) = fault_of(number, raw) {
@@ -257,6 +258,7 @@ fn begun(alloc: Global, line: Line, config: Config) -> Result<Reader, NoMemory>
 pub(crate) fn begin(alloc: Global, bytes: &[u8]) -> Result<(Reader, u64, &[u8]), ScriptFault>
     ensures reading { IfOk result (λ x. IsReading x.0) }
     ensures few { IfOk result (λ x. x.1 ≤ 10001) }
+    ensures lines { IfOk result (λ x. length x.0.lines < x.1) }
     ensures ok { IfOk result (λ x. read_from x.1 x.0.lines (raw_lines x.2.now) ≡ script_of bytes.now) }
     ensures err { IfErr result (λ fault. Reads (Err fault) (script_of bytes.now)) }
 {
@@ -290,7 +292,9 @@ pub(crate) fn go_on(
 ) -> Result<(), ScriptFault>
     requires reading { IsReading reader.old }
     requires few { first ≤ 10001 }
+    requires lines { length reader.old.lines < first }
     ensures reading { OnOk result (IsReading reader.new) }
+    ensures few { OnOk result (length reader.new.lines ≤ 10000) }
     ensures ok { OnOk result (read_from first reader.old.lines (raw_lines text.now) ≡ Ok reader.new.lines) }
     ensures err { IfErr result (λ fault. Reads (Err fault) (read_from first reader.old.lines (raw_lines text.now))) }
 {

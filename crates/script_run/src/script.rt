@@ -1,5 +1,5 @@
 //! Scripts and their reader.
-ghost use Rattle.std.specs.Prelude.{◌≡◌, IfOk};
+ghost use Rattle.std.specs.Prelude.{◌≡◌, ◌≤◌, length, IfOk};
 ghost use Rattle.script_run.specs.declared.script.ScriptFault.TheVariants.{NoMemory as OutOfMemory};
 ghost use Rattle.script_run.specs.Forms.{setup_of};
 ghost use Rattle.script_run.specs.Scripts.{script_of, IsScript, Reads};
@@ -66,6 +66,7 @@ impl Script {
 /// line's first fault.
 pub fn parse_script(alloc: Global, bytes: &[u8]) -> Result<Script, ScriptFault>
     ensures script { IfOk result IsScript }
+    ensures few { IfOk result (λ script. length script ≤ 10000) }
     ensures read { Reads result (script_of bytes.now) }
 {
     let (mut reader, number, rest) = begin(alloc, bytes)?;

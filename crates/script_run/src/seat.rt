@@ -1,6 +1,12 @@
 //! A replica as plain lists: what it has of each origin, and what it knows of its peers.
-ghost use Rattle.std.specs.Prelude.{◌≡◌, ◌*◌, ◌<◌, ◌≤◌, ◌==◌, [], if◌then◌else◌, length, slice_index_or, vec_len, IfOk, OnOk};
-ghost use Rattle.tact_base.specs.Covers.{no_cover};
+ghost use Rattle.std.specs.Prelude.{◌≡◌, ◌*◌, ◌+◌, ◌<◌, ◌≤◌, max, List, [], ◌∷◌, ◌++◌, length, map, take, drop, vec_len, slice_index, slice_set, IfOk, OnOk, OnErr};
+ghost use Rattle.tact_base.specs.Covers.{cover_after};
+ghost use Rattle.run_model.specs.Histories.{greatest, calls_in};
+ghost use Rattle.run_model.specs.Kept.{have, clock};
+ghost use Rattle.run_model.specs.declared.call.Request.TheVariants as request;
+ghost use Rattle.run_model.specs.declared.call.Reply.TheVariants as reply;
+ghost use Rattle.run_model.specs.declared.entry.Act.TheVariants as act;
+ghost use Rattle.run_model.specs.declared.entry.Entry.{Entry};
 
 use run_model::{Act, Reply, Request};
 use std::alloc::Global;
@@ -30,16 +36,18 @@ pub(crate) struct Seat {
     ghost logs_sized: { vec_len logs ≡ replicas },
     ghost covers_sized: { vec_len covers ≡ replicas },
     ghost known_sized: { vec_len known ≡ replicas * replicas },
+    ghost calls_sized: { length calls ≡ 8 },
 }
 
 impl Seat {
-    ghost use Rattle.script_run.specs.Seats.{SameSize};
+    ghost use Rattle.script_run.specs.Seats.{state_of, log_at, SeatStands};
 
     /// A replica that has done nothing.
     pub(crate) fn new(alloc: Global, replica: u32, replicas: u32) -> Result<Self, NoMemory>
         requires few { replicas ≤ 8 }
         requires among { replica < replicas }
-        ensures { IfOk result (λ seat. (seat.replica ≡ replica) × (seat.replicas ≡ replicas)) }
+        ensures size { IfOk result (λ seat. (seat.replica ≡ replica) × (seat.replicas ≡ replicas)) }
+        ensures stands { IfOk result (SeatStands replica []) }
     {
         let mut logs = Vec::new(alloc);
         for _ in 0..replicas {
@@ -59,21 +67,23 @@ impl Seat {
     }
 
     /// The moment of its next entry, where this one is handed.
-    pub(crate) fn moment_at(&self, handed: u64) -> u64 {
+    pub(crate) fn moment_at(&self, handed: u64) -> u64
+        ensures { result ≡ max handed self.now.last }
+    {
         handed.max(self.last)
     }
 
     /// How many writes of an origin it has.
     pub(crate) fn have(&self, origin: u32) -> u64
         requires { origin < self.now.replicas }
-        ensures { result ≡ length (slice_index_or self.now.logs.items origin []) }
+        ensures { result ≡ length (log_at (state_of self.now) origin) }
     {
         self.logs[origin as usize].len() as u64
     }
 }
 
 impl Seat {
-    ghost use Rattle.script_run.specs.Seats.{SameSize};
+    ghost use Rattle.script_run.specs.Seats.{SameSize, state_of, log_at, cover_at, known_at, cover_told, one_more, SeatStands, HasRoom, StandsWith};
 
     /// Its number.
     pub(crate) fn replica(&self) -> u32
@@ -90,7 +100,9 @@ impl Seat {
     }
 
     /// How many messages it sent.
-    pub(crate) fn sends(&self) -> u64 {
+    pub(crate) fn sends(&self) -> u64
+        ensures { result ≡ self.now.sends }
+    {
         self.sends
     }
 
@@ -105,6 +117,7 @@ impl Seat {
     pub(crate) fn known(&self, peer: u32, origin: u32) -> u64
         requires peer { peer < self.now.replicas }
         requires origin { origin < self.now.replicas }
+        ensures { result ≡ known_at (state_of self.now) peer origin }
     {
         self.known[(peer * self.replicas + origin) as usize]
     }
@@ -112,9 +125,7 @@ impl Seat {
     /// The cover of an origin: of itself its own state, at this moment.
     pub(crate) fn cover(&self, origin: u32, moment: u64) -> Cover
         requires { origin < self.now.replicas }
-        ensures { result ≡ (if origin == self.now.replica
-            then record { count = length (slice_index_or self.now.logs.items origin []); stamp = self.now.clock; moment = moment }
-            else slice_index_or self.now.covers.items origin no_cover) }
+        ensures { result ≡ cover_told (state_of self.now) moment origin }
     {
         if origin == self.replica {
             Cover {
@@ -130,7 +141,7 @@ impl Seat {
     /// The log of an origin.
     pub(crate) fn log(&self, origin: u32) -> &[Write]
         requires { origin < self.now.replicas }
-        ensures { result.now ≡ slice_index_or self.now.logs.items origin [] }
+        ensures { result.now ≡ log_at (state_of self.now) origin }
     {
         self.logs[origin as usize].items()
     }
@@ -138,7 +149,7 @@ impl Seat {
     /// At most so many writes of an origin from the first on.
     pub(crate) fn stretch(&self, origin: u32, first: u64, most: usize) -> &[Write]
         requires { origin < self.now.replicas }
-        ensures { length result.now ≤ most }
+        ensures { result.now ≡ take most (drop first (log_at (state_of self.now) origin)) }
     {
         let log = self.logs[origin as usize].items();
         if first >= log.len() as u64 {
@@ -150,18 +161,20 @@ impl Seat {
 
     /// Notes that a message was sent.
     pub(crate) fn note_sent(&mut self, moment: u64)
-        ensures { SameSize self.old self.new }
+        ensures { state_of self.new ≡ record (state_of self.old) { sends = one_more self.old.sends; last = moment } }
     {
         self.sends = self.sends.saturating_add(1);
         self.last = moment;
     }
 
     /// Appends a write to the log of an origin.
-    pub(crate) fn add(&mut self, origin: u32, write: &Write) -> Result<(), NoMemory>
+    pub(crate) fn append(&mut self, origin: u32, write: Write) -> Result<(), NoMemory>
         requires { origin < self.old.replicas }
-        ensures { SameSize self.old self.new }
+        ensures ok { OnOk result (state_of self.new ≡ record (state_of self.old) {
+          logs = slice_set self.old.logs.items origin (log_at (state_of self.old) origin ++ write ∷ []);
+        }) }
+        ensures err { OnErr result (state_of self.new ≡ state_of self.old) }
     {
-        let write = write.clone()?;
         let log = &mut self.logs[origin as usize];
         log.push(write)
     }
@@ -169,23 +182,23 @@ impl Seat {
     /// Keeps a told cover of an origin, where it is within the log and no number of it is less.
     pub(crate) fn take_cover(&mut self, origin: u32, told: Cover)
         requires { origin < self.old.replicas }
-        ensures { SameSize self.old self.new }
+        ensures { state_of self.new ≡ record (state_of self.old) {
+          covers = slice_set self.old.covers.items origin
+              (cover_after (length (log_at (state_of self.old) origin)) (cover_at (state_of self.old) origin) told);
+        } }
     {
         let kept = self.covers[origin as usize];
-        let is_within = told.count <= self.have(origin);
-        let is_later = kept.count <= told.count
-            && kept.stamp <= told.stamp
-            && kept.moment <= told.moment;
-        if is_within && is_later {
-            self.covers[origin as usize] = told;
-        }
+        self.covers[origin as usize] = cover_after(self.have(origin), kept, told);
     }
 
     /// Learns how many writes of an origin a peer has.
     pub(crate) fn learn(&mut self, peer: u32, origin: u32, told: u64)
         requires peer { peer < self.old.replicas }
         requires origin { origin < self.old.replicas }
-        ensures { SameSize self.old self.new }
+        ensures { state_of self.new ≡ record (state_of self.old) {
+          known = slice_set self.old.known.items (peer * self.old.replicas + origin)
+              (max (known_at (state_of self.old) peer origin) told);
+        } }
     {
         let place = (peer * self.replicas + origin) as usize;
         self.known[place] = self.known[place].max(told);
@@ -193,7 +206,10 @@ impl Seat {
 
     /// Notes that a message with these covers was taken: the clock rises to their greatest stamp.
     pub(crate) fn note_taken(&mut self, covers: &[Cover], moment: u64)
-        ensures { SameSize self.old self.new }
+        ensures { state_of self.new ≡ record (state_of self.old) {
+          clock = max self.old.clock (greatest (map (λ cover. cover.stamp) covers.now));
+          last = moment;
+        } }
     {
         for cover in covers {
             self.clock = self.clock.max(cover.stamp);
@@ -201,7 +217,7 @@ impl Seat {
         self.last = moment;
     }
 
-    /// Accepts a write without weights, and answers its index, its stamp and the number of the call.
+    /// Accepts a write, and answers its index, its stamp and the number of the call.
     pub(crate) fn accept(
         &mut self,
         client: u32,
@@ -211,21 +227,26 @@ impl Seat {
     ) -> Result<Act, NoMemory>
         requires { client < 8 }
         ensures same { SameSize self.old self.new }
+        // the call has the next number, and its write the next index and the next stamp
+        ensures due { IfOk result (λ done. (part : List Entry) → SeatStands self.old.replica part self.old → HasRoom part
+            → done ≡ act.Call client (calls_in part client) (request.Write weights op)
+            (reply.Done (have self.old.replica part self.old.replica) (clock part + 1))) }
+        ensures stands { IfOk result (StandsWith self.old self.new moment) }
     {
-        let own = self.replica as usize;
-        let index = self.logs[own].len() as u64;
+        let own = self.replica;
+        let index = self.have(own);
         let stamp = self.clock.saturating_add(1);
         let number = self.calls[client as usize];
         let asked = weights.clone()?;
         let write = Write {
-            origin: self.replica,
+            origin: own,
             index,
             stamp,
             moment,
             weights,
             op,
         };
-        self.logs[own].push(write)?;
+        self.append(own, write)?;
         self.clock = stamp;
         self.calls[client as usize] = number.saturating_add(1);
         self.last = moment;
@@ -235,5 +256,19 @@ impl Seat {
             request: Request::Write { weights: asked, op },
             reply: Reply::Done { index, stamp },
         })
+    }
+}
+
+// A kept cover after a told one, where the log of the origin has so many writes.
+fn cover_after(have: u64, kept: Cover, told: Cover) -> Cover
+    ensures { result ≡ cover_after have kept told }
+{
+    let is_later = kept.count <= told.count
+        && kept.stamp <= told.stamp
+        && kept.moment <= told.moment;
+    if told.count <= have && is_later {
+        told
+    } else {
+        kept
     }
 }

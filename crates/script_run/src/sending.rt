@@ -1,6 +1,12 @@
 //! The message that a replica sends.
-ghost use Rattle.std.specs.Prelude.{◌≡◌, ◌<◌, ◌≤◌, length, vec_len, IfOk};
-ghost use Rattle.script_run.specs.Seats.{SameSize, IsFor};
+ghost use Rattle.std.specs.Prelude.{◌≡◌, ◌<◌, ◌≤◌, List, take, drop, length, map, vec_len, slice_index, IfOk, OnOk, OnErr};
+ghost use Rattle.std.specs.List.{flat_map, range_with_len};
+ghost use Rattle.run_model.specs.Config.{loan_of};
+ghost use Rattle.run_model.specs.Histories.{conits_of};
+ghost use Rattle.run_model.specs.Messages.{message_of};
+ghost use Rattle.run_model.specs.declared.entry.Act.TheVariants as act;
+ghost use Rattle.run_model.specs.declared.entry.Entry.{Entry};
+ghost use Rattle.script_run.specs.Seats.{SameSize, IsFor, state_of, log_at, cover_told, first_told, origins_of, next_message, SeatStands, HasNoLoans, StandsWith};
 
 use crate::seat::Seat;
 use run_model::{Config, Message};
@@ -22,9 +28,32 @@ impl Seat {
         requires given { length given.now ≡ self.old.replicas }
         ensures same { SameSize self.old self.new }
         ensures message { IfOk result (IsFor self.old.replicas) }
+        ensures next { IfOk result (λ message. message ≡ next_message config.now (state_of self.old) moment to given.now) }
+        ensures due { IfOk result (λ message. (part : List Entry) → SeatStands self.old.replica part self.old → HasNoLoans part
+            → message ≡ message_of config.now self.old.replica part moment to given.now) }
+        ensures stands { IfOk result (λ message. StandsWith self.old self.new moment (act.Send message)) }
+        ensures err { OnErr result (self.new ≡ self.old) }
+    {
+        let message = self.next_message(alloc, config, moment, to, given)?;
+        self.note_sent(moment);
+        Ok(message)
+    }
+
+    fn next_message(
+        &self,
+        alloc: Global,
+        config: &Config,
+        moment: u64,
+        to: u32,
+        given: &[u64],
+    ) -> Result<Message, NoMemory>
+        requires to { to < self.now.replicas }
+        requires config { config.now.replicas ≡ self.now.replicas }
+        requires given { length given.now ≡ self.now.replicas }
+        ensures { IfOk result (λ message. message ≡ next_message config.now (state_of self.now) moment to given.now) }
     {
         let firsts = self.firsts(alloc, to, given)?;
-        let message = Message {
+        Ok(Message {
             from: self.replica(),
             to,
             number: self.sends(),
@@ -34,16 +63,14 @@ impl Seat {
             firsts,
             lent: self.lent(alloc, config, to)?,
             returned: nothing(alloc, config.conits())?,
-        };
-        self.note_sent(moment);
-        Ok(message)
+        })
     }
 
     // By origin, where the told writes begin.
     fn firsts(&self, alloc: Global, to: u32, given: &[u64]) -> Result<Numbers, NoMemory>
         requires to { to < self.now.replicas }
         requires given { length given.now ≡ self.now.replicas }
-        ensures { IfOk result (λ firsts. length firsts ≡ self.now.replicas) }
+        ensures { IfOk result (λ firsts. firsts ≡ map (first_told (state_of self.now) to given.now) (origins_of (state_of self.now))) }
     {
         let mut firsts = Numbers::new(alloc);
         for origin in 0..self.replicas() {
@@ -59,7 +86,7 @@ impl Seat {
     }
 
     fn haves(&self, alloc: Global) -> Result<Numbers, NoMemory>
-        ensures { IfOk result (λ haves. length haves ≡ self.now.replicas) }
+        ensures { IfOk result (λ haves. haves ≡ map (λ origin. length (log_at (state_of self.now) origin)) (origins_of (state_of self.now))) }
     {
         let mut haves = Numbers::new(alloc);
         for origin in 0..self.replicas() {
@@ -69,7 +96,7 @@ impl Seat {
     }
 
     fn all_covers(&self, alloc: Global, moment: u64) -> Result<Covers, NoMemory>
-        ensures { IfOk result (λ covers. length covers ≡ self.now.replicas) }
+        ensures { IfOk result (λ covers. covers ≡ map (cover_told (state_of self.now) moment) (origins_of (state_of self.now))) }
     {
         let mut covers = Covers::new(alloc);
         for origin in 0..self.replicas() {
@@ -81,6 +108,8 @@ impl Seat {
     // From each origin in rising order the writes from its first on, as many as there is room for.
     fn writes(&self, alloc: Global, firsts: &[u64]) -> Result<WriteList, NoMemory>
         requires { length firsts.now ≡ self.now.replicas }
+        ensures { IfOk result (λ writes. writes ≡ take 64
+            (flat_map (λ origin. drop (slice_index firsts.now origin) (log_at (state_of self.now) origin)) (origins_of (state_of self.now)))) }
     {
         let mut writes = WriteList::new(alloc);
         for origin in 0..self.replicas() {
@@ -94,6 +123,7 @@ impl Seat {
     fn lent(&self, alloc: Global, config: &Config, holder: u32) -> Result<Numbers, NoMemory>
         requires holder { holder < self.now.replicas }
         requires config { config.now.replicas ≡ self.now.replicas }
+        ensures { IfOk result (λ lent. lent ≡ map (λ conit. loan_of config.now self.now.replica conit holder) (conits_of config.now)) }
     {
         let mut lent = Numbers::new(alloc);
         for conit in 0..config.conits() {
@@ -104,7 +134,9 @@ impl Seat {
 }
 
 // A number of 0 for each conit.
-fn nothing(alloc: Global, conits: u32) -> Result<Numbers, NoMemory> {
+fn nothing(alloc: Global, conits: u32) -> Result<Numbers, NoMemory>
+    ensures { IfOk result (λ numbers. numbers ≡ map (λ conit. 0) (range_with_len 0 conits)) }
+{
     let mut numbers = Numbers::new(alloc);
     for _ in 0..conits {
         numbers.push(0)?;

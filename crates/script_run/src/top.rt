@@ -30,7 +30,7 @@ pub fn tact<S: Source, K: Sink>(
 ) -> Status
     ensures cause { IfOk (command_of (map string_bytes words.now)) (λ _.
         HasCause result (S.left source.old) (S.left source.new) (S.faults source.old) (S.faults source.new) (K.faults sink.old) (K.faults sink.new)) }
-    ensures written { IfOk (command_of (map string_bytes words.now)) (λ _. Writes result (K.written sink.old) (K.written sink.new)) }
+    ensures written { IfOk (command_of (map string_bytes words.now)) (λ _. Writes result (S.left source.old) (K.written sink.old) (K.written sink.new)) }
     ensures complete { IfOk (command_of (map string_bytes words.now)) (λ _.
         Completes result (S.left source.old) (S.faults source.old) (S.faults source.new) (K.faults sink.old) (K.faults sink.new)) }
     ensures usage { IfErr (command_of (map string_bytes words.now)) (λ kind. (result ≡ Usage kind) × (source.new ≡ source.old) × (sink.new ≡ sink.old)) }

@@ -1,5 +1,8 @@
 //! The world that a script runs in.
 ghost use Rattle.std.specs.Prelude.{◌≡◌, ◌+◌, ◌<◌, ◌≤◌, [], ◌∷◌, ◌++◌, length, map, replicate, slice_set, slice_index, slice_index_or, IfOk, OnOk};
+ghost use Rattle.run_model.specs.ScriptRuns.{not_played};
+ghost use Rattle.run_model.specs.Text.{entry_text};
+ghost use Rattle.script_run.specs.Seats.{one_more};
 ghost use Rattle.script_run.specs.Forms.{NamesOnly};
 
 use crate::seat::Seat;
@@ -20,13 +23,14 @@ pub(crate) struct World {
 }
 
 impl World {
-    ghost use Rattle.script_run.specs.Worlds.{IsWorld, MayStep, sent_counts, counts_after};
+    ghost use Rattle.script_run.specs.Worlds.{IsWorld, MayStep, sent_counts, counts_after, Plays, GoesOn, Steps, IsWriteDue, IsSendDue, IsTakeDue};
 
     /// The world of a setup, in which nothing has happened.
     pub(crate) fn new(alloc: Global, config: &Config) -> Result<Self, NoMemory>
         ensures world { IfOk result IsWorld }
         ensures config { IfOk result (λ world. world.config ≡ config.now) }
         ensures sent { IfOk result (λ world. sent_counts world ≡ replicate config.now.replicas 0) }
+        ensures plays { IfOk result (λ world. Plays world not_played) }
     {
         let replicas = config.replicas();
         let mut seats = Vec::new(alloc);
@@ -45,7 +49,9 @@ impl World {
     }
 
     /// How many entries there are.
-    pub(crate) fn count(&self) -> u64 {
+    pub(crate) fn count(&self) -> u64
+        ensures { result ≡ self.now.count }
+    {
         self.count
     }
 
@@ -56,6 +62,7 @@ impl World {
         ensures world { OnOk result (IsWorld self.new) }
         ensures config { self.new.config ≡ self.old.config }
         ensures sent { OnOk result (sent_counts self.new ≡ counts_after (sent_counts self.old) line.now) }
+        ensures steps { OnOk result (Steps self.old self.new line.now out.old out.new) }
     {
         match line {
             Line::Write {
@@ -90,6 +97,8 @@ impl World {
         ensures world { IsWorld self.new }
         ensures config { self.new.config ≡ self.old.config }
         ensures sent { sent_counts self.new ≡ sent_counts self.old }
+        ensures entered { OnOk result ((self.new ≡ record self.old { count = one_more self.old.count })
+            × (out.new ≡ out.old ++ entry_text (record { replica = replica; moment = 0; act = act }) ++ 10 ∷ [])) }
     {
         let entry = Entry {
             replica,
@@ -114,10 +123,13 @@ impl World {
         ensures world { OnOk result (IsWorld self.new) }
         ensures config { self.new.config ≡ self.old.config }
         ensures sent { OnOk result (sent_counts self.new ≡ sent_counts self.old) }
+        ensures count { self.new.count ≡ self.old.count }
+        ensures goes { IfOk result (λ did. GoesOn self.old self.new replica did (IsWriteDue replica client weights.now op)) }
     {
         let weights = weights.clone()?;
         let seat = &mut self.seats[replica as usize];
-        seat.accept(client, 0, op, weights)
+        let done = seat.accept(client, 0, op, weights)?;
+        Ok(done)
     }
 
     fn send(&mut self, from: u32, to: u32, firsts: &[u64]) -> Result<Act, NoMemory>
@@ -128,6 +140,8 @@ impl World {
         ensures world { OnOk result (IsWorld self.new) }
         ensures config { self.new.config ≡ self.old.config }
         ensures sent { OnOk result (sent_counts self.new ≡ slice_set (sent_counts self.old) from (slice_index (sent_counts self.old) from + 1)) }
+        ensures count { self.new.count ≡ self.old.count }
+        ensures goes { IfOk result (λ did. GoesOn self.old self.new from did (IsSendDue self.old.config from to firsts.now)) }
     {
         let seat = &mut self.seats[from as usize];
         let message = seat.send(self.alloc, &self.config, 0, to, firsts)?;
@@ -144,6 +158,8 @@ impl World {
         ensures world { OnOk result (IsWorld self.new) }
         ensures config { self.new.config ≡ self.old.config }
         ensures sent { OnOk result (sent_counts self.new ≡ sent_counts self.old) }
+        ensures count { self.new.count ≡ self.old.count }
+        ensures goes { IfOk result (λ did. GoesOn self.old self.new replica did (IsTakeDue from number)) }
     {
         let sent = self.sent[from as usize].items();
         let message = sent[number as usize].clone()?;

@@ -1,4 +1,4 @@
-use Rattle.std.proofs.Common.{◌≡◌, ◌++◌}
+use Rattle.std.proofs.Common.{◌≡◌}
 use Rattle.script_run.specs.Forms.{opening_row}
 use Rattle.std.specs.List.{range_with_len, flat_map}
 use Rattle.script_run.proofs.forms.opening_loans.Given as goal

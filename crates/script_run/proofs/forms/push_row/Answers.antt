@@ -1,4 +1,4 @@
-use Rattle.std.proofs.Common.{ℕ, cond, eqb}
+use Rattle.std.proofs.Common.{cond, eqb}
 use Rattle.script_run.proofs.Ranges.{mapped_more}
 use Rattle.script_run.proofs.forms.push_row.Goals as goal
 

@@ -1,5 +1,4 @@
 use Rattle.std.proofs.Common.{◌≡◌, ◌++◌}
-use Rattle.script_run.specs.Forms.{opening_row}
 use Rattle.std.specs.List.{range_with_len}
 use Rattle.std.proofs.Common.{map, cond, eqb}
 use Rattle.script_run.proofs.forms.push_row.Given as goal

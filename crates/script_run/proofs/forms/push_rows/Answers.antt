@@ -1,4 +1,4 @@
-use Rattle.std.proofs.Common.{◌≡◌, ℕ, List, [], ◌∷◌, ◌++◌, ap, sym, ◌∙◌, append_assoc}
+use Rattle.std.proofs.Common.{ℕ, List, ◌++◌, ap, sym, ◌∙◌, append_assoc}
 use Rattle.script_run.specs.Forms.{opening_row}
 use Rattle.script_run.proofs.Ranges.{flat_map_range_more}
 use Rattle.script_run.proofs.forms.push_rows.Goals as goal

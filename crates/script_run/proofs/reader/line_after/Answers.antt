@@ -1,11 +1,10 @@
-use Rattle.std.proofs.Common.{◌≡◌, ℕ, List, ap, sym, ◌∙◌, subst, length}
+use Rattle.std.proofs.Common.{ap, sym, ◌∙◌, subst, length}
 use Rattle.std.proofs.lemmas.Result.{IfOk-weaker}
-use Rattle.run_model.specs.declared.script_line.Line.{Line}
 use Rattle.run_model.specs.Config.{Setup}
 use Rattle.script_run.specs.Cutting.{tokens}
 use Rattle.script_run.specs.Fields.{Gives}
-use Rattle.script_run.specs.Forms.{setup_of, sent_by, NamesOnly}
-use Rattle.script_run.specs.Scripts.{FitsAfter, IsAddressed}
+use Rattle.script_run.specs.Forms.{NamesOnly}
+use Rattle.script_run.specs.Scripts.{IsAddressed}
 use Rattle.script_run.proofs.ScriptLemmas.{length-sent_by, line_after_is}
 use Rattle.script_run.proofs.reader.line_after.Goals as goal
 

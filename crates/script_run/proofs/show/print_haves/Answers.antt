@@ -1,4 +1,4 @@
-use Rattle.std.proofs.Common.{◌≡◌, length, append_assoc}
+use Rattle.std.proofs.Common.{length, append_assoc}
 use Rattle.script_run.specs.Shown.{log_at}
 use Rattle.script_run.proofs.ShownLemmas.{spaced_more}
 use Rattle.script_run.proofs.show.print_haves.Goals as goal

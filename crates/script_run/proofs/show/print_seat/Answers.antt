@@ -1,4 +1,4 @@
-use Rattle.std.proofs.Common.{◌≡◌, ◌∷◌, ◌++◌, [], ◌∙◌, codes, decimal, map, List, ℕ}
+use Rattle.std.proofs.Common.{◌≡◌, ◌∷◌, ◌++◌, [], ◌∙◌, codes, decimal, map}
 use Rattle.run_model.proofs.TextLemmas.{line_from_parts}
 use Rattle.script_run.specs.Shown.{shown_text, writes_tokens, haves_at, point_at, writes_at}
 use Rattle.std.proofs.lemmas.Result.{on_ok_weaker}

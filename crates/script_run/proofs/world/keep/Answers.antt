@@ -1,4 +1,3 @@
-use Rattle.std.proofs.Common.{ap, ◌∙◌, map, length}
 use Rattle.std.proofs.lemmas.Result.{on_ok_weaker}
 use Rattle.script_run.proofs.WorldLemmas.{counts_kept}
 use Rattle.script_run.proofs.world.keep.Goals as goal

@@ -1,0 +1,140 @@
+-- The message that a replica sends.
+use Rattle.std.proofs.Common.{◌≡◌, ℕ, zero, suc, ◌+◌, ◌-◌, ◌<◌, ◌==◌, min, max, cond, List, [], ◌∷◌, ◌++◌, length, get_or, take, drop, map, sum_by, flat_map, All, refl, sym, ap, ap₂, ◌∙◌, arith}
+use Rattle.std.specs.List.{range_with_len}
+use Rattle.std.proofs.lemmas.Bool.{eq-eqb, ne_eqb}
+use Rattle.std.proofs.lemmas.List.Elements.{All-head, All-tail}
+use Rattle.std.proofs.lemmas.List.Sums.{sum_by-cons}
+use Rattle.std.proofs.lemmas.List.FromFn.{length-map-range_with_len}
+use Rattle.tact_base.proofs.ListLemmas.{All-range, flat_map_agree, get_or-map_range}
+use Rattle.tact_base.specs.declared.limits.TheConstants.{MESSAGE_WRITES}
+use Rattle.tact_base.specs.declared.write.Cover.{Cover}
+use Rattle.tact_base.specs.declared.write.Write.{Write}
+use Rattle.run_model.specs.Config.{Setup, loan_of}
+use Rattle.run_model.specs.Histories.{replicas_of}
+use Rattle.run_model.specs.Kept.{log_of, have, cover_of}
+use Rattle.run_model.specs.Loans.{lent_by_act, returned_by_act, lent, returned}
+use Rattle.run_model.specs.Messages.{first_for, writes_for, message_of}
+use Rattle.run_model.specs.declared.entry.Act.{Act}
+use Rattle.run_model.specs.declared.entry.Act.TheVariants as act
+use Rattle.run_model.specs.declared.entry.Entry.{Entry}
+use Rattle.run_model.specs.declared.entry.Message.{Message}
+use Rattle.script_run.specs.Seats.{State, StateStands, MovesNoLoan, HasNoLoans, IsFor, log_at, known_at, cover_told, first_told, origins_of, next_message}
+use Rattle.script_run.proofs.Ranges.{flat_map_range_more}
+use Rattle.script_run.proofs.ReadLemmas.{stands_have, stands_cover}
+
+pub first_told-same : (state : State) (to : ℕ) (given : List ℕ) (origin : ℕ) → origin ≡ to → first_told state to given origin ≡ length (log_at state origin)
+first_told-same state to given origin same =
+    ap (λ yes. cond yes (length (log_at state origin)) (min (length (log_at state origin)) (max (get_or given origin 0) (known_at state to origin)))) (eq-eqb origin to same)
+
+pub first_told-other : (state : State) (to : ℕ) (given : List ℕ) (origin : ℕ) → (origin ≡ to → ⊥) → first_told state to given origin ≡ min (length (log_at state origin)) (max (get_or given origin 0) (known_at state to origin))
+first_told-other state to given origin other =
+    ap (λ yes. cond yes (length (log_at state origin)) (min (length (log_at state origin)) (max (get_or given origin 0) (known_at state to origin)))) (ne_eqb origin to other)
+
+-- the first few of two lists, and of one more origin
+take-append : {A : Type 0} (m : ℕ) (xs ys : List A) → take m (xs ++ ys) ≡ take m xs ++ take (m - length (take m xs)) ys
+take-append zero xs ys = refl
+take-append (suc m) [] ys = let e : suc m - 0 ≡ suc m = omega arith in ap (λ n. take n ys) (sym e)
+take-append (suc m) (x ∷ xs) ys =
+    let e : suc m - suc (length (take m xs)) ≡ m - length (take m xs) = omega arith in
+    ap (λ (rest : List _). x ∷ rest) (take-append m xs ys ∙ ap (λ n. take m xs ++ take n ys) (sym e))
+
+pub writes_more : (of_origin : ℕ → List Write) (n room : ℕ) (before after : List Write) → before ≡ take 64 (flat_map of_origin (range_with_len 0 n)) → room ≡ 64 - length before
+    → after ≡ before ++ take room (of_origin n) → after ≡ take 64 (flat_map of_origin (range_with_len 0 (n + 1)))
+writes_more of_origin n room before after was left grew =
+    grew
+    ∙ ap (λ (k : ℕ). before ++ take k (of_origin n)) left
+    ∙ ap (λ (ws : List Write). ws ++ take (64 - length ws) (of_origin n)) was
+    ∙ sym (take-append 64 (flat_map of_origin (range_with_len 0 n)) (of_origin n))
+    ∙ ap (take 64) (sym (flat_map_range_more of_origin n))
+
+-- two functions that agree below a bound
+map_agree : {A : Type 0} (f g : ℕ → A) (xs : List ℕ) → All (λ n. f n ≡ g n) xs → map f xs ≡ map g xs
+map_agree f g [] all = refl
+map_agree f g (x ∷ xs) all =
+    rw (All-head (λ n. f n ≡ g n) x xs all, map_agree f g xs (All-tail (λ n. f n ≡ g n) x xs all)) refl
+
+map_range_agree : {A : Type 0} (f g : ℕ → A) (len : ℕ) → ((n : ℕ) → n < len → f n ≡ g n) → map f (range_with_len 0 len) ≡ map g (range_with_len 0 len)
+map_range_agree f g len agree = map_agree f g (range_with_len 0 len) (All-range (λ n. f n ≡ g n) 0 len (λ n low high. agree n (omega (arith, high))))
+
+-- its writes, by the firsts of its message
+pub writes_told : (state : State) (to : ℕ) (given : List ℕ)
+    → take 64 (flat_map (λ origin. drop (get_or (map (first_told state to given) (origins_of state)) origin 0) (log_at state origin)) (origins_of state))
+    ≡ take MESSAGE_WRITES (flat_map (λ origin. drop (first_told state to given origin) (log_at state origin)) (origins_of state))
+writes_told state to given =
+    ap (take 64)
+    (flat_map_agree (λ origin. drop (get_or (map (first_told state to given) (origins_of state)) origin 0) (log_at state origin)) (λ origin. drop (first_told state to given origin) (log_at state origin)) (origins_of state)
+    (All-range _ 0 state.replicas (λ origin low high. ap (λ (k : ℕ). drop k (log_at state origin)) (get_or-map_range (first_told state to given) state.replicas origin 0 (omega (arith, high))))))
+
+-- a message that it sends is among as many replicas
+pub next_is_for : (setup : Setup) (state : State) (moment to : ℕ) (given : List ℕ) → state.replica < state.replicas → IsFor state.replicas (next_message setup state moment to given)
+next_is_for setup state moment to given among = record {
+  from = among;
+  haves = length-map-range_with_len (λ origin. length (log_at state origin)) 0 state.replicas;
+  covers = length-map-range_with_len (cover_told state moment) 0 state.replicas;
+  firsts = length-map-range_with_len (first_told state to given) 0 state.replicas;
+}
+
+-- a part without loans lent and gave back nothing
+lends_nothing : (done : Act) (holder conit : ℕ) → MovesNoLoan done → lent_by_act holder conit done ≡ 0
+lends_nothing (act.Lend to at amount) holder conit none = absurd none
+lends_nothing other holder conit none = refl
+
+returns_nothing : (done : Act) (owner conit : ℕ) → MovesNoLoan done → returned_by_act owner conit done ≡ 0
+returns_nothing (act.Back to at amount) owner conit none = absurd none
+returns_nothing other owner conit none = refl
+
+sum_of_none : {A : Type 0} (f : A → ℕ) (xs : List A) → All (λ x. f x ≡ 0) xs → sum_by f xs ≡ 0
+sum_of_none f [] all = refl
+sum_of_none f (x ∷ xs) all =
+    omega (arith, sum_by-cons f x xs, All-head (λ x. f x ≡ 0) x xs all, sum_of_none f xs (All-tail (λ x. f x ≡ 0) x xs all))
+
+lent_opening : (setup : Setup) (replica : ℕ) (part : List Entry) (holder conit : ℕ) → HasNoLoans part → lent setup replica part holder conit ≡ loan_of setup replica conit holder
+lent_opening setup replica part holder conit none =
+    omega (arith, sum_of_none (λ (entry : Entry). lent_by_act holder conit entry.act) part (λ k d within. lends_nothing (get_or part k d).act holder conit (none k d within)))
+
+returned_nothing : (part : List Entry) (owner conit : ℕ) → HasNoLoans part → returned part owner conit ≡ 0
+returned_nothing part owner conit none =
+    sum_of_none (λ (entry : Entry). returned_by_act owner conit entry.act) part (λ k d within. returns_nothing (get_or part k d).act owner conit (none k d within))
+
+-- messages of the same parts
+abbrev pub told_by : ℕ → ℕ → ℕ → List ℕ → List Cover → List ℕ → List Write → List ℕ → List ℕ → Message
+told_by from to number haves covers firsts writes lent returned = record { from = from; to = to; number = number; haves = haves; covers = covers; firsts = firsts; writes = writes; lent = lent; returned = returned }
+
+pub same_message : (from from' to number number' : ℕ) (haves haves' : List ℕ) (covers covers' : List Cover) (firsts firsts' : List ℕ) (writes writes' : List Write) (lent lent' returned returned' : List ℕ)
+    → from ≡ from' → number ≡ number' → haves ≡ haves' → covers ≡ covers' → firsts ≡ firsts' → writes ≡ writes' → lent ≡ lent' → returned ≡ returned'
+    → told_by from to number haves covers firsts writes lent returned ≡ told_by from' to number' haves' covers' firsts' writes' lent' returned'
+same_message from from' to number number' haves haves' covers covers' firsts firsts' writes writes' lent lent' returned returned' a b c d e f g h =
+    ap₂ (λ x y. told_by x to y haves covers firsts writes lent returned) a b
+    ∙ ap₂ (λ x y. told_by from' to number' x y firsts writes lent returned) c d
+    ∙ ap₂ (λ x y. told_by from' to number' haves' covers' x y lent returned) e f
+    ∙ ap₂ (λ x y. told_by from' to number' haves' covers' firsts' writes' x y) g h
+
+-- where it stands for a part, it sends the message that is due after it
+module _ (setup : Setup) (replica : ℕ) (part : List Entry) (state : State) (stands : StateStands replica part state) (size : setup.replicas ≡ state.replicas) where
+  stands_first : (to : ℕ) (given : List ℕ) → to < state.replicas → (origin : ℕ) → origin < state.replicas → first_told state to given origin ≡ first_for replica part to given origin
+  stands_first to given to_in origin within =
+      ap (λ (n : ℕ). cond (origin == to) n (min n (max (get_or given origin 0) (known_at state to origin)))) (stands_have replica part state stands origin within)
+      ∙ ap (λ (n : ℕ). cond (origin == to) (have replica part origin) (min (have replica part origin) (max (get_or given origin 0) n))) (stands.known to origin to_in within)
+
+  over_replicas : {A : Type 0} (f g : ℕ → A) → ((origin : ℕ) → origin < state.replicas → f origin ≡ g origin) → map f (origins_of state) ≡ map g (replicas_of setup)
+  over_replicas f g agree = map_range_agree f g state.replicas agree ∙ ap (λ (n : ℕ). map g (range_with_len 0 n)) (sym size)
+
+  stands_writes : (to : ℕ) (given : List ℕ) → to < state.replicas
+      → take MESSAGE_WRITES (flat_map (λ origin. drop (first_told state to given origin) (log_at state origin)) (origins_of state)) ≡ writes_for setup replica part to given
+  stands_writes to given to_in =
+      ap (take MESSAGE_WRITES)
+      (flat_map_agree (λ origin. drop (first_told state to given origin) (log_at state origin)) (λ origin. drop (first_for replica part to given origin) (log_of replica part origin)) (origins_of state)
+      (All-range (λ origin. drop (first_told state to given origin) (log_at state origin) ≡ drop (first_for replica part to given origin) (log_of replica part origin)) 0 state.replicas
+      (λ origin low high. ap₂ drop (stands_first to given to_in origin (omega (arith, high))) (stands.logs origin (omega (arith, high)))))
+      ∙ ap (λ (n : ℕ). flat_map (λ origin. drop (first_for replica part to given origin) (log_of replica part origin)) (range_with_len 0 n)) (sym size))
+
+  pub next_due : (moment to : ℕ) (given : List ℕ) → to < state.replicas → HasNoLoans part → next_message setup state moment to given ≡ message_of setup replica part moment to given
+  next_due moment to given to_in none = same_message _ _ to _ _ _ _ _ _ _ _ _ _ _ _ _ _
+      stands.replica_is stands.sends
+      (over_replicas (λ origin. length (log_at state origin)) (have replica part) (stands_have replica part state stands))
+      (over_replicas (cover_told state moment) (cover_of replica part moment) (stands_cover replica part state stands moment))
+      (over_replicas (first_told state to given) (first_for replica part to given) (stands_first to given to_in))
+      (stands_writes to given to_in)
+      (map_range_agree (λ conit. loan_of setup state.replica conit to) (lent setup replica part to) setup.conits
+      (λ conit within. ap (λ (r : ℕ). loan_of setup r conit to) stands.replica_is ∙ sym (lent_opening setup replica part to conit none)))
+      (map_range_agree (λ conit. 0) (returned part to) setup.conits (λ conit within. sym (returned_nothing part to conit none)))
