@@ -19,3 +19,4 @@ pub mod EntriesInRange
 pub mod ClockBound
 pub mod InRange
 pub mod Firsts
+pub mod BoardText

@@ -15,3 +15,4 @@ pub mod Call
 pub mod Text
 pub mod ScriptRuns
 pub mod Worked
+pub mod WorkedBoard

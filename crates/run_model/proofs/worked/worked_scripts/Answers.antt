@@ -1,6 +1,7 @@
 -- Both sides compute to one text.
 use Rattle.std.proofs.Common.{refl}
 use Rattle.std.specs.Fmt.{digits}
+use Rattle.run_model.proofs.BoardText.{text_of-bulletin_board}
 use Rattle.run_model.proofs.worked.worked_scripts.Goals as goal
 
 pub returns : goal.returns
@@ -22,4 +23,5 @@ returns c = record {
   allowances = refl;
   admission_of_one_replica = refl;
   restarts = refl;
+  bulletin_board = text_of-bulletin_board;
 }
