@@ -38,7 +38,7 @@ pub record IsSent (setup : Setup) (replica : ℕ) (part : List Entry) (at : ℕ)
   pub accepts : accepted_by replica at done ≡ None
   pub takes : taken_by_act done ≡ None
 
-sent_is : (setup : Setup) (replica : ℕ) (part : List Entry) (at : ℕ) (done : Act) (message : Message) → IsActDue setup replica part at done → sent_by_act done ≡ Some message → IsSent setup replica part at done message
+pub sent_is : (setup : Setup) (replica : ℕ) (part : List Entry) (at : ℕ) (done : Act) (message : Message) → IsActDue setup replica part at done → sent_by_act done ≡ Some message → IsSent setup replica part at done message
 sent_is setup replica part at (act.Send sent) message due some = record {
   is = subst (λ m. m ≡ message_of setup replica part at m.to m.firsts) (same_Some sent message some) due;
   accepts = refl;

@@ -1,0 +1,15 @@
+pub mod Peers
+pub mod PeerSums
+pub mod LoanSteps
+pub mod LoansAgree
+pub mod KeepsHome
+pub mod SharesSums
+pub mod SharesWrites
+pub mod KeepsShares
+pub mod Exact
+pub mod Within
+pub mod Fitting
+pub mod Quiet
+pub mod NumErrors
+pub mod Answered
+pub mod Kept
