@@ -1,5 +1,5 @@
 -- Line by line, a world plays a script, and prints its text.
-use Rattle.std.proofs.Common.{◌≡◌, ℕ, ◌≤◌, ◌==◌, List, [], ◌∷◌, ◌++◌, length, take, Option, None, Some, Ok, refl, sym, ap, ap₂, ◌∙◌, subst, append_assoc, arith}
+use Rattle.std.proofs.Common.{◌≡◌, ℕ, ◌≤◌, ◌==◌, List, [], ◌∷◌, ◌++◌, length, take, Option, None, Some, Ok, inr, refl, sym, ap, ap₂, ◌∙◌, subst, append_assoc, arith}
 use Rattle.std.specs.List.{slice_get, fold}
 use Rattle.std.specs.Prelude.{IfSome}
 use Rattle.std.proofs.lemmas.List.{append-nil}
@@ -15,7 +15,7 @@ use Rattle.run_model.specs.declared.entry.Entry.{Entry}
 use Rattle.run_model.specs.declared.entry.Message.{Message}
 use Rattle.run_model.specs.declared.script_line.Line.{Line}
 use Rattle.run_model.specs.declared.script_line.Line.TheVariants as line
-use Rattle.run_model.proofs.Agreement.{IsAgreed-run}
+use Rattle.run_promises.proofs.Kept.{IsKept-run}
 use Rattle.run_model.proofs.ClockBound.{clock-run}
 use Rattle.run_model.proofs.InRange.{length-mine}
 use Rattle.script_run.specs.Forms.{NamesOnly, setup_of}
@@ -24,7 +24,7 @@ use Rattle.script_run.specs.Scripts.{FitsAfter, IsScript, script_of}
 use Rattle.script_run.specs.Seats.{MovesNoLoan, HasNoLoans}
 use Rattle.script_run.specs.Worlds.{IsEarly, Plays, Steps}
 use Rattle.script_run.specs.declared.world.World.{World}
-use Rattle.script_run.proofs.LawfulLemmas.{IsPlayedBy, script_is_played, script_runs}
+use Rattle.script_run.proofs.LawfulLemmas.{IsPlayedBy, script_setup, script_is_played, script_runs}
 use Rattle.script_run.proofs.ReadLemmas.{no_loans_more}
 
 -- the first line makes the setup, and nothing else
@@ -106,11 +106,11 @@ pub play_of : (left : Option (List ℕ)) (bytes : List ℕ) (lines : List Line) 
 play_of None bytes lines text all read script few is = tt
 play_of (Some input) bytes lines text all read script few is =
     let run = script_runs lines script few in
-    (lines, subst (λ (input : List ℕ). script_of input ≡ Ok lines) all read, script, is, run, IsAgreed-run (setup_of lines) (history_of (setup_of lines) lines) run)
+    (lines, subst (λ (input : List ℕ). script_of input ≡ Ok lines) all read, script, is, run, IsKept-run (setup_of lines) (history_of (setup_of lines) lines) (script_setup lines script) run)
 
 -- what is left of the sink after a text was written
 pub text_is_written : (answer : Status) (left before after : Option (List ℕ)) (text : List ℕ) → IfSome left (λ input. IsPlayOf input text) → WritesText text answer before after → Writes answer left before after
 text_is_written status.Done left before after text play gains = (text, gains, play)
 text_is_written status.WriteFault left before after text play gains = (text, gains, play)
-text_is_written status.NoMemory left before after text play gains = (take gains.0 text, gains.2)
+text_is_written status.NoMemory left before after text play gains = inr (text, gains, play)
 text_is_written other left before after text play gains = gains

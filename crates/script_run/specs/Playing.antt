@@ -4,7 +4,7 @@ use Rattle.run_model.specs.declared.script_line.Line.{Line}
 use Rattle.run_model.specs.declared.status.InputKind.TheVariants as input
 use Rattle.run_model.specs.declared.status.Status.{Status}
 use Rattle.run_model.specs.declared.status.Status.TheVariants as status
-use Rattle.run_model.specs.Promises.{IsAgreed}
+use Rattle.run_model.specs.Promises.{IsKept}
 use Rattle.run_model.specs.Runs.{IsRun}
 use Rattle.run_model.specs.ScriptRuns.{history_of, play_text}
 use Rattle.script_run.specs.Forms.{setup_of}
@@ -26,17 +26,18 @@ HasCause status.WriteFault left rest reads reads' writes writes' = HasRisen writ
 HasCause status.NoMemory left rest reads reads' writes writes' = Unit {0}
 HasCause (status.Usage kind) left rest reads reads' writes writes' = ⊥
 
--- A text is that of the script which an input is, and the history that it tells is a run in which of two committed prefixes one is a prefix of the other.
+-- A text is that of the script which an input is, and the history that it tells is a run that keeps its promises.
 abbrev pub IsPlayOf : List ℕ → List ℕ → Type 0
 IsPlayOf input text =
     (lines : List Line) × (script_of input ≡ Ok lines) × IsScript lines × (text ≡ play_text (setup_of lines) lines)
-    × IsRun (setup_of lines) (history_of (setup_of lines) lines) × IsAgreed (setup_of lines) (history_of (setup_of lines) lines)
+    × IsRun (setup_of lines) (history_of (setup_of lines) lines) × IsKept (setup_of lines) (history_of (setup_of lines) lines)
 
--- what each answer leaves of the sink: the text of what the source had left, a front of it, or nothing more
+-- What each answer leaves of the sink: the text of what the source had left, a front of it, or nothing more. Where memory is
+-- refused either nothing was written, or a front of that text.
 abbrev pub Writes : Status → Option (List ℕ) → Option (List ℕ) → Option (List ℕ) → Type 0
 Writes status.Done left before after = (text : List ℕ) × Gains before after text × IfSome left (λ input. IsPlayOf input text)
 Writes status.WriteFault left before after = (text : List ℕ) × GainsPart before after text × IfSome left (λ input. IsPlayOf input text)
-Writes status.NoMemory left before after = (text : List ℕ) × Gains before after text
+Writes status.NoMemory left before after = (after ≡ before) ⊎ ((text : List ℕ) × GainsPart before after text × IfSome left (λ input. IsPlayOf input text))
 Writes other left before after = after ≡ before
 
 -- the same of a text that is given

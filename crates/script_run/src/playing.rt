@@ -25,7 +25,7 @@ pub const INPUT_MAX: u64 = 67_108_864;
 /// - `TooLong`: the source gave more than 67,108,864 bytes.
 /// - `ReadFault`: the source failed in this call.
 /// - `WriteFault`: the sink failed in this call. A front of the text was written.
-/// - `NoMemory`: an allocation was refused. A front of the text was written.
+/// - `NoMemory`: an allocation was refused. Nothing was written, or a front of the text.
 ///
 /// After each answer but Done, WriteFault and NoMemory nothing was written.
 pub fn play<S: Source, K: Sink>(alloc: Global, source: &mut S, sink: &mut K) -> Status
