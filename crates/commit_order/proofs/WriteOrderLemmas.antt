@@ -10,6 +10,7 @@ use Rattle.std.proofs.lemmas.Cmp.{nat_cmp_total, on_total, then_total, tied_back
 use Rattle.std.proofs.lemmas.Map.Keys.{sorted_head, sorted_tail, Less-from_sorted, le_from_not_gt}
 use Rattle.std.proofs.lemmas.Bool.{cond_both, cases_eq, leb-true, le-leb}
 use Rattle.std.proofs.lemmas.Bool.Decides.{nat_tests}
+use Rattle.tact_base.proofs.CompareLemmas.{write_total, less_from_before}
 use Rattle.commit_order.proofs.Partitions.{filter-partitioned, filter_other-partitioned}
 use Rattle.std.proofs.lemmas.List.Elements.{All-head, All-tail}
 use Rattle.std.proofs.lemmas.List.Sums.{length-filter, count_by-le-length}
@@ -17,31 +18,14 @@ use Rattle.tact_base.specs.declared.write.Write.{Write}
 use Rattle.tact_base.specs.WriteOrder.{write_cmp, comes_before, with_write, in_order, committed_to, tentative_past}
 use Rattle.commit_order.specs.Places.{place_cmp}
 
-pub write_cmp_total : IsTotalOrder write_cmp
-write_cmp_total =
-    then_total (on_total (λ (w : Write). w.stamp) nat_cmp_total)
-    (then_total (on_total (λ (w : Write). w.origin) nat_cmp_total) (on_total (λ (w : Write). w.index) nat_cmp_total))
-
--- a write is compared with another as with its stamp, origin and index
-pub write_cmp_place : (a b : Write) → write_cmp a b ≡ place_cmp a b.stamp b.origin b.index
-write_cmp_place a b = refl
-
 -- the order as a test
-pub Less-from_before : (a b : Write) → comes_before a b ≡ true → write_cmp a b ≡ Less
-Less-from_before a b before = is_lt-true (write_cmp a b) before
-  where
-    is_lt-true : (o : Ordering) → is_lt o ≡ true → o ≡ Less
-    is_lt-true Less e = refl
-    is_lt-true Equal e = cc
-    is_lt-true Greater e = cc
-
 pub before-from_Less : (a b : Write) → write_cmp a b ≡ Less → comes_before a b ≡ true
 before-from_Less a b less = ap is_lt less
 
 -- of two writes that don't compare equal one comes before the other
 pub Less-from_not_before : (a b : Write) → write_cmp a b ≢ Equal → comes_before b a ≡ false → write_cmp a b ≡ Less
 Less-from_not_before a b apart later =
-    let turned : is_lt (ordering_reverse (write_cmp a b)) ≡ false = sym (ap is_lt (write_cmp_total.antisymm b a)) ∙ later in
+    let turned : is_lt (ordering_reverse (write_cmp a b)) ≡ false = sym (ap is_lt (write_total.antisymm b a)) ∙ later in
     by (write_cmp a b) apart turned
   where
     by : (o : Ordering) → o ≢ Equal → is_lt (ordering_reverse o) ≡ false → o ≡ Less
@@ -50,7 +34,7 @@ Less-from_not_before a b apart later =
     by Greater ne e = cc
 
 pub not_before-from_Less : (a b : Write) → write_cmp a b ≡ Less → comes_before b a ≡ false
-not_before-from_Less a b less = ap is_lt (write_cmp_total.antisymm b a) ∙ ap (λ o. is_lt (ordering_reverse o)) less
+not_before-from_Less a b less = ap is_lt (write_total.antisymm b a) ∙ ap (λ o. is_lt (ordering_reverse o)) less
 
 -- the stamps of writes in order don't fall
 pub stamp-le : (a b : Write) → write_cmp a b ≡ Less → a.stamp ≤ b.stamp
@@ -91,8 +75,8 @@ sorted-with_write write [] apart sorted = (tt, tt)
 sorted-with_write write (w ∷ writes) apart sorted =
     cond_both (comes_before write w) (write ∷ w ∷ writes) (w ∷ with_write write writes) (IsStrictlySortedBy write_cmp)
     (λ first.
-    let less = Less-from_before write w first in
-    ((less, weaken writes (λ other less_w. write_cmp_total.trans write w other less less_w) sorted.0), sorted))
+    let less = less_from_before write w first in
+    ((less, weaken writes (λ other less_w. write_total.trans write w other less less_w) sorted.0), sorted))
     (λ later.
     let less = Less-from_not_before w write (All-head (λ held. write_cmp held write ≢ Equal) w writes apart) later in
     let rest = sorted-with_write write writes (All-tail (λ held. write_cmp held write ≢ Equal) w writes apart) sorted.1 in
@@ -102,16 +86,6 @@ sorted-with_write write (w ∷ writes) apart sorted =
     weaken [] f all = tt
     weaken (x ∷ ws) f all = (f x all.0, weaken ws f all.1)
 
--- writes in order are as `in_order` puts them
-pub in_order-sorted : (writes : List Write) → IsStrictlySortedBy write_cmp writes → in_order writes ≡ writes
-in_order-sorted [] sorted = refl
-in_order-sorted (w ∷ writes) sorted =
-    rw (in_order-sorted writes (sorted_tail write_cmp w writes sorted)) (first w writes (sorted_head write_cmp w writes sorted))
-  where
-    first : (w : Write) (ws : List Write) → AllByRecursion (λ other. write_cmp w other ≡ Less) ws → with_write w ws ≡ w ∷ ws
-    first w [] all = refl
-    first w (x ∷ ws) all = rw (before-from_Less w x all.0) refl
-
 -- of writes in order those before a write come first, and those with a stamp of at most a point
 pub before_first : (write : Write) (writes : List Write) → IsStrictlySortedBy write_cmp writes → IsPartitionedBy (λ w. comes_before w write) writes
 before_first write writes sorted i j d order within passes =
@@ -120,7 +94,7 @@ before_first write writes sorted i j d order within passes =
       | inr apart ↦
           let less = Less-from_sorted write_cmp writes i j d sorted (omega arith) within in
           before-from_Less (get_or writes i d) write
-          (write_cmp_total.trans (get_or writes i d) (get_or writes j d) write less (Less-from_before (get_or writes j d) write passes))
+          (write_total.trans (get_or writes i d) (get_or writes j d) write less (less_from_before (get_or writes j d) write passes))
     ]
 
 pub stamps_first : (point : ℕ) (writes : List Write) → IsStrictlySortedBy write_cmp writes → IsPartitionedBy (λ w. nat_le w.stamp point) writes
@@ -148,9 +122,9 @@ module _ (write : Write) (writes : List Write) (i : ℕ) (sorted : IsStrictlySor
   pub with_write-point : with_write write writes ≡ insert writes i write
   with_write-point =
       with_write-insert write writes i write within
-      (λ k early. not_before-from_Less (get_or writes k write) write (Less-from_before (get_or writes k write) write (point.0 k write (omega arith) early)))
+      (λ k early. not_before-from_Less (get_or writes k write) write (less_from_before (get_or writes k write) write (point.0 k write (omega arith) early)))
       (λ inside. before-from_Less write (get_or writes i write) (Less-from_not_before write (get_or writes i write)
-      (λ same. apart i write inside (tied_back write_cmp_total write (get_or writes i write) same)) (point.1 i write (omega arith) inside)))
+      (λ same. apart i write inside (tied_back write_total write (get_or writes i write) same)) (point.1 i write (omega arith) inside)))
 
 pub committed-few : (point : ℕ) (writes : List Write) → length (committed_to point writes) ≤ length writes
 committed-few point writes =

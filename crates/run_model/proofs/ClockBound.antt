@@ -2,7 +2,7 @@
 use Rattle.std.proofs.Common.{◌≡◌, ℕ, ◌+◌, ◌<◌, ◌≤◌, max, List, [], ◌∷◌, ◌++◌, length, map, flat_map, All, Option, None, Some, refl, sym, ap, ◌∙◌, subst, arith}
 use Rattle.std.proofs.lemmas.List.{length_push, get_or_default}
 use Rattle.std.proofs.lemmas.List.Elements.{All-nil, All-map, All-push, All-weaker, All-contains}
-use Rattle.tact_base.proofs.ListLemmas.{from_right, All-flat_map}
+use Rattle.tact_base.proofs.ListLemmas.{All-flat_map}
 use Rattle.tact_base.specs.declared.write.Cover.{Cover}
 use Rattle.tact_base.specs.declared.write.Write.{Write}
 use Rattle.tact_base.specs.Covers.{no_cover}
@@ -13,13 +13,13 @@ use Rattle.run_model.specs.Kept.{clock, told_cover}
 use Rattle.run_model.specs.Runs.{IsLawful, IsRun}
 use Rattle.run_model.specs.declared.entry.Entry.{Entry}
 use Rattle.run_model.specs.declared.entry.Message.{Message}
-use Rattle.run_model.proofs.PrefixLemmas.{IsPrefix-append, EachAfter-last}
 use Rattle.run_model.proofs.PartLemmas.{accepted_in, taken_by, greatest-is_least, mine-push_cases, own-push_none, own-push_some, taken_in-push_none, taken_in-push_some}
 use Rattle.run_model.proofs.ClockLemmas.{own_stamps, taken_stamps, own-le-clock, taken-le-clock}
 use Rattle.run_model.proofs.Accepted.{accepted_is_next}
 use Rattle.run_model.proofs.Sound.{Sound, IsSoundMessage}
 use Rattle.run_model.proofs.SoundStep.{taken_was_sent}
-use Rattle.run_model.proofs.SoundRuns.{IsRun-prefix, Sound-run}
+use Rattle.run_model.proofs.RunInduction.{over_runs}
+use Rattle.run_model.proofs.SoundRuns.{Sound-run}
 
 -- what own writes and taken messages tell is at most a number
 abbrev AreStampsWithin : ℕ → List Entry → Type 0
@@ -75,9 +75,6 @@ clock-step setup history entry sound lawful below =
     (λ replica. omega (arith, more, below replica))
 
 pub clock-run : (setup : Setup) (history : List Entry) → IsRun setup history → (replica : ℕ) → clock (mine history replica) ≤ length history
-clock-run setup history = from_right (λ history. IsRun setup history → (replica : ℕ) → clock (mine history replica) ≤ length history)
-    (λ run replica. omega arith)
-    (λ before entry below run.
-    let earlier = IsRun-prefix setup before (before ++ entry ∷ []) (IsPrefix-append before (entry ∷ [])) run in
-    clock-step setup before entry (Sound-run setup before earlier) (EachAfter-last (IsLawful setup) before entry run) (below earlier))
-    history
+clock-run setup =
+    over_runs setup (λ history. (replica : ℕ) → clock (mine history replica) ≤ length history) (λ replica. omega arith)
+    (λ before entry run lawful below. clock-step setup before entry (Sound-run setup before run) lawful below)

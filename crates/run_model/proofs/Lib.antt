@@ -1,6 +1,7 @@
 pub mod ConfigLemmas
 pub mod TextLemmas
 pub mod PrefixLemmas
+pub mod RunInduction
 pub mod PartLemmas
 pub mod ClockLemmas
 pub mod Accepted

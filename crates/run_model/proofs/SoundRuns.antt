@@ -9,6 +9,7 @@ use Rattle.run_model.specs.Histories.{mine, IsPrefix}
 use Rattle.run_model.specs.Runs.{IsLawful, IsRun}
 use Rattle.run_model.specs.declared.entry.Entry.{Entry}
 use Rattle.run_model.proofs.PrefixLemmas.{IsPrefix-nil, IsPrefix-append, EachAfter-prefix, EachAfter-last}
+use Rattle.run_model.proofs.RunInduction.{IsRun-prefix, over_runs}
 use Rattle.run_model.proofs.Growth.{Grows, Grows-refl, Grows-trans, Grows-history}
 use Rattle.run_model.proofs.Sound.{AreInOrder, IsInOrder, IsSoundMessage, Sound}
 use Rattle.run_model.proofs.SoundKeeping.{Vouches-empty}
@@ -45,16 +46,9 @@ Sound-nil setup = record {
   numbers = λ replica place d within. absurd (omega arith);
 }
 
--- a history that a run begins with is a run
-pub IsRun-prefix : (setup : Setup) (front history : List Entry) → IsPrefix front history → IsRun setup history → IsRun setup front
-IsRun-prefix setup front history prefix run = EachAfter-prefix (IsLawful setup) front history prefix run
-
 pub Sound-run : (setup : Setup) (history : List Entry) → IsRun setup history → Sound setup history
-Sound-run setup history = from_right (λ history. IsRun setup history → Sound setup history)
-    (λ run. Sound-nil setup)
-    (λ before entry sound run.
-    Sound-push setup before entry (sound (IsRun-prefix setup before (before ++ entry ∷ []) (IsPrefix-append before (entry ∷ [])) run)) (EachAfter-last (IsLawful setup) before entry run))
-    history
+Sound-run setup =
+    over_runs setup (Sound setup) (Sound-nil setup) (λ before entry run lawful sound. Sound-push setup before entry sound lawful)
 
 pub Sound-prefix : (setup : Setup) (front history : List Entry) → IsRun setup history → IsPrefix front history → Sound setup front
 Sound-prefix setup front history run prefix = Sound-run setup front (IsRun-prefix setup front history prefix run)

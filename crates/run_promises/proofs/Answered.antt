@@ -40,18 +40,10 @@ use Rattle.run_model.proofs.Accepted.{first_some-each}
 use Rattle.run_model.proofs.Sound.{Sound, Vouches}
 use Rattle.run_model.proofs.SoundViews.{cover_of-other, Sound-count, Sound-cover}
 use Rattle.run_promises.proofs.LoansAgree.{LoansAgree}
+use Rattle.run_promises.proofs.SharesWrites.{first_some-none}
 use Rattle.run_promises.proofs.NumErrors.{num_error-within}
 use Rattle.run_promises.proofs.Peers.{All-kept, All-peers}
 use Rattle.run_promises.proofs.Quiet.{quiet-num_error, quiet-order_error, quiet-unseen_by}
-
--- where the first of what some places give is none, each gives none
-first_some-none : {A : Type 0} (f : A → Option Reply) (items : List A) → first_some f items ≡ None → All (λ item. f item ≡ None) items
-first_some-none f [] none = All-nil (λ item. f item ≡ None)
-first_some-none {A} f (item ∷ items) none = go (f item) refl none (first_some-none f items)
-  where
-    go : (here : Option Reply) → f item ≡ here → slice_get (cons_option here (filter_map f items)) 0 ≡ None → (first_some f items ≡ None → All (λ item. f item ≡ None) items) → All (λ item. f item ≡ None) (item ∷ items)
-    go None is none rest = All-cons (λ item. f item ≡ None) item items is (rest none)
-    go (Some given) is none rest = cc
 
 -- whether a reply is a value
 abbrev is_value : Reply → Bool

@@ -6,7 +6,6 @@ use Rattle.std.proofs.lemmas.List.{drop_all, length-drop, get_or-drop, get_or-ma
 use Rattle.std.proofs.lemmas.List.Elements.{All-nil, All-filter, All-drop, All-contains}
 use Rattle.std.proofs.lemmas.List.FromFn.{get_or-range_with_len}
 use Rattle.std.proofs.lemmas.Option.{same_Some}
-use Rattle.tact_base.proofs.ListLemmas.{from_right}
 use Rattle.tact_base.specs.declared.write.Write.{Write}
 use Rattle.run_model.specs.Config.{Setup, IsSetup}
 use Rattle.run_model.specs.Histories.{mine, sent_in, taken_by_act, EachAfter}
@@ -20,13 +19,14 @@ use Rattle.run_model.specs.declared.entry.Act.{Act}
 use Rattle.run_model.specs.declared.entry.Act.TheVariants as act
 use Rattle.run_model.specs.declared.entry.Entry.{Entry}
 use Rattle.run_model.specs.declared.entry.Message.{Message}
-use Rattle.run_model.proofs.PrefixLemmas.{IsPrefix-append, IsPrefix-All, EachAfter-nil, EachAfter-last, EachAfter-push}
+use Rattle.run_model.proofs.PrefixLemmas.{IsPrefix-All, EachAfter-nil, EachAfter-push}
 use Rattle.run_model.proofs.PartLemmas.{taken_by, mine-push_cases}
 use Rattle.run_model.proofs.Accepted.{log_of-same}
 use Rattle.run_model.proofs.Agreement.{point-le}
 use Rattle.run_model.proofs.Sound.{Sound, IsSoundMessage}
 use Rattle.run_model.proofs.SoundStep.{taken_was_sent}
-use Rattle.run_model.proofs.SoundRuns.{IsRun-prefix, Sound-run}
+use Rattle.run_model.proofs.RunInduction.{over_runs}
+use Rattle.run_model.proofs.SoundRuns.{Sound-run}
 use Rattle.run_model.proofs.SoundViews.{Sound-have, Sound-count, Sound-cover}
 use Rattle.run_promises.proofs.LoansAgree.{TellsOfLoans, LoansAgree, LoansAgree-run, taken_is_addressed}
 use Rattle.run_promises.proofs.KeepsShares.{KeepsShares}
@@ -134,14 +134,11 @@ FitsIfTaken-from setup replica part act.Restart fits = tt
 
 -- Each part of a run is one that can be.
 pub IsPart-from : (setup : Setup) → ((history : List Entry) → IsRun setup history → (replica : ℕ) → KeepsShares setup replica (mine history replica)) → (history : List Entry) → IsRun setup history → (replica : ℕ) → IsPart setup replica (mine history replica)
-IsPart-from setup shares history = from_right (λ history. IsRun setup history → (replica : ℕ) → IsPart setup replica (mine history replica))
-    (λ run replica. EachAfter-nil (MayFollow setup replica))
-    (λ before entry parts run.
-    let earlier = IsRun-prefix setup before (before ++ entry ∷ []) (IsPrefix-append before (entry ∷ [])) run in
-    let lawful = EachAfter-last (IsLawful setup) before entry run in
-    mine-push_cases before entry (λ r part. IsPart setup r part)
-    (EachAfter-push (MayFollow setup entry.replica) (mine before entry.replica) entry (parts earlier entry.replica)
+IsPart-from setup shares =
+    over_runs setup (λ history. (replica : ℕ) → IsPart setup replica (mine history replica)) (λ replica. EachAfter-nil (MayFollow setup replica))
+    (λ before entry run lawful parts.
+    mine-push_cases before entry (IsPart setup)
+    (EachAfter-push (MayFollow setup entry.replica) (mine before entry.replica) entry (parts entry.replica)
     (refl, lawful.due, FitsIfTaken-from setup entry.replica (mine before entry.replica) entry.act (λ message takes.
-    Fits-taken setup before entry message (Sound-run setup before earlier) (LoansAgree-run setup before earlier) (shares before earlier) lawful takes)))
-    (parts earlier))
-    history
+    Fits-taken setup before entry message (Sound-run setup before run) (LoansAgree-run setup before run) (shares before run) lawful takes)))
+    parts)

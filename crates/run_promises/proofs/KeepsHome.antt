@@ -2,7 +2,6 @@
 use Rattle.std.proofs.Common.{◌≡◌, ℕ, ◌+◌, ◌-◌, ◌<◌, ◌≤◌, ◌==◌, ◌&&◌, Bool, true, false, cond, List, [], ◌∷◌, ◌++◌, map, sum, sum_by, All, slice_index, refl, sym, ap, ◌∙◌, subst, ⊎_elim, arith}
 use Rattle.std.proofs.lemmas.Bool.{cases_eq, ne_eqb}
 use Rattle.std.proofs.lemmas.List.Sums.{sum-map, sum_by-le-sum_by}
-use Rattle.tact_base.proofs.ListLemmas.{from_right}
 use Rattle.run_model.specs.Config.{Setup, IsSetup, alpha_of, loans_of, loan_of}
 use Rattle.run_model.specs.Histories.{mine, peers_of}
 use Rattle.run_model.specs.Loans.{lent, returned_known, out, home, lent_by_act}
@@ -12,9 +11,8 @@ use Rattle.run_model.specs.declared.entry.Act.TheVariants as act
 use Rattle.run_model.specs.declared.entry.Entry.{Entry}
 use Rattle.run_model.specs.declared.entry.Message.{Message}
 use Rattle.run_model.proofs.ConfigLemmas.{HasCounts-from_IsSetup, HasRow-from_IsSetup, length-loans_of}
-use Rattle.run_model.proofs.PrefixLemmas.{IsPrefix-append, EachAfter-last}
 use Rattle.run_model.proofs.PartLemmas.{mine-push_cases}
-use Rattle.run_model.proofs.SoundRuns.{IsRun-prefix}
+use Rattle.run_model.proofs.RunInduction.{over_runs}
 use Rattle.run_promises.proofs.PeerSums.{sum_by-plus, at_one, at_one-peers, reads-peers}
 use Rattle.run_promises.proofs.LoanSteps.{lent-push, most_told-rises}
 
@@ -99,9 +97,5 @@ KeepsHome-push setup history entry due keeps owner conit owner_in conit_in =
     (λ r within. keeps r conit within conit_in) owner owner_in
 
 pub KeepsHome-run : (setup : Setup) (history : List Entry) → IsSetup setup → IsRun setup history → KeepsHome setup history
-KeepsHome-run setup history good = from_right (λ history. IsRun setup history → KeepsHome setup history)
-    (λ run. KeepsHome-nil setup good)
-    (λ before entry keeps run.
-    KeepsHome-push setup before entry (EachAfter-last (IsLawful setup) before entry run).due
-    (keeps (IsRun-prefix setup before (before ++ entry ∷ []) (IsPrefix-append before (entry ∷ [])) run)))
-    history
+KeepsHome-run setup history good =
+    over_runs setup (KeepsHome setup) (KeepsHome-nil setup good) (λ before entry run lawful keeps. KeepsHome-push setup before entry lawful.due keeps) history

@@ -1,14 +1,13 @@
 -- Every run keeps its promises: the invariants, joined.
 use Rattle.std.proofs.Common.{◌≡◌, ℕ, List, [], ◌∷◌, ◌++◌}
-use Rattle.tact_base.proofs.ListLemmas.{from_right}
 use Rattle.run_model.specs.Config.{Setup, IsSetup}
 use Rattle.run_model.specs.Histories.{mine, IsPrefix}
 use Rattle.run_model.specs.Promises.{IsWithin, IsExact, IsKept}
 use Rattle.run_model.specs.Runs.{IsLawful, IsRun, IsPart}
 use Rattle.run_model.specs.declared.entry.Entry.{Entry}
-use Rattle.run_model.proofs.PrefixLemmas.{IsPrefix-append, EachAfter-last}
 use Rattle.run_model.proofs.PartLemmas.{mine-push_cases}
-use Rattle.run_model.proofs.SoundRuns.{IsRun-prefix, Sound-run}
+use Rattle.run_model.proofs.RunInduction.{IsRun-prefix, over_runs}
+use Rattle.run_model.proofs.SoundRuns.{Sound-run}
 use Rattle.run_model.proofs.Agreement.{IsAgreed-run}
 use Rattle.run_promises.proofs.LoansAgree.{LoansAgree-run}
 use Rattle.run_promises.proofs.KeepsHome.{KeepsHome-run}
@@ -20,13 +19,10 @@ use Rattle.run_promises.proofs.Answered.{IsAnswered-from}
 
 -- what each replica may leave unseen is within its shares
 pub KeepsShares-run : (setup : Setup) (history : List Entry) → IsRun setup history → (replica : ℕ) → KeepsShares setup replica (mine history replica)
-KeepsShares-run setup history = from_right (λ history. IsRun setup history → (replica : ℕ) → KeepsShares setup replica (mine history replica))
-    (λ run replica. KeepsShares-nil setup replica)
-    (λ before entry keeps run.
-    let earlier = keeps (IsRun-prefix setup before (before ++ entry ∷ []) (IsPrefix-append before (entry ∷ [])) run) in
-    mine-push_cases before entry (KeepsShares setup)
-    (KeepsShares-push setup (mine before entry.replica) entry (EachAfter-last (IsLawful setup) before entry run).due (earlier entry.replica)) earlier)
-    history
+KeepsShares-run setup =
+    over_runs setup (λ history. (replica : ℕ) → KeepsShares setup replica (mine history replica)) (KeepsShares-nil setup)
+    (λ before entry run lawful keeps.
+    mine-push_cases before entry (KeepsShares setup) (KeepsShares-push setup (mine before entry.replica) entry lawful.due (keeps entry.replica)) keeps)
 
 pub IsWithin-run : (setup : Setup) (history : List Entry) → IsRun setup history → IsWithin setup history
 IsWithin-run setup history run = IsWithin-from setup history (Sound-run setup history run) (KeepsShares-run setup history run)

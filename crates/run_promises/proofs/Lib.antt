@@ -1,9 +1,9 @@
 pub mod Peers
+pub mod SharesSums
 pub mod PeerSums
 pub mod LoanSteps
 pub mod LoansAgree
 pub mod KeepsHome
-pub mod SharesSums
 pub mod SharesWrites
 pub mod KeepsShares
 pub mod Exact

@@ -4,7 +4,7 @@ use Rattle.std.specs.List.{range_with_len}
 use Rattle.std.proofs.lemmas.Bool.{cases_lt}
 use Rattle.std.proofs.lemmas.List.Elements.{All-nil, All-push, All-weaker, All-contains}
 use Rattle.std.proofs.lemmas.Option.{same_Some}
-use Rattle.tact_base.proofs.ListLemmas.{from_right, get_or-map_range, get_or-map_range_past}
+use Rattle.tact_base.proofs.ListLemmas.{get_or-map_range, get_or-map_range_past}
 use Rattle.run_model.specs.Config.{Setup, loan_of}
 use Rattle.run_model.specs.Histories.{mine, sent_in, taken_by_act}
 use Rattle.run_model.specs.Loans.{lent, returned, lent_known, returned_known}
@@ -14,10 +14,9 @@ use Rattle.run_model.specs.declared.entry.Act.{Act}
 use Rattle.run_model.specs.declared.entry.Act.TheVariants as act
 use Rattle.run_model.specs.declared.entry.Entry.{Entry}
 use Rattle.run_model.specs.declared.entry.Message.{Message}
-use Rattle.run_model.proofs.PrefixLemmas.{IsPrefix-append, EachAfter-last}
 use Rattle.run_model.proofs.PartLemmas.{sent_by, taken_by, sent_in-push_none, sent_in-push_some, mine-push_cases}
 use Rattle.run_model.proofs.SoundStep.{sent_is, taken_was_sent}
-use Rattle.run_model.proofs.SoundRuns.{IsRun-prefix}
+use Rattle.run_model.proofs.RunInduction.{over_runs}
 use Rattle.run_promises.proofs.LoanSteps.{most_told, lent-push, returned-push, most_told-within, lent-rises, returned-rises}
 
 -- a message that a replica sent tells no more than it lent and returned
@@ -141,8 +140,5 @@ LoansAgree-nil setup = record {
 }
 
 pub LoansAgree-run : (setup : Setup) (history : List Entry) → IsRun setup history → LoansAgree setup history
-LoansAgree-run setup history = from_right (λ history. IsRun setup history → LoansAgree setup history)
-    (λ run. LoansAgree-nil setup)
-    (λ before entry agree run.
-    LoansAgree-push setup before entry (agree (IsRun-prefix setup before (before ++ entry ∷ []) (IsPrefix-append before (entry ∷ [])) run)) (EachAfter-last (IsLawful setup) before entry run))
-    history
+LoansAgree-run setup =
+    over_runs setup (LoansAgree setup) (LoansAgree-nil setup) (λ before entry run lawful agree. LoansAgree-push setup before entry agree lawful)

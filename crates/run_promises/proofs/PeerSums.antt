@@ -9,10 +9,7 @@ use Rattle.std.proofs.lemmas.List.Filters.{sum_by-filter_both}
 use Rattle.std.proofs.lemmas.List.Sums.{sum_by-cons, sum-map}
 use Rattle.run_model.specs.Config.{Setup}
 use Rattle.run_model.specs.Histories.{replicas_of, peers_of}
-
--- a sum over some is at most the sum over all
-sum_by-filter-le : {X : Type 0} (p : X → Bool) (f : X → ℕ) (xs : List X) → sum_by f (filter p xs) ≤ sum_by f xs
-sum_by-filter-le p f xs = omega (arith, sum_by-filter_both p (λ x. not (p x)) (λ x. refl) f xs)
+use Rattle.run_promises.proofs.SharesSums.{sum_by-filter-le_all}
 
 -- where each term is at most another
 pub sum_by-each-le : {X : Type 0} (f g : X → ℕ) (xs : List X) → All (λ x. f x ≤ g x) xs → sum_by f xs ≤ sum_by g xs
@@ -59,7 +56,7 @@ at_one-le one amount start (suc len) = go (cases_eq one start) (at_one-le one am
 -- over the peers, an amount at one of them counts once
 pub at_one-peers : (setup : Setup) (replica one amount : ℕ) → sum_by (at_one one amount) (peers_of setup replica) ≤ amount
 at_one-peers setup replica one amount =
-    omega (arith, sum_by-filter-le (λ peer. not (peer == replica)) (at_one one amount) (replicas_of setup), at_one-le one amount 0 setup.replicas)
+    omega (arith, sum_by-filter-le_all (at_one one amount) (λ peer. not (peer == replica)) (replicas_of setup), at_one-le one amount 0 setup.replicas)
 
 -- a list, read number by number
 list-reads : (xs : List ℕ) → map (λ i. get_or xs i 0) (range_with_len 0 (length xs)) ≡ xs
@@ -70,7 +67,7 @@ list-reads xs =
 -- what a list has at the peers is at most what it has in all
 pub reads-peers : (setup : Setup) (replica : ℕ) (xs : List ℕ) → length xs ≡ setup.replicas → sum_by (λ i. get_or xs i 0) (peers_of setup replica) ≤ sum xs
 reads-peers setup replica xs size =
-    let some = sum_by-filter-le (λ peer. not (peer == replica)) (λ i. get_or xs i 0) (replicas_of setup) in
+    let some = sum_by-filter-le_all (λ i. get_or xs i 0) (λ peer. not (peer == replica)) (replicas_of setup) in
     let whole : sum_by (λ i. get_or xs i 0) (range_with_len 0 (length xs)) ≡ sum xs = sym (sum-map (λ i. get_or xs i 0) (range_with_len 0 (length xs))) ∙ ap sum (list-reads xs) in
     let same : sum_by (λ i. get_or xs i 0) (range_with_len 0 (length xs)) ≡ sum_by (λ i. get_or xs i 0) (replicas_of setup) = ap (λ n. sum_by (λ i. get_or xs i 0) (range_with_len 0 n)) size in
     omega (arith, some, whole, same)

@@ -6,7 +6,7 @@ use Rattle.std.proofs.lemmas.List.Elements.{All-head, All-filter, filter_passes}
 use Rattle.std.proofs.lemmas.List.Sums.{sum_by-cons, sum_by-append}
 use Rattle.tact_base.proofs.ConitListLemmas.{IsConitList-once}
 use Rattle.tact_base.proofs.ListLemmas.{filter_all}
-use Rattle.tact_base.proofs.SumsLemmas.{weights_on-append}
+use Rattle.tact_base.proofs.OrderSums.{sum_by-weights_on}
 use Rattle.tact_base.specs.ConitList.{IsConitList}
 use Rattle.tact_base.specs.Sums.{above_zero, below_zero, on_conit, weights_on}
 use Rattle.tact_base.specs.declared.conit_list.Weight.{Weight}
@@ -38,22 +38,14 @@ module _ (amount : Weight → ℕ) (conit : ℕ) where
   pub weights_on-one : (write : Write) → weights_on (write ∷ []) conit ≡ on_conit conit write.weights
   weights_on-one write = ap (on_conit conit) (append-nil write.weights)
 
-  -- write by write
-  weights_on-by_write : (writes : List Write) → sum_by amount (weights_on writes conit) ≡ sum_by of_write writes
-  weights_on-by_write [] = refl
-  weights_on-by_write (write ∷ writes) =
-      ap (sum_by amount) (weights_on-append (write ∷ []) writes conit)
-      ∙ sum_by-append amount (weights_on (write ∷ []) conit) (weights_on writes conit)
-      ∙ omega (arith, ap (sum_by amount) (weights_on-one write), weights_on-by_write writes, sum_by-cons of_write write writes)
-
   -- a filter of the writes that keeps no more than another, and one against them all
   pub weights_on-filter-le : (p q : Write → Bool) → ((write : Write) → p write ≡ true → q write ≡ true) → (writes : List Write) → sum_by amount (weights_on (filter p writes) conit) ≤ sum_by amount (weights_on (filter q writes) conit)
   weights_on-filter-le p q more writes =
-      omega (arith, weights_on-by_write (filter p writes), weights_on-by_write (filter q writes), sum_by-filter-le of_write p q more writes)
+      omega (arith, sum_by-weights_on amount (filter p writes) conit, sum_by-weights_on amount (filter q writes) conit, sum_by-filter-le of_write p q more writes)
 
   pub weights_on-filter-le_all : (p : Write → Bool) (writes : List Write) → sum_by amount (weights_on (filter p writes) conit) ≤ sum_by amount (weights_on writes conit)
   weights_on-filter-le_all p writes =
-      omega (arith, weights_on-by_write (filter p writes), weights_on-by_write writes, sum_by-filter-le_all of_write p writes)
+      omega (arith, sum_by-weights_on amount (filter p writes) conit, sum_by-weights_on amount writes conit, sum_by-filter-le_all of_write p writes)
 
   -- what holds of nothing, and of each weight, holds of the sum where there is at most one
   few_on_conit : (Q : ℕ → Type 0) (on : List Weight) → length on ≤ 1 → Q 0 → All (λ (weight : Weight). Q (amount weight)) on → Q (sum_by amount on)

@@ -27,27 +27,18 @@ use Rattle.run_model.specs.declared.entry.Entry.{Entry}
 use Rattle.run_model.specs.declared.entry.Message.{Message}
 use Rattle.run_model.proofs.PartLemmas.{accepted_in, taken_by, greatest-append, own-push, taken_in-push}
 use Rattle.run_model.proofs.Accepted.{first_some-each}
+use Rattle.run_promises.proofs.Peers.{All-from_peers}
+use Rattle.run_promises.proofs.LoanSteps.{most_told-rises}
 use Rattle.run_promises.proofs.SharesSums.{weights_on-filter-le, weights_on-filter-le_all, once_on_conit}
 
 -- One more entry of a part.
 module _ (part : List Entry) (entry : Entry) where
-  -- the most that the messages from a peer tell doesn't fall
-  told_most-le-push : (tells : Message → ℕ) (peer : ℕ) → greatest (map tells (taken_from part peer)) ≤ greatest (map tells (taken_from (part ++ entry ∷ []) peer))
-  told_most-le-push tells peer =
-      let is_from = λ (message : Message). message.from == peer in
-      let new = filter is_from (cons_option (taken_by entry) []) in
-      let list : taken_from (part ++ entry ∷ []) peer ≡ taken_from part peer ++ new =
-      ap (filter is_from) (taken_in-push part entry) ∙ filter-append is_from (taken_in part) (cons_option (taken_by entry) []) in
-      let most : greatest (map tells (taken_from (part ++ entry ∷ []) peer)) ≡ max (greatest (map tells (taken_from part peer))) (greatest (map tells new)) =
-      ap (λ messages. greatest (map tells messages)) list ∙ ap greatest (map-append tells (taken_from part peer) new) ∙ greatest-append (map tells (taken_from part peer)) (map tells new) in
-      omega (arith, most)
-
-  -- so what a peer is known to have doesn't fall, nor what an owner is known to have lent
+  -- what a peer is known to have doesn't fall, nor what an owner is known to have lent
   pub known-le-push : (peer origin : ℕ) → known part peer origin ≤ known (part ++ entry ∷ []) peer origin
-  known-le-push peer origin = told_most-le-push (λ (message : Message). told_have message origin) peer
+  known-le-push peer origin = most_told-rises part entry (λ (message : Message). told_have message origin) peer
 
   pub lent_known-le-push : (setup : Setup) (replica owner conit : ℕ) → lent_known setup replica part owner conit ≤ lent_known setup replica (part ++ entry ∷ []) owner conit
-  lent_known-le-push setup replica owner conit = omega (arith, told_most-le-push (λ (message : Message). slice_index message.lent conit) owner)
+  lent_known-le-push setup replica owner conit = omega (arith, most_told-rises part entry (λ (message : Message). slice_index message.lent conit) owner)
 
   -- what a peer may miss is at most what it could before, and what is accepted
   pub missing-le-push : (amount : Weight → ℕ) (replica peer conit : ℕ) → sum_by amount (weights_on (maybe_missed replica (part ++ entry ∷ []) peer) conit)
@@ -130,19 +121,12 @@ module _ (setup : Setup) (replica : ℕ) (part : List Entry) where
 
   -- What fits the share of a peer's bound.
   module _ (peer : ℕ) (peer_in : peer < setup.replicas) (other : peer ≡ replica → ⊥) where
-    -- it is among the peers
-    is_peer : Contains (peers_of setup replica) peer
-    is_peer =
-        Contains-filter (λ (peer : ℕ). not (peer == replica)) (replicas_of setup) peer
-        (peer, omega (arith, length-range_with_len 0 setup.replicas), get_or-range_with_len 0 setup.replicas peer peer peer_in ∙ zero-add peer)
-        (not_from_false (peer == replica) (ne_eqb peer replica other))
-
     -- an amount that no peer refuses fits, with what the peer may miss and what is reserved
     pub amount_fits : (conit amount : ℕ) (missing : ℕ → ℕ) → first_some (λ peer. refusal setup replica part conit peer amount (missing peer)) (peers_of setup replica) ≡ None
         → missing peer + reserved part conit + amount ≤ share setup replica part peer conit
     amount_fits conit amount missing none =
         let gets = λ (peer : ℕ). refusal setup replica part conit peer amount (missing peer) in
-        refusal_fits conit peer amount (missing peer) (All-contains (λ peer. gets peer ≡ None) (peers_of setup replica) peer (first_some-none gets (peers_of setup replica) none) is_peer)
+        refusal_fits conit peer amount (missing peer) (All-from_peers setup replica (λ peer. gets peer ≡ None) (first_some-none gets (peers_of setup replica) none) peer peer_in other)
 
     -- so does the size of a weight
     weight_fits : (conit : ℕ) (weight : Weight) → weight_refusal setup replica part weight ≡ None → weight.conit ≡ conit

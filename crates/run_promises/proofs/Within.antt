@@ -15,23 +15,8 @@ use Rattle.run_model.specs.Promises.{IsWithin}
 use Rattle.run_model.specs.Reference.{unseen}
 use Rattle.run_model.specs.declared.entry.Entry.{Entry}
 use Rattle.run_model.proofs.Sound.{Sound}
+use Rattle.run_promises.proofs.SharesSums.{weights_on-filter-le}
 use Rattle.run_promises.proofs.KeepsShares.{KeepsShares}
-
--- a sum over those that pass a test is at most that over those that pass a weaker one
-pub sum_by-filter-among : {X : Type 0} (p q : X → Bool) (f : X → ℕ) → ((x : X) → q x ≡ true → p x ≡ true) → (xs : List X) → sum_by f (filter q xs) ≤ sum_by f (filter p xs)
-sum_by-filter-among p q f weaker [] = omega arith
-sum_by-filter-among {X} p q f weaker (x ∷ xs) = go (q x) (p x) (weaker x) (sum_by-filter-among p q f weaker xs)
-  where
-    go : (strong weak : Bool) → (strong ≡ true → weak ≡ true) → sum_by f (filter q xs) ≤ sum_by f (filter p xs) → sum_by f (cond strong (x ∷ filter q xs) (filter q xs)) ≤ sum_by f (cond weak (x ∷ filter p xs) (filter p xs))
-    go true true gives rest = omega (arith, rest, sum_by-cons f x (filter q xs), sum_by-cons f x (filter p xs))
-    go true false gives rest = let never : false ≡ true = gives refl in cc
-    go false true gives rest = omega (arith, rest, sum_by-cons f x (filter p xs))
-    go false false gives rest = rest
-
--- the same of sums over the weights that writes have on a conit
-pub weights_on-filter-among : (p q : Write → Bool) (f : Weight → ℕ) → ((w : Write) → q w ≡ true → p w ≡ true) → (writes : List Write) (conit : ℕ) → sum_by f (weights_on (filter q writes) conit) ≤ sum_by f (weights_on (filter p writes) conit)
-weights_on-filter-among p q f weaker writes conit =
-    omega (arith, sum_by-weights_on f (filter q writes) conit, sum_by-weights_on f (filter p writes) conit, sum_by-filter-among p q (λ (w : Write). sum_by f (on_conit conit w.weights)) weaker writes)
 
 -- a later first place passes fewer
 from_later : (early late index : ℕ) → early ≤ late → nat_le late index ≡ true → nat_le early index ≡ true
@@ -42,7 +27,7 @@ IsWithin-from setup history sound shares replica peer conit replica_in peer_in o
     let writes = own (mine history replica) in
     let told = known (mine history replica) peer replica in
     let has = have peer (mine history peer) replica in
-    let among = λ (f : Weight → ℕ). weights_on-filter-among (λ (w : Write). nat_le told w.index) (λ (w : Write). nat_le has w.index) f (λ w. from_later told has w.index (sound.known replica peer replica)) writes conit in
+    let among = λ (f : Weight → ℕ). weights_on-filter-le f conit (λ (w : Write). nat_le has w.index) (λ (w : Write). nat_le told w.index) (λ w. from_later told has w.index (sound.known replica peer replica)) writes in
     let share = (shares replica).each peer conit peer_in other in
     record {
       plus = omega (arith, share.plus, among (λ (w : Weight). above_zero w.nweight));

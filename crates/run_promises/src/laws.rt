@@ -1,5 +1,5 @@
 //! What is true of every run. Each function states it by its clauses, for all histories, and does nothing.
-ghost use Rattle.std.specs.Prelude.{ℕ, List};
+ghost use Rattle.std.specs.Prelude.{ℕ, suc, List};
 ghost use Rattle.run_model.specs.Config.{Setup, IsSetup};
 ghost use Rattle.run_model.specs.Histories.{mine};
 ghost use Rattle.run_model.specs.Promises.{IsKept};

@@ -6,8 +6,8 @@ pub mod ElementLemmas
 pub mod CompareLemmas
 pub mod OrderLemmas
 pub mod CommitLemmas
-pub mod OrderSums
 pub mod ConitListLemmas
 pub mod SumsLemmas
+pub mod OrderSums
 pub mod CoversLemmas
 pub mod LogsLemmas

@@ -8,6 +8,7 @@ use Rattle.tact_base.specs.WriteOrder.{in_order}
 use Rattle.tact_base.specs.declared.conit_list.Weight.{Weight}
 use Rattle.tact_base.specs.declared.write.Write.{Write}
 use Rattle.tact_base.proofs.ListLemmas.{filter-flat_map}
+use Rattle.tact_base.proofs.SumsLemmas.{signed_sum-parts}
 use Rattle.tact_base.proofs.OrderLemmas.{IsPermutation-in_order}
 
 -- a sum over joined lists
@@ -29,17 +30,6 @@ weights-IsPermutation f xs ys conit moved =
     sum_by-weights_on f ys conit
     ∙ (sum_by-IsPermutation (λ write. sum_by f (on_conit conit write.weights)) xs ys moved ∙ sym (sum_by-weights_on f xs conit))
 
--- what is above 0 less what is below
-signed_parts : (weights : List Weight) → signed_sum (map (λ weight. weight.nweight) weights) ≡ pos (sum_by (λ weight. above_zero weight.nweight) weights) -ℤ pos (sum_by (λ weight. below_zero weight.nweight) weights)
-signed_parts [] = refl
-signed_parts (weight ∷ weights) =
-    rw (sum_by-cons (λ weight. above_zero weight.nweight) weight weights, sum_by-cons (λ weight. below_zero weight.nweight) weight weights)
-    (go weight.nweight (signed_sum (map (λ weight. weight.nweight) weights)) (sum_by (λ weight. above_zero weight.nweight) weights) (sum_by (λ weight. below_zero weight.nweight) weights) (signed_parts weights))
-  where
-    go : (z rest : ℤ) (a b : ℕ) → rest ≡ pos a -ℤ pos b → z +ℤ rest ≡ pos (above_zero z + a) -ℤ pos (below_zero z + b)
-    go (pos n) rest a b is = omega (arith, ints)
-    go (negsuc n) rest a b is = omega (arith, ints)
-
 -- Writes in another order have the same sums.
 module _ (xs ys : List Write) (conit : ℕ) (moved : IsPermutation xs ys) where
   pub plus_sum-IsPermutation : plus_sum ys conit ≡ plus_sum xs conit
@@ -53,8 +43,8 @@ module _ (xs ys : List Write) (conit : ℕ) (moved : IsPermutation xs ys) where
 
   pub net_sum-IsPermutation : net_sum ys conit ≡ net_sum xs conit
   net_sum-IsPermutation =
-      signed_parts (weights_on ys conit)
-      ∙ (ap₂ (λ (a b : ℕ). pos a -ℤ pos b) plus_sum-IsPermutation minus_sum-IsPermutation ∙ sym (signed_parts (weights_on xs conit)))
+      signed_sum-parts (weights_on ys conit)
+      ∙ (ap₂ (λ (a b : ℕ). pos a -ℤ pos b) plus_sum-IsPermutation minus_sum-IsPermutation ∙ sym (signed_sum-parts (weights_on xs conit)))
 
 -- so in order
 module _ (writes : List Write) (conit : ℕ) where
