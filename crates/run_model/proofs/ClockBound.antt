@@ -1,7 +1,7 @@
 -- In a run no clock is above the count of the entries.
-use Rattle.std.proofs.Common.{◌≡◌, ℕ, ◌+◌, ◌<◌, ◌≤◌, max, List, [], ◌∷◌, ◌++◌, length, map, flat_map, All, Option, None, Some, refl, sym, ap, ◌∙◌, subst, arith}
+use Rattle.std.proofs.Common.{◌≡◌, ℕ, ◌+◌, ◌≤◌, List, [], ◌∷◌, ◌++◌, length, flat_map, All, Option, None, Some, refl, sym, subst, arith}
 use Rattle.std.proofs.lemmas.List.{length_push, get_or_default}
-use Rattle.std.proofs.lemmas.List.Elements.{All-nil, All-map, All-push, All-weaker, All-contains}
+use Rattle.std.proofs.lemmas.List.Elements.{All-map, All-push, All-weaker, All-contains}
 use Rattle.tact_base.proofs.ListLemmas.{All-flat_map}
 use Rattle.tact_base.specs.declared.write.Cover.{Cover}
 use Rattle.tact_base.specs.declared.write.Write.{Write}
@@ -47,7 +47,7 @@ within-clock most part below = (
 )
 
 -- one more entry, whose stamps are at most a number
-clock-push-within : (most : ℕ) (part : List Entry) (entry : Entry) → clock part ≤ most → ((write : Write) → accepted_in entry ≡ Some write → write.stamp ≤ most) → ((message : Message) → taken_by entry ≡ Some message → (origin : ℕ) → (told_cover message origin).stamp ≤ most)
+pub clock-push-within : (most : ℕ) (part : List Entry) (entry : Entry) → clock part ≤ most → ((write : Write) → accepted_in entry ≡ Some write → write.stamp ≤ most) → ((message : Message) → taken_by entry ≡ Some message → (origin : ℕ) → (told_cover message origin).stamp ≤ most)
     → clock (part ++ entry ∷ []) ≤ most
 clock-push-within most part entry below accepts takes =
     let before = within-clock most part below in

@@ -1,19 +1,19 @@
 -- In a run each entry is in range, and so is each message that was sent, and what own writes ask for; all that was lent and returned is within its limit.
-use Rattle.std.proofs.Common.{◌≡◌, ℕ, ◌+◌, ◌*◌, ◌<◌, ◌≤◌, ◌==◌, ◌&&◌, Bool, true, false, cond, List, [], ◌∷◌, ◌++◌, length, get_or, take, drop, sum_by, All, Option, None, Some, refl, sym, ap, ◌∙◌, subst, arith}
+use Rattle.std.proofs.Common.{◌≡◌, ℕ, ◌+◌, ◌<◌, ◌≤◌, ◌==◌, ◌&&◌, Bool, true, false, cond, List, [], ◌∷◌, ◌++◌, get_or, take, drop, sum_by, All, Option, None, Some, refl, sym, ap, ◌∙◌, subst, arith}
 use Rattle.std.specs.List.{filter_map, cons_option}
 use Rattle.std.proofs.lemmas.List.{take-append-drop, drop_more}
-use Rattle.std.proofs.lemmas.List.Elements.{All-nil, All-cons, All-head, All-tail, All-weaker, All-filter, All-get_or}
-use Rattle.std.proofs.lemmas.List.Sums.{sum_by-le, get_or-le-sum_by}
+use Rattle.std.proofs.lemmas.List.Elements.{All-nil, All-cons, All-head, All-tail, All-weaker, All-filter}
+use Rattle.std.proofs.lemmas.List.Sums.{get_or-le-sum_by}
 use Rattle.std.proofs.lemmas.Option.{same_Some}
 use Rattle.tact_base.proofs.ListLemmas.{All-one}
-use Rattle.tact_base.specs.declared.limits.TheConstants.{AMOUNT_MAX, ALPHA_MAX, LENT_MAX, HISTORY_MAX}
+use Rattle.tact_base.specs.declared.limits.TheConstants.{AMOUNT_MAX, ALPHA_MAX}
 use Rattle.tact_base.specs.declared.conit_list.Weight.{Weight}
 use Rattle.tact_base.specs.declared.write.Op.{Op}
 use Rattle.tact_base.specs.declared.write.Write.{Write}
 use Rattle.run_model.specs.Config.{Setup, IsSetup, loans_of, loan_of}
 use Rattle.run_model.specs.Histories.{mine, sent_in, sent_by_act}
-use Rattle.run_model.specs.Loans.{lent, returned, lent_by_act, returned_by_act}
-use Rattle.run_model.specs.OwnWrites.{own, asked_write, done_as, accepted_as, accepted_by}
+use Rattle.run_model.specs.Loans.{lent_by_act, returned_by_act}
+use Rattle.run_model.specs.OwnWrites.{asked_write, done_as, accepted_as, accepted_by}
 use Rattle.run_model.specs.Ranges.{IsOpInRange, IsWeightInRange, AreWeightsInRange, IsRequestInRange, IsMessageInRange, IsActInRange, IsEntryInRange}
 use Rattle.run_model.specs.Runs.{IsRun}
 use Rattle.run_model.specs.declared.call.Request.{Request}
@@ -24,7 +24,7 @@ use Rattle.run_model.specs.declared.entry.Act.TheVariants as act
 use Rattle.run_model.specs.declared.entry.Entry.{Entry}
 use Rattle.run_model.specs.declared.entry.Message.{Message}
 use Rattle.run_model.proofs.ConfigLemmas.{HasCounts-from_IsSetup, HasRow-from_IsSetup, length-loans_of}
-use Rattle.run_model.proofs.PartLemmas.{accepted_in, sent_by}
+use Rattle.run_model.proofs.PartLemmas.{sent_by}
 
 -- what a filter gives of elements that each give what holds
 All-filter_map : {X Y : Type 0} (P : Y → Type 0) (f : X → Option Y) (xs : List X) → All (λ x. (y : Y) → f x ≡ Some y → P y) xs → All P (filter_map f xs)
@@ -81,7 +81,7 @@ called_is_asked setup replica at (request.Reserve conit amount) given write with
 called_is_asked setup replica at (request.Release conit amount) given write within some = cc
 called_is_asked setup replica at (request.Read key needs) given write within some = cc
 
-acted_is_asked : (setup : Setup) (replica at : ℕ) (done : Act) (write : Write) → IsActInRange setup replica done → accepted_by replica at done ≡ Some write → IsAskedInRange setup write
+pub acted_is_asked : (setup : Setup) (replica at : ℕ) (done : Act) (write : Write) → IsActInRange setup replica done → accepted_by replica at done ≡ Some write → IsAskedInRange setup write
 acted_is_asked setup replica at (act.Call client number asked given) write within some = called_is_asked setup replica at asked given write within.1 some
 acted_is_asked setup replica at (act.Send message) write within some = cc
 acted_is_asked setup replica at (act.Take message) write within some = cc
@@ -89,18 +89,12 @@ acted_is_asked setup replica at (act.Lend to conit amount) write within some = c
 acted_is_asked setup replica at (act.Back owner conit amount) write within some = cc
 acted_is_asked setup replica at act.Restart write within some = cc
 
-pub own_in_range : (setup : Setup) (history : List Entry) → IsRun setup history → (replica : ℕ) → All (IsAskedInRange setup) (own (mine history replica))
-own_in_range setup history run replica =
-    let P = λ (entry : Entry). (write : Write) → accepted_in entry ≡ Some write → IsAskedInRange setup write in
-    All-filter_map (IsAskedInRange setup) accepted_in (mine history replica)
-    (All-weaker (IsEntryInRange setup) P (λ entry within write some. acted_is_asked setup entry.replica entry.moment entry.act write within.act some) (mine history replica) (part_in_range setup history run replica))
-
 -- an amount or nothing
 amount_or_none : (yes : Bool) (amount : ℕ) → amount ≤ AMOUNT_MAX → cond yes amount 0 ≤ AMOUNT_MAX
 amount_or_none true amount within = within
 amount_or_none false amount within = omega arith
 
-lent_by-most : (setup : Setup) (replica holder conit : ℕ) (done : Act) → IsActInRange setup replica done → lent_by_act holder conit done ≤ AMOUNT_MAX
+pub lent_by-most : (setup : Setup) (replica holder conit : ℕ) (done : Act) → IsActInRange setup replica done → lent_by_act holder conit done ≤ AMOUNT_MAX
 lent_by-most setup replica holder conit (act.Lend to at amount) within = amount_or_none (to == holder && at == conit) amount within.3
 lent_by-most setup replica holder conit (act.Call client number asked given) within = omega arith
 lent_by-most setup replica holder conit (act.Send message) within = omega arith
@@ -108,7 +102,7 @@ lent_by-most setup replica holder conit (act.Take message) within = omega arith
 lent_by-most setup replica holder conit (act.Back owner at amount) within = omega arith
 lent_by-most setup replica holder conit act.Restart within = omega arith
 
-returned_by-most : (setup : Setup) (replica owner conit : ℕ) (done : Act) → IsActInRange setup replica done → returned_by_act owner conit done ≤ AMOUNT_MAX
+pub returned_by-most : (setup : Setup) (replica owner conit : ℕ) (done : Act) → IsActInRange setup replica done → returned_by_act owner conit done ≤ AMOUNT_MAX
 returned_by-most setup replica owner conit (act.Back to at amount) within = amount_or_none (to == owner && at == conit) amount within.3
 returned_by-most setup replica owner conit (act.Call client number asked given) within = omega arith
 returned_by-most setup replica owner conit (act.Send message) within = omega arith
@@ -117,28 +111,9 @@ returned_by-most setup replica owner conit (act.Lend to at amount) within = omeg
 returned_by-most setup replica owner conit act.Restart within = omega arith
 
 -- an opening loan is at most the alpha that it is lent of
-loan_of-most : (setup : Setup) → IsSetup setup → (owner conit holder : ℕ) → owner < setup.replicas → conit < setup.conits → holder < setup.replicas → loan_of setup owner conit holder ≤ ALPHA_MAX
+pub loan_of-most : (setup : Setup) → IsSetup setup → (owner conit holder : ℕ) → owner < setup.replicas → conit < setup.conits → holder < setup.replicas → loan_of setup owner conit holder ≤ ALPHA_MAX
 loan_of-most setup good owner conit holder owner_in conit_in holder_in =
     let row = HasRow-from_IsSetup setup good owner conit owner_in conit_in in
     let size = length-loans_of setup (HasCounts-from_IsSetup setup good) owner conit owner_in conit_in in
     let one : loan_of setup owner conit holder ≤ sum_by (λ (n : ℕ). n) (loans_of setup owner conit) = get_or-le-sum_by (λ (n : ℕ). n) (loans_of setup owner conit) holder 0 (omega (arith, size)) in
     omega (arith, one, row.total, row.alpha)
-
--- so a part that isn't too long lends and returns no more than the limit
-pub lent_most : (setup : Setup) (history : List Entry) → IsSetup setup → IsRun setup history → (replica holder conit : ℕ) → replica < setup.replicas → holder < setup.replicas → conit < setup.conits → length (mine history replica) ≤ HISTORY_MAX → lent setup replica (mine history replica) holder conit ≤ LENT_MAX
-lent_most setup history good run replica holder conit replica_in holder_in conit_in few =
-    let part = mine history replica in
-    let amount = λ (entry : Entry). lent_by_act holder conit entry.act in
-    let most : sum_by amount part ≤ length part * 1000000000000 =
-    sum_by-le amount 1000000000000 part
-    (All-weaker (IsEntryInRange setup) (λ entry. amount entry ≤ 1000000000000) (λ entry within. lent_by-most setup entry.replica holder conit entry.act within.act) part (part_in_range setup history run replica)) in
-    omega (arith, most, few, loan_of-most setup good replica conit holder replica_in conit_in holder_in)
-
-pub returned_most : (setup : Setup) (history : List Entry) → IsRun setup history → (replica owner conit : ℕ) → length (mine history replica) ≤ HISTORY_MAX → returned (mine history replica) owner conit ≤ LENT_MAX
-returned_most setup history run replica owner conit few =
-    let part = mine history replica in
-    let amount = λ (entry : Entry). returned_by_act owner conit entry.act in
-    let most : sum_by amount part ≤ length part * 1000000000000 =
-    sum_by-le amount 1000000000000 part
-    (All-weaker (IsEntryInRange setup) (λ entry. amount entry ≤ 1000000000000) (λ entry within. returned_by-most setup entry.replica owner conit entry.act within.act) part (part_in_range setup history run replica)) in
-    omega (arith, most, few)

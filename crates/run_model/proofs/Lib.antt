@@ -18,6 +18,5 @@ pub mod WorkedRun
 pub mod Placed
 pub mod EntriesInRange
 pub mod ClockBound
-pub mod InRange
 pub mod Firsts
 pub mod BoardText

@@ -1,9 +1,10 @@
 -- What one more entry does to a history and to a part: to the entries of a replica, to its own writes, to the messages that it sent and took, and to what it keeps.
-use Rattle.std.proofs.Common.{◌≡◌, ℕ, ◌+◌, ◌≤◌, ◌==◌, max, Bool, true, false, cond, List, [], ◌∷◌, ◌++◌, length, map, fold, filter, All, Option, None, Some, refl, sym, ap, ◌∙◌, subst, ⊎_elim, arith}
-use Rattle.std.specs.List.{cons_option}
+use Rattle.std.proofs.Common.{◌≡◌, ℕ, suc, ◌+◌, ◌≤◌, ◌==◌, max, Bool, true, false, cond, List, [], ◌∷◌, ◌++◌, length, map, fold, filter, All, Option, None, Some, refl, sym, ap, ◌∙◌, subst, ⊎_elim, arith}
+use Rattle.std.specs.List.{filter_map, cons_option}
 use Rattle.std.proofs.lemmas.Bool.{cases_eq, eq-eqb, ne_eqb}
 use Rattle.std.proofs.lemmas.List.{append-nil, length-append, map_push}
 use Rattle.std.proofs.lemmas.List.Elements.{filter-append, filter_map-append, All-nil, All-cons, All-head, All-tail, All-weaker}
+use Rattle.std.proofs.lemmas.List.Sums.{length-filter, count_by-le-length}
 use Rattle.tact_base.proofs.ListLemmas.{fold-push}
 use Rattle.tact_base.specs.declared.write.Write.{Write}
 use Rattle.run_model.specs.Histories.{mine, last_moment, sent_in, taken_in, taken_from, sent_by_act, taken_by_act, is_call_of, calls_in, greatest}
@@ -149,3 +150,18 @@ module _ (part : List Entry) (entry : Entry) where
       let list : taken_from (part ++ entry ∷ []) peer ≡ taken_from part peer =
       taken_from-push peer message some ∙ ap (λ yes. taken_from part peer ++ cond yes (message ∷ []) []) test ∙ append-nil (taken_from part peer) in
       ap (λ messages. greatest (map (λ (m : Message). told_have m origin) messages)) list
+
+-- a part is no longer than the history
+pub length-mine : (history : List Entry) (replica : ℕ) → length (mine history replica) ≤ length history
+length-mine history replica =
+    let test = λ (entry : Entry). entry.replica == replica in
+    omega (arith, length-filter test history, count_by-le-length test history)
+
+-- what a filter gives is no longer than the list
+pub length-filter_map : {X Y : Type 0} (f : X → Option Y) (xs : List X) → length (filter_map f xs) ≤ length xs
+length-filter_map f [] = omega arith
+length-filter_map {X} {Y} f (x ∷ xs) = go (f x) (length-filter_map f xs)
+  where
+    go : (here : Option Y) → length (filter_map f xs) ≤ length xs → length (cons_option here (filter_map f xs)) ≤ suc (length xs)
+    go None few = omega (arith, few)
+    go (Some y) few = omega (arith, few)

@@ -8,7 +8,7 @@ use Rattle.run_model.specs.Config.{Setup}
 use Rattle.run_model.specs.Histories.{mine, IsPrefix}
 use Rattle.run_model.specs.Runs.{IsLawful, IsRun}
 use Rattle.run_model.specs.declared.entry.Entry.{Entry}
-use Rattle.run_model.proofs.PrefixLemmas.{IsPrefix-nil, IsPrefix-append, EachAfter-prefix, EachAfter-last}
+use Rattle.run_model.proofs.PrefixLemmas.{IsPrefix-nil, IsPrefix-append, EachAfter-last}
 use Rattle.run_model.proofs.RunInduction.{IsRun-prefix, over_runs}
 use Rattle.run_model.proofs.Growth.{Grows, Grows-refl, Grows-trans, Grows-history}
 use Rattle.run_model.proofs.Sound.{AreInOrder, IsInOrder, IsSoundMessage, Sound}
@@ -24,7 +24,7 @@ AreInOrder-nil replica = record {
   stamps_least = All-nil (λ (write : Write). 1 ≤ write.stamp);
 }
 
-IsInOrder-nil : (replica : ℕ) → IsInOrder replica []
+pub IsInOrder-nil : (replica : ℕ) → IsInOrder replica []
 IsInOrder-nil replica = record {
   writes = AreInOrder-nil replica;
   stamps_most = All-nil (λ (write : Write). write.stamp ≤ 0);

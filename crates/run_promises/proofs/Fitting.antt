@@ -32,7 +32,7 @@ use Rattle.run_promises.proofs.LoansAgree.{TellsOfLoans, LoansAgree, LoansAgree-
 use Rattle.run_promises.proofs.KeepsShares.{KeepsShares}
 
 -- a taken message is in range
-taken_in_range : (setup : Setup) (replica : ℕ) (done : Act) (message : Message) → IsActInRange setup replica done → taken_by_act done ≡ Some message → IsMessageInRange setup message
+pub taken_in_range : (setup : Setup) (replica : ℕ) (done : Act) (message : Message) → IsActInRange setup replica done → taken_by_act done ≡ Some message → IsMessageInRange setup message
 taken_in_range setup replica (act.Take taken) message within some = subst (IsMessageInRange setup) (same_Some taken message some) within.0
 taken_in_range setup replica (act.Call client number asked given) message within some = cc
 taken_in_range setup replica (act.Send sent) message within some = cc

@@ -9,6 +9,9 @@ pub mod KeepsShares
 pub mod Exact
 pub mod Within
 pub mod Fitting
+pub mod PartSound
+pub mod PartViews
+pub mod DueInRange
 pub mod Quiet
 pub mod NumErrors
 pub mod Answered

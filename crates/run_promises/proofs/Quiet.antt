@@ -16,11 +16,7 @@ use Rattle.run_model.specs.Reference.{all_writes, reference, unseen, num_error, 
 use Rattle.run_model.specs.declared.entry.Entry.{Entry}
 use Rattle.run_model.proofs.PartLemmas.{accepted_in, taken_by, mine-push_cases, own-push_none, keeping-push_none}
 use Rattle.run_model.proofs.ClockLemmas.{clock-push_none}
-
--- a map of functions that agree at each element
-pub map-agree : {X Y : Type 0} (f g : X → Y) (xs : List X) → All (λ x. f x ≡ g x) xs → map f xs ≡ map g xs
-map-agree f g [] all = refl
-map-agree f g (x ∷ xs) all = ap₂ (λ y ys. y ∷ ys) (All-head (λ x. f x ≡ g x) x xs all) (map-agree f g xs (All-tail (λ x. f x ≡ g x) x xs all))
+use Rattle.run_model.proofs.Firsts.{map_agree}
 
 -- what agrees for each number agrees over a range and over the peers
 all-numbers : {Y : Type 0} (f g : ℕ → Y) → ((i : ℕ) → f i ≡ g i) → (xs : List ℕ) → All (λ i. f i ≡ g i) xs
@@ -56,7 +52,7 @@ module _ (setup : Setup) (history : List Entry) (entry : Entry) (accepts : accep
 
   quiet-covers_of : (replica at : ℕ) → covers_of setup replica (mine further replica) at ≡ covers_of setup replica (mine history replica) at
   quiet-covers_of replica at =
-      map-agree (cover_of replica (mine further replica) at) (cover_of replica (mine history replica) at) (replicas_of setup)
+      map_agree (cover_of replica (mine further replica) at) (cover_of replica (mine history replica) at) (replicas_of setup)
       (all-numbers (cover_of replica (mine further replica) at) (cover_of replica (mine history replica) at) (quiet-cover_of replica at) (replicas_of setup))
 
   quiet-seen : (replica : ℕ) → seen setup replica (mine further replica) ≡ seen setup replica (mine history replica)

@@ -17,7 +17,7 @@ use Rattle.run_model.specs.declared.script_line.Line.{Line}
 use Rattle.run_model.specs.declared.script_line.Line.TheVariants as line
 use Rattle.run_promises.proofs.Kept.{IsKept-run}
 use Rattle.run_model.proofs.ClockBound.{clock-run}
-use Rattle.run_model.proofs.InRange.{length-mine}
+use Rattle.run_model.proofs.PartLemmas.{length-mine}
 use Rattle.script_run.specs.Forms.{NamesOnly, setup_of}
 use Rattle.script_run.specs.Playing.{IsPlayOf, Writes, WritesText}
 use Rattle.script_run.specs.Scripts.{FitsAfter, IsScript, script_of}

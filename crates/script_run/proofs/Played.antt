@@ -22,11 +22,13 @@ use Rattle.run_model.specs.declared.entry.Act.TheVariants as act
 use Rattle.run_model.specs.declared.entry.Entry.{Entry}
 use Rattle.run_model.specs.declared.entry.Message.{Message}
 use Rattle.run_model.proofs.PrefixLemmas.{EachAfter-push}
-use Rattle.run_model.proofs.PartLemmas.{sent_by, mine-push_same, mine-push_other, mine-push_cases, sent_in-push_none, sent_in-push_some, last_moment-push}
+use Rattle.run_model.proofs.PartLemmas.{sent_by, mine-push_same, mine-push_other, mine-push_cases, sent_in-push_none, sent_in-push_some, last_moment-push, length-mine}
 use Rattle.run_model.proofs.ClockBound.{clock-run}
 use Rattle.run_model.proofs.EntriesInRange.{sent_in_range}
 use Rattle.run_model.proofs.Firsts.{message_again}
-use Rattle.run_model.proofs.InRange.{IsBounded, IsBounded-short, length-mine, message_in_range}
+use Rattle.run_promises.proofs.DueInRange.{due_message_in_range}
+use Rattle.run_promises.proofs.Kept.{IsPart-run}
+use Rattle.run_promises.proofs.PartSound.{PartSound, PartSound-part}
 use Rattle.run_model.proofs.Sound.{IsSoundMessage}
 use Rattle.run_model.proofs.SoundRuns.{Sound-run}
 use Rattle.script_run.specs.Forms.{is_sent}
@@ -73,8 +75,8 @@ module _ (setup : Setup) (good : IsSetup setup) (sent : List (List ℕ)) (played
   now : moment_at part played.handed ≡ 0
   now = omega (arith, is.handed, is.moments replica)
 
-  bounded : IsBounded played.history
-  bounded = IsBounded-short setup played.history is.run (omega (arith, room)) (λ other. omega (arith, is.moments other))
+  sound : PartSound setup replica part
+  sound = PartSound-part setup replica part (IsPart-run setup played.history is.run replica)
 
   room_here : length part < HISTORY_MAX
   room_here = omega (arith, length-mine played.history replica, room)
@@ -101,7 +103,7 @@ module _ (setup : Setup) (good : IsSetup setup) (sent : List (List ℕ)) (played
   pub send_is_lawful : (to : ℕ) (given : List ℕ) → to < setup.replicas → to ≢ replica → IsLawful setup played.history (entry_of played replica (sends_to setup replica to given))
   send_is_lawful to given to_in other = record {
     due = due (sends_to setup replica to given)
-        (message_in_range setup played.history good is.run bounded replica (moment_at part played.handed) to given replica_in to_in (λ same. other (sym same)) room_here (omega (arith, now)), refl)
+        (due_message_in_range setup good replica part sound replica_in room_here (moment_at part played.handed) (omega (arith, now)) to to_in (λ same. other (sym same)) given, refl)
         (message_again setup replica part to given (moment_at part played.handed));
     sent = tt;
   }
