@@ -1,0 +1,4 @@
+pub mod CoreLemmas
+pub mod Entering
+pub mod DueEntries
+pub mod Restarting
