@@ -1,10 +1,10 @@
 -- The least stamp over covers, and a cover that is raised.
-use Rattle.std.proofs.Common.{◌≡◌, ℕ, ◌<◌, ◌≤◌, min, Bool, true, false, cond, List, [], ◌∷◌, length, get_or, set, map, fold, All, refl, sym, ap, ⊎_elim, le_trans, arith, get_or-set_same, get_or-set_other}
+use Rattle.std.proofs.Common.{◌≡◌, ℕ, ◌<◌, ◌≤◌, min, Bool, true, false, cond, List, [], ◌∷◌, length, get_or, set, map, fold, All, refl, ap, ⊎_elim, arith, get_or-set_same, get_or-set_other}
 use Rattle.std.proofs.lemmas.Bool.{cases_eq, leb-true, and_parts}
 use Rattle.std.proofs.lemmas.List.{length-map, length-set, get_or-map}
-use Rattle.std.proofs.lemmas.List.Elements.{All-nil, All-cons, All-head, All-tail}
+use Rattle.std.proofs.lemmas.List.Elements.{All-head, All-tail}
 use Rattle.tact_base.proofs.KeepingLemmas.{least_of-is_least}
-use Rattle.tact_base.specs.Covers.{is_later, later_cover, least_of, least_stamp, no_cover}
+use Rattle.tact_base.specs.Covers.{is_later, later_cover, least_of, least_stamp}
 use Rattle.tact_base.specs.declared.write.Cover.{Cover}
 
 -- what is at most each of some numbers is at most the least of them
@@ -29,6 +29,12 @@ later_cover-stamp kept told = go (is_later kept told) refl
 abbrev pub stamps_of : List Cover → List ℕ
 stamps_of covers = map (λ (cover : Cover). cover.stamp) covers
 
+-- the least stamp is at most that of each cover
+pub least_stamp-le : (covers : List Cover) (i : ℕ) (d : Cover) → i < length covers → least_stamp covers ≤ (get_or covers i d).stamp
+least_stamp-le covers i d within =
+    let stamp = λ (cover : Cover). cover.stamp in
+    omega (arith, least_of-is_least (stamps_of covers) i 0 (omega (arith, within, length-map covers stamp)), get_or-map stamp covers i d 0 within)
+
 -- with one cover raised the least stamp doesn't fall
 pub least_stamp-raised : (covers : List Cover) (i : ℕ) (told d : Cover) → i < length covers → least_stamp covers ≤ least_stamp (set covers i (later_cover (get_or covers i d) told))
 least_stamp-raised covers i told d within =
@@ -36,14 +42,10 @@ least_stamp-raised covers i told d within =
     let stamp = λ (cover : Cover). cover.stamp in
     let size : length raised ≡ length covers = length-set covers i (later_cover (get_or covers i d) told) in
     let count : length (stamps_of raised) ≡ length raised = length-map raised stamp in
-    let count' : length (stamps_of covers) ≡ length covers = length-map covers stamp in
     least_of-below (least_stamp covers) (stamps_of raised) (omega (arith, count, size, within))
     (λ k e inside.
     let k_in : k < length covers = omega (arith, inside, count, size) in
-    let here : least_stamp covers ≤ (get_or covers k d).stamp =
-    (let each = least_of-is_least (stamps_of covers) in
-    let at : get_or (stamps_of covers) k e ≡ (get_or covers k d).stamp = get_or-map stamp covers k d e k_in in
-    omega (arith, each k e (omega (arith, k_in, count')), at)) in
+    let here = least_stamp-le covers k d k_in in
     let reads : get_or (stamps_of raised) k e ≡ (get_or raised k d).stamp = get_or-map stamp raised k d e (omega (arith, k_in, size)) in
     ⊎_elim
     (λ (same : k ≡ i).

@@ -1,23 +1,21 @@
 -- An entry that a replica makes where it isn't full is due, and the part goes on with it.
-use Rattle.std.proofs.Common.{◌≡◌, ℕ, ◌+◌, ◌<◌, ◌≤◌, max, Bool, true, false, ◌||◌, nat_le, List, [], ◌∷◌, ◌++◌, length, Option, None, refl, sym, ap, ap₂, ◌∙◌, cond, ◌==◌, arith}
-use Rattle.std.proofs.lemmas.Bool.{cases_eq, leb-false}
+use Rattle.std.proofs.Common.{◌≡◌, ℕ, ◌<◌, ◌≤◌, Bool, true, false, ◌||◌, nat_le, List, [], ◌∷◌, ◌++◌, None, refl, ap, ap₂, cond, ◌==◌, arith}
+use Rattle.std.proofs.lemmas.Bool.{leb-false}
 use Rattle.std.proofs.lemmas.List.Elements.{All-push}
 use Rattle.tact_base.proofs.ListLemmas.{flat_map_agree}
 use Rattle.tact_base.specs.WriteOrder.{in_order}
 use Rattle.tact_base.specs.declared.limits.TheConstants.{HISTORY_MAX, STAMP_MAX, MOMENT_MAX}
 use Rattle.tact_base.specs.declared.write.Write.{Write}
 use Rattle.run_model.specs.Config.{Setup}
-use Rattle.run_model.specs.Histories.{last_moment, moment_at, sent_in, calls_in, is_call_of, replicas_of}
-use Rattle.run_model.specs.OwnWrites.{own}
-use Rattle.run_model.specs.Kept.{Keeping, keeping, log_of, clock, known}
+use Rattle.run_model.specs.Histories.{moment_at, replicas_of}
+use Rattle.run_model.specs.Kept.{Keeping, log_of}
 use Rattle.run_model.specs.Order.{seen}
 use Rattle.run_model.specs.Ranges.{IsActInRange}
 use Rattle.run_model.specs.Runs.{IsActDue, IsDue, FitsIfTaken, MayFollow, IsPart}
 use Rattle.run_model.specs.declared.entry.Act.{Act}
 use Rattle.run_model.specs.declared.entry.Entry.{Entry}
 use Rattle.run_model.proofs.PrefixLemmas.{EachAfter-push}
-use Rattle.run_model.proofs.PartLemmas.{accepted_in, taken_by, sent_by, own-push_none, keeping-push_none, known-push_none, sent_in-push_none, calls_in-push}
-use Rattle.run_model.proofs.ClockLemmas.{clock-push_none}
+use Rattle.run_model.proofs.PartLemmas.{accepted_in, taken_by, own-push_none, keeping-push_none}
 use Rattle.run_model.proofs.Growth.{Grows, Grows-push}
 use Rattle.run_promises.proofs.PartSound.{PartSound, PartSound-part}
 use Rattle.replica_core.specs.States.{Core, is_full}

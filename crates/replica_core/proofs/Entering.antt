@@ -1,22 +1,18 @@
 -- An entry is closed: the replica stands for its part with the entry.
-use Rattle.std.proofs.Common.{◌≡◌, ◌≢◌, ℕ, ◌+◌, ◌<◌, ◌≤◌, max, Bool, true, false, cond, nat_le, ◌&&◌, List, [], ◌∷◌, ◌++◌, length, get_or, set, map, All, refl, sym, ap, ap₂, ◌∙◌, subst, ⊎_elim, arith, get_or-set_same, get_or-set_other}
-use Rattle.std.specs.List.{range_with_len}
+use Rattle.std.proofs.Common.{◌≡◌, ℕ, ◌<◌, ◌≤◌, max, true, nat_le, List, [], ◌∷◌, ◌++◌, length, get_or, set, refl, sym, ap, ap₂, ◌∙◌, ⊎_elim, arith, get_or-set_same, get_or-set_other}
 use Rattle.std.proofs.lemmas.Bool.{cases_eq, le-leb}
 use Rattle.std.proofs.lemmas.List.{length-map, length-set, length_push, get_or-map, ext_get_or}
-use Rattle.std.proofs.lemmas.List.FromFn.{length-range_with_len, length-map-range_with_len, get_or-map-range_with_len}
-use Rattle.tact_base.specs.Covers.{no_cover, is_later, later_cover, least_of, least_stamp}
+use Rattle.std.proofs.lemmas.List.FromFn.{length-map-range_with_len, get_or-map-range_with_len}
+use Rattle.tact_base.specs.Covers.{no_cover, later_cover, least_of}
 use Rattle.tact_base.specs.declared.write.Cover.{Cover}
-use Rattle.tact_base.specs.declared.write.Write.{Write}
-use Rattle.run_model.specs.Config.{Setup}
-use Rattle.run_model.specs.Histories.{last_moment, moment_at, sent_in, calls_in, replicas_of}
+use Rattle.run_model.specs.Histories.{last_moment, moment_at, sent_in, calls_in}
 use Rattle.run_model.specs.OwnWrites.{own}
-use Rattle.run_model.specs.Kept.{keeping, log_of, have, clock, cover_of, covers_of, known}
-use Rattle.run_model.specs.Order.{seen, point}
+use Rattle.run_model.specs.Kept.{keeping, log_of, clock, cover_of, covers_of, known}
+use Rattle.run_model.specs.Order.{seen}
 use Rattle.run_model.specs.Runs.{IsPart}
 use Rattle.run_model.specs.declared.entry.Entry.{Entry}
 use Rattle.run_model.proofs.PartLemmas.{last_moment-push}
 use Rattle.run_model.proofs.Accepted.{log_of-same}
-use Rattle.run_model.proofs.ClockLemmas.{clock-le-push}
 use Rattle.run_model.proofs.Growth.{Grows}
 use Rattle.run_model.proofs.SoundViews.{cover_of-same, cover_of-other}
 use Rattle.replica_core.specs.States.{Core, log_at, cover_at, known_at, own_cover, covers_with_own, entered}

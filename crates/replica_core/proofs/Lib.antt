@@ -2,3 +2,5 @@ pub mod CoreLemmas
 pub mod Entering
 pub mod DueEntries
 pub mod Restarting
+pub mod AdmitLemmas
+pub mod Accepting

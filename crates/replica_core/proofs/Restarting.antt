@@ -1,31 +1,31 @@
 -- A restart: nothing but the counts changes. And a replica that has done nothing.
-use Rattle.std.proofs.Common.{◌≡◌, ◌≢◌, ℕ, ◌+◌, ◌*◌, ◌<◌, ◌≤◌, false, None, List, [], ◌∷◌, ◌++◌, length, get_or, map, replicate, flat_map, refl, sym, ap, ◌∙◌, ⊎_elim, arith}
+use Rattle.std.proofs.Common.{◌≡◌, ℕ, ◌+◌, ◌*◌, ◌<◌, ◌≤◌, false, List, [], ◌∷◌, ◌++◌, length, get_or, replicate, refl, sym, ap, ◌∙◌, ⊎_elim, arith}
 use Rattle.std.specs.List.{range_with_len}
-use Rattle.std.proofs.lemmas.Bool.{cases_eq}
-use Rattle.std.proofs.lemmas.List.{get_or-replicate, get_or-map, length-map}
+use Rattle.std.proofs.lemmas.Bool.{cases_eq, cases_lt}
+use Rattle.std.proofs.lemmas.List.{get_or-replicate, length-replicate, get_or_past, get_or-map, length-map}
 use Rattle.std.proofs.lemmas.List.FromFn.{length-map-range_with_len}
 use Rattle.std.proofs.lemmas.Nat.{mul-add-lt}
 use Rattle.std.proofs.lemmas.List.Elements.{All-nil}
 use Rattle.tact_base.proofs.KeepingLemmas.{least_of-is_least}
 use Rattle.tact_base.proofs.ListLemmas.{flat_map_none, get_or-map_range}
-use Rattle.tact_base.specs.Covers.{no_cover, least_stamp}
+use Rattle.tact_base.specs.Covers.{no_cover}
 use Rattle.tact_base.specs.WriteOrder.{in_order}
 use Rattle.tact_base.specs.declared.limits.TheConstants.{MOMENT_MAX}
 use Rattle.tact_base.specs.declared.write.Cover.{Cover}
 use Rattle.tact_base.specs.declared.write.Write.{Write}
 use Rattle.run_model.specs.Config.{Setup}
-use Rattle.run_model.specs.Histories.{moment_at, sent_in, calls_in, replicas_of}
+use Rattle.run_model.specs.Histories.{replicas_of}
 use Rattle.run_model.specs.Kept.{log_of, cover_of, covers_of}
 use Rattle.run_model.specs.Order.{seen, point}
 use Rattle.run_model.specs.Runs.{MayFollow, IsDue}
 use Rattle.run_model.specs.declared.entry.Act.TheVariants as act
 use Rattle.run_model.specs.declared.entry.Entry.{Entry}
 use Rattle.run_model.proofs.PrefixLemmas.{EachAfter-nil}
-use Rattle.run_model.proofs.PartLemmas.{accepted_in, taken_by, keeping-push_none, known-push_none, sent_in-push_none, calls_in-push}
+use Rattle.run_model.proofs.PartLemmas.{keeping-push_none, known-push_none, sent_in-push_none, calls_in-push}
 use Rattle.run_model.proofs.Accepted.{log_of-same, log_of-other}
 use Rattle.run_model.proofs.ClockLemmas.{clock-push_none}
 use Rattle.run_model.proofs.SoundViews.{cover_of-same, cover_of-other}
-use Rattle.replica_core.specs.States.{Core, entered, is_full, cover_at, log_at}
+use Rattle.replica_core.specs.States.{Core, entered, is_full, HasPlaces, IsKeptInOrder}
 use Rattle.replica_core.specs.Stands.{Stands, MovesNoLoan}
 use Rattle.replica_core.proofs.CoreLemmas.{stamps_of}
 use Rattle.replica_core.proofs.Entering.{IsOpen, Stands-entered}
@@ -118,3 +118,32 @@ pub Stands-made : (setup made : Setup) (replica : ℕ) (logs : List (List Write)
     → Stands [] (record { setup = made; replica = replica; logs = logs; covers = covers; known = known; seen = seen; point = point; clock = 0; calls = replicate 8 0; sends = 0; count = 0; last = 0 })
 Stands-made setup made replica logs covers known seen point among is_setup is_logs is_covers is_known is_seen is_point =
     rw (is_setup, is_logs, is_covers, is_known, is_seen, is_point) (Stands-new setup replica among)
+
+-- its lists have their places, and are kept in order
+pub HasPlaces-made : (replicas replica : ℕ) (logs : List (List Write)) (covers : List Cover) (known : List ℕ) → replica < replicas
+    → logs ≡ replicate replicas [] → covers ≡ replicate replicas no_cover → known ≡ replicate (replicas * replicas) 0 → HasPlaces replicas replica logs covers known (replicate 8 0)
+HasPlaces-made replicas replica logs covers known among is_logs is_covers is_known = record {
+  among = among;
+  logs_sized = ap length is_logs ∙ length-replicate replicas [];
+  covers_sized = ap length is_covers ∙ length-replicate replicas no_cover;
+  known_sized = ap length is_known ∙ length-replicate (replicas * replicas) 0;
+  calls_sized = refl;
+}
+
+-- no log has a write
+no_list : (replicas : ℕ) (logs : List (List Write)) → logs ≡ replicate replicas [] → (origin : ℕ) → get_or logs origin [] ≡ []
+no_list replicas logs is origin = ⊎_elim
+    (λ (within : origin < replicas). ap (λ (l : List (List Write)). get_or l origin []) is ∙ get_or-replicate replicas origin [] [] within)
+    (λ (past : replicas ≤ origin). get_or_past logs origin [] (omega (arith, past, ap length is, length-replicate {A = List Write} replicas [])))
+    (cases_lt origin replicas)
+
+pub IsKeptInOrder-made : (replicas replica : ℕ) (logs : List (List Write)) (covers : List Cover) (seen : List Write) (point : ℕ) → replica < replicas
+    → logs ≡ replicate replicas [] → covers ≡ replicate replicas no_cover → seen ≡ [] → point ≡ 0 → IsKeptInOrder replicas replica logs covers seen point 0
+IsKeptInOrder-made replicas replica logs covers seen point among is_logs is_covers is_seen is_point =
+    rw (is_covers, is_seen, is_point)
+    (record {
+      ordered = sym (ap in_order (flat_map_none (λ origin. get_or logs origin []) (range_with_len 0 replicas) (λ k d within. no_list replicas logs is_logs _)));
+      placed = All-nil (λ (write : Write). (write.origin < replicas) × (write.index < length (get_or logs write.origin [])));
+      own = omega (arith, ap (λ (c : Cover). c.stamp) (get_or-replicate replicas replica no_cover no_cover among));
+      committed = omega arith;
+    })

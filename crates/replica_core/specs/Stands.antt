@@ -1,14 +1,17 @@
 -- When a replica stands for a part, and what goes on from there.
-use Rattle.std.specs.Prelude.{◌≡◌, ℕ, ◌<◌, List, [], ◌∷◌, ◌++◌, All, length, slice_index}
-use Rattle.run_model.specs.Config.{Setup}
+use Rattle.std.specs.Prelude.{◌≡◌, true, false, ℕ, ◌<◌, List, [], ◌∷◌, ◌++◌, All, length, slice_index}
 use Rattle.run_model.specs.Histories.{sent_in, calls_in, last_moment, moment_at}
 use Rattle.run_model.specs.Kept.{log_of, cover_of, clock, known}
 use Rattle.run_model.specs.Order.{seen, point}
 use Rattle.run_model.specs.Runs.{IsPart}
+use Rattle.run_model.specs.declared.call.Request.{Request}
+use Rattle.run_model.specs.declared.call.Request.TheVariants as request
 use Rattle.run_model.specs.declared.entry.Act.{Act}
 use Rattle.run_model.specs.declared.entry.Act.TheVariants as act
 use Rattle.run_model.specs.declared.entry.Entry.{Entry}
-use Rattle.replica_core.specs.States.{Core, log_at, cover_at, known_at}
+use Rattle.replica_core.specs.States.{Core, log_at, cover_at, known_at, is_full}
+use Rattle.replica_core.specs.declared.fault.CoreFault.{CoreFault}
+use Rattle.replica_core.specs.declared.fault.CoreFault.TheVariants as fault
 
 -- an act that moves no loan, and a part of such acts
 abbrev pub MovesNoLoan : Act → Type 0
@@ -41,3 +44,13 @@ with_act replica part handed done = part ++ record { replica = replica; moment =
 -- After an act at a handed moment the replica stands for each part that it stood for, with that act.
 abbrev pub GoesOn : Core → Core → ℕ → Act → Type 0
 GoesOn old new handed done = (part : List Entry) → Stands part old → Stands (with_act old.replica part handed done) new
+
+-- a write without weights
+abbrev pub IsPlainWrite : Request → Type 0
+IsPlainWrite (request.Write weights op) = weights ≡ []
+IsPlainWrite other = ⊥
+
+-- what a refusal says: full, with both numbers, exactly where the replica is full
+abbrev pub IsFaultOf : Core → CoreFault → Type 0
+IsFaultOf core (fault.Full count clock) = (is_full core ≡ true) × (count ≡ core.count) × (clock ≡ core.clock)
+IsFaultOf core fault.NoMemory = is_full core ≡ false

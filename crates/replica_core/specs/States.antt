@@ -1,9 +1,12 @@
 -- The state of a replica, as plain lists and numbers.
-use Rattle.std.specs.Prelude.{◌≡◌, ℕ, ◌+◌, ◌*◌, ◌<◌, ◌||◌, Bool, nat_le, max, List, [], length, slice_index, slice_index_or, slice_set}
-use Rattle.std.specs.List.{range_with_len}
+use Rattle.std.specs.Prelude.{◌≡◌, ℕ, ◌+◌, ◌-◌, ◌*◌, ◌^◌, ◌<◌, ◌≤◌, ◌||◌, Bool, nat_le, min, max, List, [], ◌∷◌, ◌++◌, All, length, slice_index, slice_index_or, slice_set}
+use Rattle.std.specs.List.{flat_map, range_with_len}
 use Rattle.tact_base.specs.Covers.{no_cover, later_cover, least_stamp}
+use Rattle.tact_base.specs.WriteOrder.{in_order, with_write}
 use Rattle.tact_base.specs.declared.limits.TheConstants.{STAMP_MAX, HISTORY_MAX}
+use Rattle.tact_base.specs.declared.conit_list.Weight.{Weight}
 use Rattle.tact_base.specs.declared.write.Cover.{Cover}
+use Rattle.tact_base.specs.declared.write.Op.{Op}
 use Rattle.tact_base.specs.declared.write.Write.{Write}
 use Rattle.run_model.specs.Config.{Setup}
 
@@ -69,3 +72,39 @@ entered core handed =
     let last = max handed core.last in
     let covers = covers_with_own core last in
     record core { covers = covers; point = least_stamp covers; count = core.count + 1; last = last }
+
+-- all writes of its logs, joined by origin
+abbrev pub joined : ℕ → List (List Write) → List Write
+joined replicas logs = flat_map (λ origin. slice_index_or logs origin []) (range_with_len 0 replicas)
+
+-- What holds of it between two entries: the writes in order are those of its logs, each within its log; its own cover isn't past its
+-- clock; and nothing is committed past the least stamp.
+pub record IsKeptInOrder (replicas replica : ℕ) (logs : List (List Write)) (covers : List Cover) (seen : List Write) (point clock : ℕ) : Type 0 where
+  pub ordered : seen ≡ in_order (joined replicas logs)
+  pub placed : All (λ (write : Write). (write.origin < replicas) × (write.index < length (slice_index_or logs write.origin []))) seen
+  pub own : (slice_index_or covers replica no_cover).stamp ≤ clock
+  pub committed : point ≤ least_stamp covers
+
+-- one more, at most the greatest u64
+abbrev pub one_more : ℕ → ℕ
+one_more n = min (n + 1) (2 ^ 64 - 1)
+
+-- the write that it accepts next, at the moment that follows a handed one
+abbrev pub next_write : Core → ℕ → List Weight → Op → Write
+next_write core handed weights op = record {
+  origin = core.replica;
+  index = length (log_at core core.replica);
+  stamp = core.clock + 1;
+  moment = max handed core.last;
+  weights = weights;
+  op = op;
+}
+
+-- with a write of its own, which a client asked for
+abbrev pub accepted : Core → ℕ → Write → Core
+accepted core client write = record core {
+  logs = slice_set core.logs core.replica (log_at core core.replica ++ write ∷ []);
+  seen = with_write write core.seen;
+  clock = write.stamp;
+  calls = slice_set core.calls client (one_more (slice_index core.calls client));
+}

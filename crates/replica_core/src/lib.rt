@@ -2,8 +2,10 @@
 //! entries that it makes.
 #![tactic(auto)]
 
+mod admitting;
 mod fault;
 mod replica;
+mod writing;
 
 pub use fault::CoreFault;
 pub use replica::Replica;

@@ -1,9 +1,9 @@
 //! The state of a replica, and what can be read of it.
 ghost use Rattle.std.specs.Prelude.{◌≡◌, ◌↔◌, ℕ, ◌*◌, ◌<◌, ◌≤◌, [], suc, length, map, replicate, slice_index, IfOk, OnOk, OnErr, IsOk, IfErr, IsTrue, true, false, max};
 ghost use Rattle.tact_base.specs.Covers.{least_stamp};
-ghost use Rattle.tact_base.specs.declared.limits.TheConstants.{MOMENT_MAX};
+ghost use Rattle.tact_base.specs.declared.limits.TheConstants.{HISTORY_MAX, MOMENT_MAX};
 ghost use Rattle.tact_base.specs.WriteOrder.{committed_to, tentative_past};
-ghost use Rattle.replica_core.specs.States.{log_at, known_at, cover_at, entered, is_full};
+ghost use Rattle.replica_core.specs.States.{HasPlaces, log_at, known_at, cover_at, entered, is_full};
 ghost use Rattle.replica_core.specs.Stands.{Stands, GoesOn};
 ghost use Rattle.run_model.specs.declared.entry.Act.TheVariants.{Restart};
 
@@ -20,25 +20,24 @@ use write_log::Logs;
 /// writes it has room; `Stands` says when that is what the definitions say of a part of a history.
 #[derive(Drop)]
 pub struct Replica {
-    config: Config,
-    replica: u32,
-    logs: Logs,
-    vector: Vector,
-    ordered: Ordered,
-    known: Vec<u64>,
-    clock: u64,
-    calls: [u64; 8],
-    sends: u64,
-    count: u64,
-    last: u64,
-    spare: u64,
+    pub(crate) config: Config,
+    pub(crate) replica: u32,
+    pub(crate) logs: Logs,
+    pub(crate) vector: Vector,
+    pub(crate) ordered: Ordered,
+    pub(crate) known: Vec<u64>,
+    pub(crate) clock: u64,
+    pub(crate) calls: [u64; 8],
+    pub(crate) sends: u64,
+    pub(crate) count: u64,
+    pub(crate) last: u64,
+    pub(crate) spare: u64,
 }
 
 impl Model for Replica {
     ghost use Rattle.std.specs.Prelude.{◌≤◌};
-    ghost use Rattle.tact_base.specs.Covers.{least_stamp};
     ghost use Rattle.write_log.specs.Logs.{room_of};
-    ghost use Rattle.replica_core.specs.States.{ReplicaState, HasPlaces};
+    ghost use Rattle.replica_core.specs.States.{ReplicaState, HasPlaces, IsKeptInOrder};
 
     ghost Value = { ReplicaState };
 
@@ -62,7 +61,7 @@ impl Model for Replica {
 
     ghost invariant = { λ r. HasPlaces r.config.replicas r.replica r.logs.logs r.vector r.known.items r.calls
         × (r.spare ≤ room_of r.logs r.replica) × (r.spare ≤ r.ordered.room)
-        × (r.ordered.point ≤ least_stamp r.vector) };
+        × IsKeptInOrder r.config.replicas r.replica r.logs.logs r.vector r.ordered.writes r.ordered.point r.clock };
 }
 
 impl Replica {
@@ -196,10 +195,9 @@ impl Replica {
     /// where 20,000 entries were made or the clock stands at 2^40. Takes no memory.
     pub fn restart(&mut self, moment: u64) -> Result<(), CoreFault>
         requires { moment ≤ MOMENT_MAX }
-        ensures ok { OnOk result (GoesOn self.old.core self.new.core moment Restart) }
-        ensures full { IfErr result (λ fault. fault ≡ CoreFault.Full self.old.core.count self.old.core.clock) }
-        ensures exactly { OnErr result (is_full self.old.core ≡ true) }
-        ensures never_full { OnOk result (is_full self.old.core ≡ false) }
+        ensures goes_on { OnOk result (GoesOn self.old.core self.new.core moment Restart) }
+        ensures not_full { OnOk result (is_full self.old.core ≡ false) }
+        ensures full { IfErr result (λ fault. (is_full self.old.core ≡ true) × (fault ≡ CoreFault.Full self.old.core.count self.old.core.clock)) }
         ensures err { OnErr result (self.new ≡ self.old) }
     {
         self.may_enter()?;
@@ -208,12 +206,11 @@ impl Replica {
     }
 
     // Whether an entry may follow.
-    fn may_enter(&self) -> Result<(), CoreFault>
+    pub(crate) fn may_enter(&self) -> Result<(), CoreFault>
         ensures ok { OnOk result (is_full self.now.core ≡ false) }
         ensures err { OnErr result (is_full self.now.core ≡ true) }
         ensures full { IfErr result (λ fault. fault ≡ CoreFault.Full self.now.core.count self.now.core.clock) }
-        ensures among { self.now.core.replica < self.now.core.setup.replicas }
-        ensures sized { length self.now.core.covers ≡ self.now.core.setup.replicas }
+        ensures places { HasPlaces self.now.core.setup.replicas self.now.core.replica self.now.core.logs self.now.core.covers self.now.core.known self.now.core.calls }
     {
         if self.count >= HISTORY_MAX || self.clock >= STAMP_MAX {
             return Err(CoreFault::Full {
@@ -224,9 +221,9 @@ impl Replica {
         Ok(())
     }
 
-    // Counts an entry at the moment that follows the handed one.
-    fn enter(&mut self, moment: u64)
-        requires { is_full self.old.core ≡ false }
+    // Counts an entry at the moment that follows the handed one, and commits what can be.
+    pub(crate) fn enter(&mut self, moment: u64)
+        requires { self.old.core.count < HISTORY_MAX }
         ensures { self.new ≡ record self.old { core = entered self.old.core moment } }
     {
         self.count += 1;

@@ -2,7 +2,7 @@
 use Rattle.std.proofs.Common.{◌≡◌, ℕ, ◌<◌, ◌≤◌, max, List, [], ◌∷◌, ◌++◌, length, map, flat_map, All, None, Some, ap, ap₂, ◌∙◌, subst, ⊎_elim, arith}
 use Rattle.std.specs.List.{cons_option}
 use Rattle.std.proofs.lemmas.Bool.{cases_lt}
-use Rattle.std.proofs.lemmas.List.{map-append, get_or_past}
+use Rattle.std.proofs.lemmas.List.{map-append, append-nil, get_or_past}
 use Rattle.std.proofs.lemmas.List.Concat.{flat_map-append}
 use Rattle.std.proofs.lemmas.List.Elements.{All-head, All-weaker}
 use Rattle.tact_base.proofs.ListLemmas.{All-append_right, All-from_map, All-from_flat_map}
@@ -14,7 +14,7 @@ use Rattle.tact_base.specs.Covers.{no_cover}
 use Rattle.run_model.specs.Kept.{clock, told_cover}
 use Rattle.run_model.specs.declared.entry.Entry.{Entry}
 use Rattle.run_model.specs.declared.entry.Message.{Message}
-use Rattle.run_model.proofs.PartLemmas.{accepted_in, taken_by, greatest-append, greatest-is_most, own-push, own-push_none, taken_in-push, taken_in-push_none, taken_in-push_some}
+use Rattle.run_model.proofs.PartLemmas.{accepted_in, taken_by, greatest-append, greatest-is_most, own-push, own-push_none, own-push_some, taken_in-push, taken_in-push_none, taken_in-push_some}
 
 -- the stamps of own writes, and of the covers in taken messages
 abbrev pub own_stamps : List Entry → List ℕ
@@ -77,3 +77,30 @@ module _ (part : List Entry) (entry : Entry) where
   told-le-clock message some =
       let P = λ (message : Message). (origin : ℕ) → (told_cover message origin).stamp ≤ clock (part ++ entry ∷ []) in
       All-head P message [] (All-append_right P (taken_in part) (message ∷ []) (subst (All P) (taken_in-push_some part entry message some) (taken-le-clock (part ++ entry ∷ []))))
+
+-- The clock after a write, and after a message.
+module _ (part : List Entry) (entry : Entry) where
+  pub clock-accepted : (write : Write) → accepted_in entry ≡ Some write → taken_by entry ≡ None → clock (part ++ entry ∷ []) ≡ max (clock part) write.stamp
+  clock-accepted write some none =
+      let stamp = λ (w : Write). w.stamp in
+      let writes : greatest (own_stamps (part ++ entry ∷ [])) ≡ max (greatest (own_stamps part)) (greatest (write.stamp ∷ [])) =
+      ap (λ (ws : List Write). greatest (map stamp ws)) (own-push_some part entry write some)
+      ∙ ap greatest (map-append stamp (own part) (write ∷ []))
+      ∙ greatest-append (own_stamps part) (write.stamp ∷ []) in
+      let told : greatest (taken_stamps (part ++ entry ∷ [])) ≡ greatest (taken_stamps part) =
+      ap (λ (ms : List Message). greatest (map (λ (c : Cover). c.stamp) (flat_map (λ (m : Message). m.covers) ms))) (taken_in-push_none part entry none) in
+      omega (arith, writes, told)
+
+  pub clock-taken : (message : Message) → accepted_in entry ≡ None → taken_by entry ≡ Some message
+      → clock (part ++ entry ∷ []) ≡ max (clock part) (greatest (map (λ (cover : Cover). cover.stamp) message.covers))
+  clock-taken message none some =
+      let stamp = λ (cover : Cover). cover.stamp in
+      let covers = λ (message : Message). message.covers in
+      let writes : greatest (own_stamps (part ++ entry ∷ [])) ≡ greatest (own_stamps part) =
+      ap (λ (ws : List Write). greatest (map (λ (w : Write). w.stamp) ws)) (own-push_none part entry none) in
+      let told : greatest (taken_stamps (part ++ entry ∷ [])) ≡ max (greatest (taken_stamps part)) (greatest (map stamp message.covers)) =
+      ap (λ (ms : List Message). greatest (map stamp (flat_map covers ms))) (taken_in-push_some part entry message some)
+      ∙ ap (λ (cs : List Cover). greatest (map stamp cs)) (flat_map-append covers (taken_in part) (message ∷ []) ∙ ap (λ (cs : List Cover). flat_map covers (taken_in part) ++ cs) (append-nil message.covers))
+      ∙ ap greatest (map-append stamp (flat_map covers (taken_in part)) message.covers)
+      ∙ greatest-append (taken_stamps part) (map stamp message.covers) in
+      omega (arith, writes, told)

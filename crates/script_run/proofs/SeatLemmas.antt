@@ -17,7 +17,7 @@ use Rattle.run_model.specs.declared.entry.Act.TheVariants as act
 use Rattle.run_model.specs.declared.entry.Entry.{Entry}
 use Rattle.run_model.specs.declared.entry.Message.{Message}
 use Rattle.run_model.proofs.PartLemmas.{accepted_in, taken_by, greatest-append, own-push_none, own-push_some, sent_in-push_none, sent_in-push_some, taken_in-push_none, taken_in-push_some, keeping-push_none, keeping-push_some, known-push_none, known-push_from, known-push_other, calls_in-push, last_moment-push}
-use Rattle.run_model.proofs.ClockLemmas.{clock-push_none}
+use Rattle.run_model.proofs.ClockLemmas.{clock-push_none, clock-accepted, clock-taken}
 use Rattle.run_model.proofs.Accepted.{log_of-same, log_of-other}
 use Rattle.script_run.specs.Seats.{State, StateStands, HasRoom, log_at, known_at, kept_at, kept_after, one_more, with_entry}
 
@@ -37,37 +37,6 @@ cond-le false x xs n few = omega arith
 filter-le : {A : Type 0} (p : A → Bool) (xs : List A) → length (filter p xs) ≤ length xs
 filter-le p [] = omega arith
 filter-le p (x ∷ xs) = omega (arith, cond-le (p x) x (filter p xs) (length xs) (filter-le p xs))
-
--- the clock after a write, and after a message
-abbrev stamps : List Write → List ℕ
-stamps writes = map (λ (write : Write). write.stamp) writes
-
-abbrev told_stamps : List Message → List ℕ
-told_stamps messages = map (λ (cover : Cover). cover.stamp) (flat_map (λ (message : Message). message.covers) messages)
-
-pub clock-accepted : (part : List Entry) (entry : Entry) (write : Write) → accepted_in entry ≡ Some write → taken_by entry ≡ None → clock (part ++ entry ∷ []) ≡ max (clock part) write.stamp
-clock-accepted part entry write some none =
-    let writes : greatest (stamps (own (part ++ entry ∷ []))) ≡ max (greatest (stamps (own part))) (greatest (write.stamp ∷ [])) =
-    ap (λ (ws : List Write). greatest (stamps ws)) (own-push_some part entry write some)
-    ∙ ap greatest (map-append (λ (w : Write). w.stamp) (own part) (write ∷ []))
-    ∙ greatest-append (stamps (own part)) (write.stamp ∷ []) in
-    let told : greatest (told_stamps (taken_in (part ++ entry ∷ []))) ≡ greatest (told_stamps (taken_in part)) =
-    ap (λ (ms : List Message). greatest (told_stamps ms)) (taken_in-push_none part entry none) in
-    omega arith
-
-pub clock-taken : (part : List Entry) (entry : Entry) (message : Message) → accepted_in entry ≡ None → taken_by entry ≡ Some message
-    → clock (part ++ entry ∷ []) ≡ max (clock part) (greatest (map (λ (cover : Cover). cover.stamp) message.covers))
-clock-taken part entry message none some =
-    let stamp = λ (cover : Cover). cover.stamp in
-    let covers = λ (message : Message). message.covers in
-    let writes : greatest (stamps (own (part ++ entry ∷ []))) ≡ greatest (stamps (own part)) =
-    ap (λ (ws : List Write). greatest (stamps ws)) (own-push_none part entry none) in
-    let told : greatest (told_stamps (taken_in (part ++ entry ∷ []))) ≡ max (greatest (told_stamps (taken_in part))) (greatest (map stamp message.covers)) =
-    ap (λ (ms : List Message). greatest (told_stamps ms)) (taken_in-push_some part entry message some)
-    ∙ ap (λ (cs : List Cover). greatest (map stamp cs)) (flat_map-append covers (taken_in part) (message ∷ []) ∙ ap (λ (cs : List Cover). flat_map covers (taken_in part) ++ cs) (append-nil message.covers))
-    ∙ ap greatest (map-append stamp (flat_map covers (taken_in part)) message.covers)
-    ∙ greatest-append (told_stamps (taken_in part)) (map stamp message.covers) in
-    omega arith
 
 module _ (replica : ℕ) (part : List Entry) (state : State) (stands : StateStands replica part state) (moment : ℕ) where
   -- a message was sent
