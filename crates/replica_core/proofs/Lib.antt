@@ -4,3 +4,5 @@ pub mod DueEntries
 pub mod Restarting
 pub mod AdmitLemmas
 pub mod Accepting
+pub mod Ranges
+pub mod SendLemmas

@@ -5,6 +5,7 @@
 mod admitting;
 mod fault;
 mod replica;
+mod sending;
 mod writing;
 
 pub use fault::CoreFault;
