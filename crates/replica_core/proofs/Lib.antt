@@ -4,5 +4,8 @@ pub mod DueEntries
 pub mod Restarting
 pub mod AdmitLemmas
 pub mod Accepting
-pub mod Ranges
+pub mod RangeLists
+pub mod RangesLemmas
+pub mod RangesPlaced
+pub mod RangesWeights
 pub mod SendLemmas

@@ -29,7 +29,7 @@ use Rattle.run_promises.proofs.DueInRange.{due_message_in_range}
 use Rattle.replica_core.specs.States.{Core, log_at, cover_at, known_at, own_cover, origins_of, one_more, is_full, entered}
 use Rattle.replica_core.specs.Sending.{cover_told, first_told, writes_told, next_message, with_sent}
 use Rattle.replica_core.specs.Stands.{Stands, MovesNoLoan, HasNoLoans}
-use Rattle.replica_core.proofs.Ranges.{flat_map_range_more}
+use Rattle.replica_core.proofs.RangeLists.{flat_map_range_more}
 use Rattle.replica_core.proofs.Entering.{IsOpen, Stands-entered}
 use Rattle.replica_core.proofs.DueEntries.{entry_of, sound, moment_in, not_full, is_due, goes_on, has_grown, no_loans, quiet_log, quiet_seen}
 

@@ -45,6 +45,10 @@ with_act replica part handed done = part ++ record { replica = replica; moment =
 abbrev pub GoesOn : Core → Core → ℕ → Act → Type 0
 GoesOn old new handed done = (part : List Entry) → Stands part old → Stands (with_act old.replica part handed done) new
 
+-- it is the same replica of the same setup
+abbrev pub IsSameReplica : Core → Core → Type 0
+IsSameReplica old new = (new.setup ≡ old.setup) × (new.replica ≡ old.replica)
+
 -- a write without weights
 abbrev pub IsPlainWrite : Request → Type 0
 IsPlainWrite (request.Write weights op) = weights ≡ []

@@ -4,9 +4,13 @@
 
 mod admitting;
 mod fault;
+mod ranges;
 mod replica;
 mod sending;
+#[cfg(test)]
+mod tests;
 mod writing;
 
 pub use fault::CoreFault;
+pub use ranges::is_message_in_range;
 pub use replica::Replica;

@@ -4,7 +4,7 @@ ghost use Rattle.tact_base.specs.Covers.{least_stamp};
 ghost use Rattle.tact_base.specs.declared.limits.TheConstants.{HISTORY_MAX, MOMENT_MAX};
 ghost use Rattle.tact_base.specs.WriteOrder.{committed_to, tentative_past};
 ghost use Rattle.replica_core.specs.States.{HasPlaces, log_at, known_at, cover_at, entered, is_full};
-ghost use Rattle.replica_core.specs.Stands.{Stands, GoesOn};
+ghost use Rattle.replica_core.specs.Stands.{Stands, GoesOn, IsSameReplica};
 ghost use Rattle.run_model.specs.declared.entry.Act.TheVariants.{Restart};
 
 use crate::CoreFault;
@@ -196,6 +196,8 @@ impl Replica {
     pub fn restart(&mut self, moment: u64) -> Result<(), CoreFault>
         requires { moment ≤ MOMENT_MAX }
         ensures goes_on { OnOk result (GoesOn self.old.core self.new.core moment Restart) }
+        ensures same { IsSameReplica self.old.core self.new.core }
+        ensures spare { self.new.spare ≡ self.old.spare }
         ensures not_full { OnOk result (is_full self.old.core ≡ false) }
         ensures full { IfErr result (λ fault. (is_full self.old.core ≡ true) × (fault ≡ CoreFault.Full self.old.core.count self.old.core.clock)) }
         ensures err { OnErr result (self.new ≡ self.old) }

@@ -9,7 +9,7 @@ ghost use Rattle.run_model.specs.declared.entry.Act.TheVariants as act;
 ghost use Rattle.run_model.specs.declared.entry.Entry.{Entry};
 ghost use Rattle.replica_core.specs.States.{log_at, origins_of, is_full};
 ghost use Rattle.replica_core.specs.Sending.{cover_told, first_told, writes_told, next_message};
-ghost use Rattle.replica_core.specs.Stands.{Stands, with_act, IsFaultOf};
+ghost use Rattle.replica_core.specs.Stands.{Stands, with_act, IsSameReplica, IsFaultOf};
 
 use crate::{CoreFault, Replica};
 use run_model::Message;
@@ -38,6 +38,8 @@ impl Replica {
             → Stands (with_act self.old.core.replica part moment (act.Send message)) self.new.core) }
         ensures due { IfOk result (λ message. (part : List Entry) → Stands part self.old.core
             → message ≡ message_of self.old.core.setup self.old.core.replica part (moment_at part moment) to firsts.now) }
+        ensures same { IsSameReplica self.old.core self.new.core }
+        ensures spare { self.new.spare ≡ self.old.spare }
         ensures not_full { OnOk result (is_full self.old.core ≡ false) }
         ensures fault { IfErr result (IsFaultOf self.old.core) }
         ensures err { OnErr result (self.new ≡ self.old) }
@@ -150,7 +152,8 @@ impl Replica {
     {
         let have = self.logs.count(origin);
         let first = first.min(have);
-        self.logs.slice(origin, first, (most as u64).min(have - first))
+        self.logs
+            .slice(origin, first, (most as u64).min(have - first))
     }
 
     // What the replica ever lent to the holder: the opening loans.

@@ -8,7 +8,7 @@ ghost use Rattle.run_model.specs.declared.call.Request.TheVariants as request;
 ghost use Rattle.run_model.specs.declared.entry.Act.TheVariants as act;
 ghost use Rattle.run_model.specs.declared.entry.Entry.{Entry};
 ghost use Rattle.replica_core.specs.States.{log_at, entered, accepted, next_write, is_full};
-ghost use Rattle.replica_core.specs.Stands.{Stands, with_act, IsFaultOf, IsPlainWrite};
+ghost use Rattle.replica_core.specs.Stands.{Stands, with_act, IsSameReplica, IsFaultOf, IsPlainWrite};
 
 use crate::admitting::admit;
 use crate::{CoreFault, Replica};
@@ -28,6 +28,8 @@ impl Replica {
         requires plain { IsPlainWrite request.now }
         ensures goes_on { IfOk result (λ given. (part : List Entry) → Stands part self.old.core
             → Stands (with_act self.old.core.replica part moment (act.Call client (calls_in part client) request.now given)) self.new.core) }
+        ensures same { IsSameReplica self.old.core self.new.core }
+        ensures spare { self.old.spare ≤ self.new.spare + 1 }
         ensures not_full { OnOk result (is_full self.old.core ≡ false) }
         ensures fault { IfErr result (IsFaultOf self.old.core) }
         ensures enough { 0 < self.old.spare → is_full self.old.core ≡ false → IsOk result }
@@ -51,6 +53,7 @@ impl Replica {
         requires client { client < 8 }
         ensures reply { result ≡ reply.Done (length (log_at self.old.core self.old.core.replica)) (self.old.core.clock + 1) }
         ensures core { self.new.core ≡ entered (accepted self.old.core client (next_write self.old.core moment weights op)) moment }
+        ensures spare { self.old.spare ≡ self.new.spare + 1 }
     {
         let index = self.logs.count(self.replica);
         let stamp = self.clock + 1;

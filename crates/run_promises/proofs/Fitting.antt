@@ -138,7 +138,10 @@ IsPart-from setup shares =
     over_runs setup (λ history. (replica : ℕ) → IsPart setup replica (mine history replica)) (λ replica. EachAfter-nil (MayFollow setup replica))
     (λ before entry run lawful parts.
     mine-push_cases before entry (IsPart setup)
-    (EachAfter-push (MayFollow setup entry.replica) (mine before entry.replica) entry (parts entry.replica)
-    (refl, lawful.due, FitsIfTaken-from setup entry.replica (mine before entry.replica) entry.act (λ message takes.
-    Fits-taken setup before entry message (Sound-run setup before run) (LoansAgree-run setup before run) (shares before run) lawful takes)))
+    (EachAfter-push (MayFollow setup entry.replica) (mine before entry.replica) entry (parts entry.replica) (
+      refl,
+      lawful.due,
+      FitsIfTaken-from setup entry.replica (mine before entry.replica) entry.act (λ message takes.
+          Fits-taken setup before entry message (Sound-run setup before run) (LoansAgree-run setup before run) (shares before run) lawful takes),
+    ))
     parts)

@@ -1,0 +1,8 @@
+pub mod Places
+pub mod Parts
+pub mod Peers
+pub mod Refusals
+pub mod Openings
+pub mod Keeping
+pub mod KeepingLoans
+pub mod KeepingWrites

@@ -1,0 +1,9 @@
+use Rattle.std.proofs.Common.{◌≡◌}
+use Rattle.split_budget.proofs.tests.keeps_the_signs_apart.Given as goal
+
+abbrev pub invariant-loop-nweight : goal.invariant-loop-nweight
+invariant-loop-nweight g l = record {
+  replica : l.budgets.replica ≡ 0;
+  replicas : l.budgets.replicas ≡ 3;
+  conits : l.budgets.conits ≡ 1;
+}

@@ -1,0 +1,5 @@
+pub mod Opening
+pub mod Budgets
+pub mod Kept
+pub mod Answers
+pub mod Inside

@@ -1,0 +1,16 @@
+use tact_base::Numbers;
+
+/// What the budgets of a replica begin with. Alphas and loans are in units of weight.
+#[derive(Debug, Drop)]
+pub struct Budget {
+    /// The replica whose budgets these are.
+    pub replica: u32,
+    /// The count of replicas.
+    pub replicas: u32,
+    /// The count of conits.
+    pub conits: u32,
+    /// The bound of each owner on each conit, by owner and then conit.
+    pub alphas: Numbers,
+    /// What of its bound an owner lends at the opening, by owner, conit and holder.
+    pub loans: Numbers,
+}

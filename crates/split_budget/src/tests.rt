@@ -1,0 +1,208 @@
+ghost use Rattle.std.specs.Prelude.{◌≡◌, ◌<◌, ◌≤◌, IfOk};
+
+use crate::{Budget, Budgets, Fit};
+use std::alloc::Global;
+use std::test::Fail;
+use tact_base::{Numbers, Weight, Weights};
+
+// The budgets of replica 0 of three, on one conit: each allows 10, and lends 5 to each other.
+fn three(alloc: Global) -> Result<Budgets, Fail>
+    ensures replica { IfOk result (λ made. made.replica ≡ 0) }
+    ensures replicas { IfOk result (λ made. made.replicas ≡ 3) }
+    ensures conits { IfOk result (λ made. made.conits ≡ 1) }
+{
+    let config = Budget {
+        replica: 0,
+        replicas: 3,
+        conits: 1,
+        alphas: Numbers::from_slice(alloc, &[10, 10, 10])?,
+        loans: Numbers::from_slice(alloc, &[0, 5, 5, 5, 0, 5, 5, 5, 0])?,
+    };
+    Ok(Budgets::new(alloc, &config)?)
+}
+
+// The budgets of replica 0 of two, on two conits: on conit 0 each allows 10, and lends `loan`, and on
+// conit 1 it allows 7, and lends 1.
+fn pair(alloc: Global, loan: u64) -> Result<Budgets, Fail>
+    requires { loan ≤ 10 }
+    ensures replica { IfOk result (λ made. made.replica ≡ 0) }
+    ensures replicas { IfOk result (λ made. made.replicas ≡ 2) }
+    ensures conits { IfOk result (λ made. made.conits ≡ 2) }
+{
+    let config = Budget {
+        replica: 0,
+        replicas: 2,
+        conits: 2,
+        alphas: Numbers::from_slice(alloc, &[10, 7, 10, 7])?,
+        loans: Numbers::from_slice(alloc, &[0, loan, 0, 1, loan, 0, 1, 0])?,
+    };
+    Ok(Budgets::new(alloc, &config)?)
+}
+
+// A weight on conit 0.
+fn weight(nweight: i64) -> Weight
+    ensures { result.conit ≡ 0 }
+{
+    Weight {
+        conit: 0,
+        nweight,
+        oweight: 0,
+    }
+}
+
+// The answer to a weight on conit 0, of which a write is added where it fits.
+fn accept(budgets: &mut Budgets, nweight: i64) -> Result<Fit, Fail>
+    requires { 0 < budgets.old.conits }
+    ensures replica { budgets.new.replica ≡ budgets.old.replica }
+    ensures replicas { budgets.new.replicas ≡ budgets.old.replicas }
+    ensures conits { budgets.new.conits ≡ budgets.old.conits }
+{
+    budgets.reserve_room(1)?;
+    let weight = weight(nweight);
+    let weights = Weights::new(&[weight])?;
+    let fit = budgets.test(weight);
+    if fit == Fit::Fits {
+        budgets.add(&weights);
+    }
+    Ok(fit)
+}
+
+#[test]
+fn counts_what_a_peer_may_miss(rt: HostRuntime) -> Result<(), Fail> {
+    let mut budgets = three(rt.alloc())?;
+    assert_eq!(rt; budgets.share(1, 0), 5);
+    assert_eq!(rt; budgets.share(2, 0), 5);
+    assert_eq!(rt; accept(&mut budgets, 5)?, Fit::Fits);
+    assert_eq!(rt; budgets.missing(1, 0), (5, 0));
+    for (nweight, fit) in [
+        (1, wait_share(1, 5, 0, 1, 5)),
+        (
+            6,
+            Fit::TooHeavy {
+                peer: 1,
+                weight: 6,
+                share: 5,
+            },
+        ),
+        (0, Fit::Fits),
+        (-5, Fit::Fits),
+    ] {
+        assert_eq!(rt; budgets.test(weight(nweight)), fit, "{nweight}");
+    }
+    Ok(())
+}
+
+#[test]
+fn keeps_the_signs_apart(rt: HostRuntime) -> Result<(), Fail> {
+    let mut budgets = three(rt.alloc())?;
+    for (nweight, fit) in [
+        (5, Fit::Fits),
+        (-5, Fit::Fits),
+        (0, Fit::Fits),
+        (1, wait_share(1, 5, 0, 1, 5)),
+        (-1, wait_share(1, 5, 0, 1, 5)),
+    ] {
+        assert_eq!(rt; accept(&mut budgets, nweight)?, fit, "{nweight}");
+    }
+    assert_eq!(rt; budgets.missing(2, 0), (5, 5));
+    assert_eq!(rt; budgets.free(2, 0), 0);
+    Ok(())
+}
+
+#[test]
+fn takes_the_newest_acknowledgement(rt: HostRuntime) -> Result<(), Fail> {
+    let mut budgets = three(rt.alloc())?;
+    assert_eq!(rt; accept(&mut budgets, 5)?, Fit::Fits);
+    budgets.acked(1, 1);
+    assert_eq!(rt; budgets.test(weight(1)), wait_share(2, 5, 0, 1, 5));
+    budgets.acked(1, 0);
+    assert_eq!(rt; budgets.missing(1, 0), (0, 0));
+    budgets.acked(2, 1);
+    assert_eq!(rt; budgets.test(weight(5)), Fit::Fits);
+    Ok(())
+}
+
+#[test]
+fn lends_what_is_at_home(rt: HostRuntime) -> Result<(), Fail> {
+    let mut budgets = pair(rt.alloc(), 4)?;
+    assert_eq!(rt; budgets.home(0), 6);
+    assert_eq!(rt; budgets.home(1), 6);
+    assert_eq!(rt; budgets.lent(1, 0), 4);
+    budgets.lend(1, 0, 6);
+    assert_eq!(rt; budgets.home(0), 0);
+    assert_eq!(rt; budgets.out(1, 0), 10);
+    assert_eq!(rt; budgets.lent(1, 0), 10);
+    budgets.note_returned(1, 0, 3);
+    budgets.note_returned(1, 0, 2);
+    assert_eq!(rt; budgets.home(0), 3);
+    assert_eq!(rt; budgets.out(1, 0), 7);
+    assert_eq!(rt; budgets.out(1, 1), 1);
+    Ok(())
+}
+
+#[test]
+fn gives_back_what_is_free(rt: HostRuntime) -> Result<(), Fail> {
+    let mut budgets = pair(rt.alloc(), 4)?;
+    assert_eq!(rt; budgets.free(1, 0), 4);
+    budgets.give_back(1, 0, 3);
+    assert_eq!(rt; budgets.share(1, 0), 1);
+    assert_eq!(rt; budgets.returned(1, 0), 3);
+    assert_eq!(rt; budgets.free(1, 1), 1);
+    budgets.note_lent(1, 0, 9);
+    budgets.note_lent(1, 0, 9);
+    budgets.note_lent(1, 0, 8);
+    assert_eq!(rt; budgets.share(1, 0), 6);
+    Ok(())
+}
+
+#[test]
+fn spends_what_is_held(rt: HostRuntime) -> Result<(), Fail> {
+    let mut budgets = pair(rt.alloc(), 10)?;
+    assert_eq!(rt; budgets.reserve_room(1), Ok(()));
+    assert_eq!(rt; budgets.test_reserve(0, 10), Fit::Fits);
+    budgets.hold(0, 10);
+    assert_eq!(rt;
+        budgets.test(weight(1)),
+        Fit::WaitHeld {
+            peer: 1,
+            reserved: 10,
+            weight: 1,
+            share: 10
+        }
+    );
+    assert_eq!(rt; budgets.free(1, 0), 0);
+    assert_eq!(rt; budgets.reserved(0), 10);
+    let ten = Weight {
+        conit: 0,
+        nweight: -10,
+        oweight: 0,
+    };
+    budgets.spend(ten);
+    assert_eq!(rt; budgets.reserved(0), 0);
+    assert_eq!(rt; budgets.test(weight(-1)), wait_share(1, 10, 0, 1, 10));
+    assert_eq!(rt; budgets.test(weight(1)), Fit::Fits);
+    Ok(())
+}
+
+#[test]
+fn frees_what_is_held(rt: HostRuntime) -> Result<(), Fail> {
+    let mut budgets = pair(rt.alloc(), 10)?;
+    assert_eq!(rt; budgets.test_reserve(0, 7), Fit::Fits);
+    budgets.hold(0, 7);
+    assert_eq!(rt; budgets.reserved(0), 7);
+    budgets.free_held(0, 3);
+    assert_eq!(rt; budgets.reserved(0), 4);
+    assert_eq!(rt; budgets.test_reserve(0, 6), Fit::Fits);
+    assert_eq!(rt; budgets.test_reserve(1, 1), Fit::Fits);
+    Ok(())
+}
+
+fn wait_share(peer: u32, missing: u64, reserved: u64, weight: u64, share: u64) -> Fit {
+    Fit::WaitShare {
+        peer,
+        missing,
+        reserved,
+        weight,
+        share,
+    }
+}
