@@ -1,11 +1,12 @@
-ghost use Rattle.std.specs.Prelude.{◌≡◌, ◌≤◌, []};
+ghost use Rattle.std.specs.Prelude.{◌≡◌, ◌≤◌, [], IfOk};
 ghost use Rattle.tact_base.specs.declared.limits.TheConstants.{MOMENT_MAX};
 ghost use Rattle.replica_core.specs.Stands.{IsSameReplica};
 
 use crate::{CoreFault, Replica};
-use run_model::{Config, Reply, Request};
+use run_model::{Config, Message, Reply, Request};
+use std::alloc::Global;
 use std::test::Fail;
-use tact_base::{Op, Weights};
+use tact_base::{Cover, Numbers, Op, Weights};
 
 // The weights of a write that has none.
 fn no_weights() -> Weights
@@ -55,6 +56,53 @@ fn accepts_writes(rt: HostRuntime) -> Result<(), Fail> {
         (replica.committed().len(), replica.tentative().len()),
         (0, 2)
     );
+    Ok(())
+}
+
+// Replica 1 of two, which made two writes.
+fn with_two_writes(alloc: Global) -> Result<Replica, Fail>
+    ensures { IfOk result (λ made. (made.core.setup.replicas ≡ 2) × (made.core.replica ≡ 1)) }
+{
+    let config = Config::new(alloc, 2, 1, &[10, 10], &[0, 5, 6, 0])?;
+    let mut replica = Replica::new(alloc, &config, 1)?;
+    write(&mut replica, 5)?;
+    write(&mut replica, 6)?;
+    Ok(replica)
+}
+
+// That replica, and the message that it sends where the first of its own writes is given.
+fn sent(alloc: Global, moment: u64, given: u64) -> Result<(Replica, Message), Fail>
+    requires { moment ≤ MOMENT_MAX }
+{
+    let mut replica = with_two_writes(alloc)?;
+    let given = Numbers::from_slice(alloc, &[0, given])?;
+    let message = replica.send(alloc, moment, 0, &given)?;
+    Ok((replica, message))
+}
+
+#[test]
+fn sends_what_another_lacks(rt: HostRuntime) -> Result<(), Fail> {
+    for (moment, given, first, count, last) in [
+        (7, 0, 0, 2, 7),
+        (3, 1, 1, 1, 6),
+        (6, 2, 2, 0, 6),
+        (8, 9, 2, 0, 8),
+    ] {
+        let (replica, message) = sent(rt.alloc(), moment, given)?;
+        assert_eq!(rt; (message.from, message.to, message.number), (1, 0, 0));
+        assert_eq!(rt; message.haves.items(), [0, 2].as_slice());
+        assert_eq!(rt; message.firsts.items(), [0, first].as_slice());
+        assert_eq!(rt; message.writes.len(), count);
+        assert_eq!(rt; message.lent.items(), [6].as_slice());
+        assert_eq!(rt; message.returned.items(), [0].as_slice());
+        let told = Cover {
+            count: 2,
+            stamp: 2,
+            moment: last,
+        };
+        assert_eq!(rt; message.covers.items(), [Cover::default(), told].as_slice());
+        assert_eq!(rt; (replica.count(), replica.last()), (3, last));
+    }
     Ok(())
 }
 
