@@ -1,3 +1,0 @@
-pub mod States
-pub mod Sending
-pub mod Stands
