@@ -1,0 +1,101 @@
+-- A write that goes to the end of its origin's log goes to its place among all writes in order.
+use Rattle.std.proofs.Common.{◌≡◌, ℕ, zero, suc, ◌+◌, ◌<◌, ◌≤◌, List, [], ◌∷◌, ◌++◌, length, get_or, set, flat_map, All, inl, inr, ◌⊎◌, refl, sym, ap, ap₂, ◌∙◌, subst, ⊎_elim, arith, get_or-set_same, get_or-set_other}
+use Rattle.std.specs.List.{range_with_len}
+use Rattle.std.proofs.lemmas.Bool.{cases_eq}
+use Rattle.std.proofs.lemmas.List.{append_assoc, length_push}
+use Rattle.std.proofs.lemmas.List.Elements.{All-cons, All-weaker}
+use Rattle.std.proofs.lemmas.List.Sorted.{All-permutation, IsPermutation-sym}
+use Rattle.tact_base.proofs.CompareLemmas.{AreApart}
+use Rattle.tact_base.proofs.ListLemmas.{All-range, All-append_left, flat_map_agree}
+use Rattle.tact_base.proofs.OrderLemmas.{IsPermutation-with_write, IsPermutation-in_order, in_order_middle}
+use Rattle.tact_base.specs.WriteOrder.{with_write, in_order}
+use Rattle.tact_base.specs.declared.write.Write.{Write}
+use Rattle.replica_core.specs.States.{joined}
+
+-- of joined lists, of which one gets one more element
+pub record GetsOne (before after : List Write) (write : Write) : Type 0 where
+  pub front : List Write
+  pub rest : List Write
+  pub was : before ≡ front ++ rest
+  pub is : after ≡ front ++ write ∷ rest
+
+one_more_joined : (f g : ℕ → List Write) (at : ℕ) (write : Write) → g at ≡ f at ++ write ∷ [] → ((i : ℕ) → (i ≡ at → ⊥) → g i ≡ f i) → (start len : ℕ) → start ≤ at → at < start + len
+    → GetsOne (flat_map f (range_with_len start len)) (flat_map g (range_with_len start len)) write
+one_more_joined f g at write here others start zero low high = absurd (omega arith)
+one_more_joined f g at write here others start (suc len) low high =
+    go (cases_eq start at) (λ other. one_more_joined f g at write here others (start + 1) len (omega (arith, other)) (omega arith))
+  where
+    go : (start ≡ at) ⊎ (start ≡ at → ⊥) → ((start ≡ at → ⊥) → GetsOne (flat_map f (range_with_len (start + 1) len)) (flat_map g (range_with_len (start + 1) len)) write)
+        → GetsOne (f start ++ flat_map f (range_with_len (start + 1) len)) (g start ++ flat_map g (range_with_len (start + 1) len)) write
+    go (inl same) later =
+        let rest : flat_map g (range_with_len (start + 1) len) ≡ flat_map f (range_with_len (start + 1) len) =
+        flat_map_agree g f (range_with_len (start + 1) len) (All-range (λ i. g i ≡ f i) (start + 1) len (λ i above below. others i (λ is. absurd (omega (arith, is, same, above))))) in
+        let first : g start ≡ f start ++ write ∷ [] = subst (λ i. g i ≡ f i ++ write ∷ []) (sym same) here in
+        record {
+          front = f start;
+          rest = flat_map f (range_with_len (start + 1) len);
+          was = refl;
+          is = ap₂ (λ (xs ys : List Write). xs ++ ys) first rest ∙ append_assoc (f start) (write ∷ []) (flat_map f (range_with_len (start + 1) len));
+        }
+    go (inr other) later =
+        let gets = later other in
+        record {
+          front = f start ++ gets.front;
+          rest = gets.rest;
+          was = ap (λ xs. f start ++ xs) gets.was ∙ sym (append_assoc (f start) gets.front gets.rest);
+          is = ap₂ (λ (xs ys : List Write). xs ++ ys) (others start other) gets.is ∙ sym (append_assoc (f start) gets.front (write ∷ gets.rest));
+        }
+
+-- in order, it is put into its place
+pub in_order-one_more : (f g : ℕ → List Write) (at : ℕ) (write : Write) (len : ℕ) → at < len → g at ≡ f at ++ write ∷ [] → ((i : ℕ) → (i ≡ at → ⊥) → g i ≡ f i)
+    → All (λ (held : Write). AreApart held write) (flat_map f (range_with_len 0 len)) → in_order (flat_map g (range_with_len 0 len)) ≡ with_write write (in_order (flat_map f (range_with_len 0 len)))
+in_order-one_more f g at write len within here others apart =
+    let gets = one_more_joined f g at write here others 0 len (omega arith) (omega (arith, within)) in
+    let before : All (λ (held : Write). AreApart held write) gets.front =
+    All-append_left (λ (held : Write). AreApart held write) gets.front gets.rest (subst (All (λ (held : Write). AreApart held write)) gets.was apart) in
+    ap in_order gets.is ∙ in_order_middle gets.front write gets.rest before ∙ ap (λ ws. with_write write (in_order ws)) (sym gets.was)
+
+-- writes that stand within the logs of their origins
+abbrev pub ArePlaced : ℕ → List (List Write) → List Write → Type 0
+ArePlaced replicas logs seen = All (λ (write : Write). (write.origin < replicas) × (write.index < length (get_or logs write.origin []))) seen
+
+-- The next write of its origin.
+module _ (replicas : ℕ) (logs : List (List Write)) (seen : List Write) (write : Write) (sized : length logs ≡ replicas) (among : write.origin < replicas) (next : write.index ≡ length (get_or logs write.origin []))
+    (ordered : seen ≡ in_order (joined replicas logs)) (placed : ArePlaced replicas logs seen) where
+  abbrev more : List (List Write)
+  more = set logs write.origin (get_or logs write.origin [] ++ write ∷ [])
+
+  log_here : get_or more write.origin [] ≡ get_or logs write.origin [] ++ write ∷ []
+  log_here = get_or-set_same logs write.origin (get_or logs write.origin [] ++ write ∷ []) [] (omega (arith, among, sized))
+
+  log_elsewhere : (origin : ℕ) → (origin ≡ write.origin → ⊥) → get_or more origin [] ≡ get_or logs origin []
+  log_elsewhere origin other = get_or-set_other logs write.origin origin (get_or logs write.origin [] ++ write ∷ []) [] other
+
+  -- no write that it has is this one
+  apart : All (λ (held : Write). AreApart held write) (joined replicas logs)
+  apart =
+      let held : All (λ (held : Write). AreApart held write) seen =
+      All-weaker (λ (held : Write). (held.origin < replicas) × (held.index < length (get_or logs held.origin []))) (λ (held : Write). AreApart held write)
+      (λ held stands origin index. absurd (omega (arith, stands.1, index, next, ap (λ o. length (get_or logs o [])) origin))) seen placed in
+      All-permutation (λ (held : Write). AreApart held write) (in_order (joined replicas logs)) (joined replicas logs)
+      (IsPermutation-sym (joined replicas logs) (in_order (joined replicas logs)) (IsPermutation-in_order (joined replicas logs)))
+      (subst (All (λ (held : Write). AreApart held write)) ordered held)
+
+  pub admitted_ordered : with_write write seen ≡ in_order (joined replicas more)
+  admitted_ordered =
+      sym (in_order-one_more (λ origin. get_or logs origin []) (λ origin. get_or more origin []) write.origin write replicas among log_here log_elsewhere apart
+      ∙ ap (with_write write) (sym ordered))
+
+  longer : (origin : ℕ) → length (get_or logs origin []) ≤ length (get_or more origin [])
+  longer origin = ⊎_elim
+      (λ (same : origin ≡ write.origin). omega (arith, ap (λ o. length (get_or logs o [])) same, ap (λ o. length (get_or more o [])) same, ap length log_here, length_push (get_or logs write.origin []) write))
+      (λ (other : origin ≡ write.origin → ⊥). omega (arith, ap length (log_elsewhere origin other)))
+      (cases_eq origin write.origin)
+
+  pub admitted_placed : ArePlaced replicas more (with_write write seen)
+  admitted_placed =
+      let P = λ (held : Write). (held.origin < replicas) × (held.index < length (get_or more held.origin [])) in
+      let others : All P seen =
+      All-weaker (λ (held : Write). (held.origin < replicas) × (held.index < length (get_or logs held.origin []))) P (λ held stands. (stands.0, omega (arith, stands.1, longer held.origin))) seen placed in
+      All-permutation P (write ∷ seen) (with_write write seen) (IsPermutation-with_write write seen)
+      (All-cons P write seen (among, omega (arith, next, ap length log_here, length_push (get_or logs write.origin []) write)) others)

@@ -1,0 +1,125 @@
+-- An entry is closed: the replica stands for its part with the entry.
+use Rattle.std.proofs.Common.{◌≡◌, ℕ, ◌<◌, ◌≤◌, max, true, nat_le, List, [], ◌∷◌, ◌++◌, length, get_or, set, refl, sym, ap, ap₂, ◌∙◌, ⊎_elim, arith, get_or-set_same, get_or-set_other}
+use Rattle.std.proofs.lemmas.Bool.{cases_eq, le-leb}
+use Rattle.std.proofs.lemmas.List.{length-map, length-set, length_push, get_or-map, ext_get_or}
+use Rattle.std.proofs.lemmas.List.FromFn.{length-map-range_with_len, get_or-map-range_with_len}
+use Rattle.tact_base.specs.Covers.{no_cover, later_cover, least_of}
+use Rattle.tact_base.specs.declared.write.Cover.{Cover}
+use Rattle.run_model.specs.Histories.{last_moment, moment_at, sent_in, calls_in}
+use Rattle.run_model.specs.OwnWrites.{own}
+use Rattle.run_model.specs.Kept.{keeping, log_of, clock, cover_of, covers_of, known}
+use Rattle.run_model.specs.Order.{seen}
+use Rattle.run_model.specs.Runs.{IsPart}
+use Rattle.run_model.specs.declared.entry.Entry.{Entry}
+use Rattle.run_model.proofs.PartLemmas.{last_moment-push}
+use Rattle.run_model.proofs.Accepted.{log_of-same}
+use Rattle.run_model.proofs.Growth.{Grows}
+use Rattle.run_model.proofs.SoundViews.{cover_of-same, cover_of-other}
+use Rattle.replica_core.specs.States.{Core, log_at, cover_at, known_at, own_cover, covers_with_own, entered}
+use Rattle.replica_core.specs.Stands.{Stands, HasNoLoans}
+use Rattle.replica_core.proofs.CoreLemmas.{stamps_of}
+
+-- a told cover none of whose numbers is less is kept
+later_cover-told : (kept told : Cover) → kept.count ≤ told.count → kept.stamp ≤ told.stamp → kept.moment ≤ told.moment → later_cover kept told ≡ told
+later_cover-told kept told count stamp moment =
+    let c : nat_le kept.count told.count ≡ true = le-leb kept.count told.count count in
+    let s : nat_le kept.stamp told.stamp ≡ true = le-leb kept.stamp told.stamp stamp in
+    let m : nat_le kept.moment told.moment ≡ true = le-leb kept.moment told.moment moment in
+    rw (c, s, m) refl
+
+-- All of a replica but its own cover, its counts and its point stands for a part with one more entry; these stand for the part before.
+pub record IsOpen (part : List Entry) (entry : Entry) (core : Core) : Type 0 where
+  pub is_part : IsPart core.setup core.replica (part ++ entry ∷ [])
+  pub grows : Grows core.replica part (part ++ entry ∷ [])
+  pub loans : HasNoLoans (part ++ entry ∷ [])
+  pub logs : (origin : ℕ) → origin < core.setup.replicas → log_at core origin ≡ log_of core.replica (part ++ entry ∷ []) origin
+  pub covers : (origin : ℕ) → origin < core.setup.replicas → (origin ≡ core.replica → ⊥) → cover_at core origin ≡ (keeping (part ++ entry ∷ []) origin).cover
+  pub own : cover_at core core.replica ≡ cover_of core.replica part (last_moment part) core.replica
+  pub known : (peer origin : ℕ) → peer < core.setup.replicas → origin < core.setup.replicas → known_at core peer origin ≡ known (part ++ entry ∷ []) peer origin
+  pub seen : core.seen ≡ seen core.setup core.replica (part ++ entry ∷ [])
+  pub clock : core.clock ≡ clock (part ++ entry ∷ [])
+  pub calls : (client : ℕ) → client < 8 → get_or core.calls client 0 ≡ calls_in (part ++ entry ∷ []) client
+  pub sends : core.sends ≡ length (sent_in (part ++ entry ∷ []))
+  pub count : core.count ≡ length part
+  pub last : core.last ≡ last_moment part
+
+module _ (part : List Entry) (entry : Entry) (core : Core) (handed : ℕ) (open_ : IsOpen part entry core) (at : entry.moment ≡ moment_at part handed) (among : core.replica < core.setup.replicas) (sized : length core.covers ≡ core.setup.replicas) where
+  abbrev further : List Entry
+  further = part ++ entry ∷ []
+
+  abbrev last : ℕ
+  last = max handed core.last
+
+  last_is : last ≡ last_moment further
+  last_is = ap (max handed) open_.last ∙ sym at ∙ sym (last_moment-push part entry)
+
+  own_is : own_cover core last ≡ cover_of core.replica further (last_moment further) core.replica
+  own_is =
+      ap₂ (λ (n s : ℕ). let c : Cover = record { count = n; stamp = s; moment = last } in c) (ap length (open_.logs core.replica among ∙ log_of-same core.replica further)) open_.clock
+      ∙ ap (λ (m : ℕ). let c : Cover = record { count = length (own further); stamp = clock further; moment = m } in c) last_is
+      ∙ sym (cover_of-same core.replica further (last_moment further))
+
+  -- its own cover is later than the one before
+  own_later : later_cover (cover_at core core.replica) (own_cover core last) ≡ own_cover core last
+  own_later =
+      let before = open_.own ∙ cover_of-same core.replica part (last_moment part) in
+      let here = own_is ∙ cover_of-same core.replica further (last_moment further) in
+      let counts = open_.grows.have core.replica in
+      let size : length (log_of core.replica part core.replica) ≡ length (own part) = ap length (log_of-same core.replica part) in
+      let size' : length (log_of core.replica further core.replica) ≡ length (own further) = ap length (log_of-same core.replica further) in
+      later_cover-told (cover_at core core.replica) (own_cover core last)
+      (omega (arith, ap (λ (c : Cover). c.count) before, ap (λ (c : Cover). c.count) here, counts, size, size'))
+      (omega (arith, ap (λ (c : Cover). c.stamp) before, ap (λ (c : Cover). c.stamp) here, open_.grows.clock))
+      (omega (arith, ap (λ (c : Cover). c.moment) before, ap (λ (c : Cover). c.moment) here, open_.grows.last))
+
+  covers_are : (origin : ℕ) → origin < core.setup.replicas → get_or (covers_with_own core last) origin no_cover ≡ cover_of core.replica further (last_moment further) origin
+  covers_are origin within = ⊎_elim
+      (λ (same : origin ≡ core.replica).
+      let raised = later_cover (cover_at core core.replica) (own_cover core last) in
+      ap (λ o. get_or (set core.covers core.replica raised) o no_cover) same
+      ∙ get_or-set_same core.covers core.replica raised no_cover (omega (arith, among, sized))
+      ∙ own_later ∙ own_is ∙ ap (cover_of core.replica further (last_moment further)) (sym same))
+      (λ (other : origin ≡ core.replica → ⊥).
+      get_or-set_other core.covers core.replica origin (later_cover (cover_at core core.replica) (own_cover core last)) no_cover other
+      ∙ open_.covers origin within other ∙ sym (cover_of-other core.replica further (last_moment further) origin other))
+      (cases_eq origin core.replica)
+
+  -- a cover's stamp doesn't depend on the moment of its own
+  stamp_at : (one other origin : ℕ) → (cover_of core.replica further one origin).stamp ≡ (cover_of core.replica further other origin).stamp
+  stamp_at one other origin = ⊎_elim
+      (λ (same : origin ≡ core.replica). rw (same, cover_of-same core.replica further one, cover_of-same core.replica further other) refl)
+      (λ (differ : origin ≡ core.replica → ⊥). rw (cover_of-other core.replica further one origin differ, cover_of-other core.replica further other origin differ) refl)
+      (cases_eq origin core.replica)
+
+  stamps_are : stamps_of (covers_with_own core last) ≡ stamps_of (covers_of core.setup core.replica further 0)
+  stamps_are =
+      let stamp = λ (cover : Cover). cover.stamp in
+      let covers = covers_with_own core last in
+      let defined = covers_of core.setup core.replica further 0 in
+      let size : length covers ≡ core.setup.replicas = length-set core.covers core.replica (later_cover (cover_at core core.replica) (own_cover core last)) ∙ sized in
+      let size' : length defined ≡ core.setup.replicas = length-map-range_with_len (cover_of core.replica further 0) 0 core.setup.replicas in
+      let count : length (stamps_of covers) ≡ length covers = length-map covers stamp in
+      let count' : length (stamps_of defined) ≡ length defined = length-map defined stamp in
+      ext_get_or 0 (stamps_of covers) (stamps_of defined) (omega (arith, size, size', count, count'))
+      (λ i inside.
+      let within : i < core.setup.replicas = omega (arith, inside, count, size) in
+      get_or-map stamp covers i no_cover 0 (omega (arith, within, size))
+      ∙ ap stamp (covers_are i within) ∙ stamp_at (last_moment further) 0 i
+      ∙ ap stamp (sym (get_or-map-range_with_len (cover_of core.replica further 0) 0 core.setup.replicas i i no_cover within (omega arith)))
+      ∙ sym (get_or-map stamp defined i no_cover 0 (omega (arith, within, size'))))
+
+  pub Stands-entered : Stands further (entered core handed)
+  Stands-entered = record {
+    is_part = open_.is_part;
+    loans = open_.loans;
+    logs = open_.logs;
+    covers = covers_are;
+    known = open_.known;
+    seen = open_.seen;
+    point = ap least_of stamps_are;
+    clock = open_.clock;
+    calls = open_.calls;
+    sends = open_.sends;
+    count = omega (arith, open_.count, length_push part entry);
+    last = last_is;
+  }

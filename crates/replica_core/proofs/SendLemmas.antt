@@ -1,0 +1,193 @@
+-- The message that a replica sends.
+use Rattle.std.proofs.Common.{◌≡◌, ◌≢◌, ℕ, zero, suc, ◌+◌, ◌-◌, ◌<◌, ◌≤◌, ◌==◌, min, max, false, cond, List, [], ◌∷◌, ◌++◌, length, get_or, take, drop, map, sum_by, flat_map, All, refl, sym, ap, ap₂, ◌∙◌, subst, ⊎_elim, arith}
+use Rattle.std.specs.List.{range_with_len}
+use Rattle.std.proofs.lemmas.Bool.{cases_eq, eq-eqb, ne_eqb}
+use Rattle.std.proofs.lemmas.List.{length_push}
+use Rattle.std.proofs.lemmas.List.Elements.{All-head, All-tail}
+use Rattle.std.proofs.lemmas.List.Sums.{sum_by-cons}
+use Rattle.tact_base.proofs.ListLemmas.{All-range, flat_map_agree, get_or-map_range}
+use Rattle.tact_base.specs.declared.limits.TheConstants.{MESSAGE_WRITES, MOMENT_MAX, HISTORY_MAX}
+use Rattle.tact_base.specs.declared.write.Cover.{Cover}
+use Rattle.tact_base.specs.declared.write.Write.{Write}
+use Rattle.run_model.specs.Config.{Setup, IsSetup, loan_of}
+use Rattle.run_model.specs.Histories.{last_moment, moment_at, sent_in}
+use Rattle.run_model.specs.Kept.{log_of, have, cover_of, keeping}
+use Rattle.run_model.specs.Loans.{lent_by_act, returned_by_act, lent, returned}
+use Rattle.run_model.specs.Messages.{first_for, writes_for, message_of}
+use Rattle.run_model.specs.Ranges.{IsActInRange}
+use Rattle.run_model.specs.Runs.{IsActDue, IsDue}
+use Rattle.run_model.specs.declared.entry.Act.{Act}
+use Rattle.run_model.specs.declared.entry.Act.TheVariants as act
+use Rattle.run_model.specs.declared.entry.Entry.{Entry}
+use Rattle.run_model.specs.declared.entry.Message.{Message}
+use Rattle.run_model.proofs.Accepted.{log_of-same}
+use Rattle.run_model.proofs.ClockLemmas.{clock-push_none}
+use Rattle.run_model.proofs.Firsts.{map_agree, message_again}
+use Rattle.run_model.proofs.PartLemmas.{sent_by, length-filter_map, keeping-push_none, known-push_none, sent_in-push_some, calls_in-push}
+use Rattle.run_model.proofs.SoundViews.{cover_of-same, cover_of-other}
+use Rattle.run_promises.proofs.DueInRange.{due_message_in_range}
+use Rattle.replica_core.specs.States.{Core, log_at, cover_at, known_at, own_cover, origins_of, one_more, is_full, entered}
+use Rattle.replica_core.specs.Sending.{cover_told, first_told, writes_told, next_message, with_sent}
+use Rattle.replica_core.specs.Stands.{Stands, MovesNoLoan, HasNoLoans}
+use Rattle.replica_core.proofs.RangeLists.{flat_map_range_more}
+use Rattle.replica_core.proofs.Entering.{IsOpen, Stands-entered}
+use Rattle.replica_core.proofs.DueEntries.{entry_of, sound, moment_in, not_full, is_due, goes_on, has_grown, no_loans, quiet_log, quiet_seen}
+
+pub first_told-same : (core : Core) (to : ℕ) (given : List ℕ) (origin : ℕ) → origin ≡ to → first_told core to given origin ≡ length (log_at core origin)
+first_told-same core to given origin same =
+    ap (λ yes. cond yes (length (log_at core origin)) (min (length (log_at core origin)) (max (get_or given origin 0) (known_at core to origin)))) (eq-eqb origin to same)
+
+pub first_told-other : (core : Core) (to : ℕ) (given : List ℕ) (origin : ℕ) → (origin ≡ to → ⊥) → first_told core to given origin ≡ min (length (log_at core origin)) (max (get_or given origin 0) (known_at core to origin))
+first_told-other core to given origin other =
+    ap (λ yes. cond yes (length (log_at core origin)) (min (length (log_at core origin)) (max (get_or given origin 0) (known_at core to origin)))) (ne_eqb origin to other)
+
+-- the first few of two lists, and of one more origin
+take-append : {A : Type 0} (m : ℕ) (xs ys : List A) → take m (xs ++ ys) ≡ take m xs ++ take (m - length (take m xs)) ys
+take-append zero xs ys = refl
+take-append (suc m) [] ys = let e : suc m - 0 ≡ suc m = omega arith in ap (λ n. take n ys) (sym e)
+take-append (suc m) (x ∷ xs) ys =
+    let e : suc m - suc (length (take m xs)) ≡ m - length (take m xs) = omega arith in
+    ap (λ (rest : List _). x ∷ rest) (take-append m xs ys ∙ ap (λ n. take m xs ++ take n ys) (sym e))
+
+pub writes_more : (of_origin : ℕ → List Write) (n room : ℕ) (before after : List Write) → before ≡ take 64 (flat_map of_origin (range_with_len 0 n)) → room ≡ 64 - length before
+    → after ≡ before ++ take room (of_origin n) → after ≡ take 64 (flat_map of_origin (range_with_len 0 (n + 1)))
+writes_more of_origin n room before after was left grew =
+    grew
+    ∙ ap (λ (k : ℕ). before ++ take k (of_origin n)) left
+    ∙ ap (λ (ws : List Write). ws ++ take (64 - length ws) (of_origin n)) was
+    ∙ sym (take-append 64 (flat_map of_origin (range_with_len 0 n)) (of_origin n))
+    ∙ ap (take 64) (sym (flat_map_range_more of_origin n))
+
+-- two functions that agree below a bound
+map_range_agree : {A : Type 0} (f g : ℕ → A) (len : ℕ) → ((n : ℕ) → n < len → f n ≡ g n) → map f (range_with_len 0 len) ≡ map g (range_with_len 0 len)
+map_range_agree f g len agree = map_agree f g (range_with_len 0 len) (All-range (λ n. f n ≡ g n) 0 len (λ n low high. agree n (omega (arith, high))))
+
+-- a part without loans lent and gave back nothing
+lends_nothing : (done : Act) (holder conit : ℕ) → MovesNoLoan done → lent_by_act holder conit done ≡ 0
+lends_nothing (act.Lend to at amount) holder conit none = absurd none
+lends_nothing other holder conit none = refl
+
+returns_nothing : (done : Act) (owner conit : ℕ) → MovesNoLoan done → returned_by_act owner conit done ≡ 0
+returns_nothing (act.Back to at amount) owner conit none = absurd none
+returns_nothing other owner conit none = refl
+
+sum_of_none : {A : Type 0} (f : A → ℕ) (xs : List A) → All (λ x. f x ≡ 0) xs → sum_by f xs ≡ 0
+sum_of_none f [] all = refl
+sum_of_none f (x ∷ xs) all =
+    omega (arith, sum_by-cons f x xs, All-head (λ x. f x ≡ 0) x xs all, sum_of_none f xs (All-tail (λ x. f x ≡ 0) x xs all))
+
+lent_opening : (setup : Setup) (replica : ℕ) (part : List Entry) (holder conit : ℕ) → HasNoLoans part → lent setup replica part holder conit ≡ loan_of setup replica conit holder
+lent_opening setup replica part holder conit none =
+    omega (arith, sum_of_none (λ (entry : Entry). lent_by_act holder conit entry.act) part (λ k d within. lends_nothing (get_or part k d).act holder conit (none k d within)))
+
+returned_nothing : (part : List Entry) (owner conit : ℕ) → HasNoLoans part → returned part owner conit ≡ 0
+returned_nothing part owner conit none =
+    sum_of_none (λ (entry : Entry). returned_by_act owner conit entry.act) part (λ k d within. returns_nothing (get_or part k d).act owner conit (none k d within))
+
+-- messages of the same parts
+abbrev pub told_by : ℕ → ℕ → ℕ → List ℕ → List Cover → List ℕ → List Write → List ℕ → List ℕ → Message
+told_by from to number haves covers firsts writes lent returned = record { from = from; to = to; number = number; haves = haves; covers = covers; firsts = firsts; writes = writes; lent = lent; returned = returned }
+
+pub same_message : (from from' to number number' : ℕ) (haves haves' : List ℕ) (covers covers' : List Cover) (firsts firsts' : List ℕ) (writes writes' : List Write) (lent lent' returned returned' : List ℕ)
+    → from ≡ from' → number ≡ number' → haves ≡ haves' → covers ≡ covers' → firsts ≡ firsts' → writes ≡ writes' → lent ≡ lent' → returned ≡ returned'
+    → told_by from to number haves covers firsts writes lent returned ≡ told_by from' to number' haves' covers' firsts' writes' lent' returned'
+same_message from from' to number number' haves haves' covers covers' firsts firsts' writes writes' lent lent' returned returned' a b c d e f g h =
+    ap₂ (λ x y. told_by x to y haves covers firsts writes lent returned) a b
+    ∙ ap₂ (λ x y. told_by from' to number' x y firsts writes lent returned) c d
+    ∙ ap₂ (λ x y. told_by from' to number' haves' covers' x y lent returned) e f
+    ∙ ap₂ (λ x y. told_by from' to number' haves' covers' firsts' writes' x y) g h
+
+-- where it stands for a part, it sends the message that is due after it
+module _ (part : List Entry) (core : Core) (stands : Stands part core) (among : core.replica < core.setup.replicas) where
+  stands_have : (origin : ℕ) → origin < core.setup.replicas → length (log_at core origin) ≡ have core.replica part origin
+  stands_have origin within = ap length (stands.logs origin within)
+
+  stands_cover : (moment origin : ℕ) → origin < core.setup.replicas → cover_told core moment origin ≡ cover_of core.replica part moment origin
+  stands_cover moment origin within = ⊎_elim
+      (λ (same : origin ≡ core.replica).
+      ap (λ yes. cond yes (own_cover core moment) (cover_at core origin)) (eq-eqb origin core.replica same)
+      ∙ ap₂ (λ (n k : ℕ). let c : Cover = record { count = n; stamp = k; moment = moment } in c) (ap length (stands.logs core.replica among ∙ log_of-same core.replica part)) stands.clock
+      ∙ sym (cover_of-same core.replica part moment) ∙ ap (cover_of core.replica part moment) (sym same))
+      (λ (other : origin ≡ core.replica → ⊥).
+      ap (λ yes. cond yes (own_cover core moment) (cover_at core origin)) (ne_eqb origin core.replica other)
+      ∙ stands.covers origin within ∙ cover_of-other core.replica part (last_moment part) origin other ∙ sym (cover_of-other core.replica part moment origin other))
+      (cases_eq origin core.replica)
+
+  stands_first : (to : ℕ) (given : List ℕ) → to < core.setup.replicas → (origin : ℕ) → origin < core.setup.replicas → first_told core to given origin ≡ first_for core.replica part to given origin
+  stands_first to given to_in origin within =
+      ap (λ (n : ℕ). cond (origin == to) n (min n (max (get_or given origin 0) (known_at core to origin)))) (stands_have origin within)
+      ∙ ap (λ (n : ℕ). cond (origin == to) (have core.replica part origin) (min (have core.replica part origin) (max (get_or given origin 0) n))) (stands.known to origin to_in within)
+
+  abbrev firsts : ℕ → List ℕ → List ℕ
+  firsts to given = map (first_told core to given) (origins_of core)
+
+  stands_writes : (to : ℕ) (given : List ℕ) → to < core.setup.replicas → writes_told core (firsts to given) ≡ writes_for core.setup core.replica part to given
+  stands_writes to given to_in =
+      ap (take MESSAGE_WRITES)
+      (flat_map_agree (λ origin. drop (get_or (firsts to given) origin 0) (log_at core origin)) (λ origin. drop (first_for core.replica part to given origin) (log_of core.replica part origin)) (origins_of core)
+      (All-range (λ origin. drop (get_or (firsts to given) origin 0) (log_at core origin) ≡ drop (first_for core.replica part to given origin) (log_of core.replica part origin)) 0 core.setup.replicas
+      (λ origin low high.
+      let within : origin < core.setup.replicas = omega (arith, high) in
+      ap₂ drop (get_or-map_range (first_told core to given) core.setup.replicas origin 0 within ∙ stands_first to given to_in origin within) (stands.logs origin within))))
+
+  pub next_due : (moment to : ℕ) (given : List ℕ) → to < core.setup.replicas → next_message core moment to given ≡ message_of core.setup core.replica part moment to given
+  next_due moment to given to_in = same_message core.replica core.replica to _ _ _ _ _ _ _ _ _ _ _ _ _ _
+      refl stands.sends
+      (map_range_agree (λ origin. length (log_at core origin)) (have core.replica part) core.setup.replicas stands_have)
+      (map_range_agree (cover_told core moment) (cover_of core.replica part moment) core.setup.replicas (stands_cover moment))
+      (map_range_agree (first_told core to given) (first_for core.replica part to given) core.setup.replicas (stands_first to given to_in))
+      (stands_writes to given to_in)
+      (map_range_agree (λ conit. loan_of core.setup core.replica conit to) (lent core.setup core.replica part to) core.setup.conits
+      (λ conit within. sym (lent_opening core.setup core.replica part to conit stands.loans)))
+      (map_range_agree (λ conit. 0) (returned part to) core.setup.conits (λ conit within. sym (returned_nothing part to conit stands.loans)))
+
+-- It stands for its part with the message sent.
+module _ (part : List Entry) (core : Core) (stands : Stands part core) (good : IsSetup core.setup) (free : is_full core ≡ false) (among : core.replica < core.setup.replicas) (covers_sized : length core.covers ≡ core.setup.replicas)
+    (handed : ℕ) (handed_in : handed ≤ MOMENT_MAX) (to : ℕ) (to_in : to < core.setup.replicas) (other : to ≢ core.replica) (given : List ℕ) where
+  abbrev message : Message
+  message = next_message core (max handed core.last) to given
+
+  pub sent_due : message ≡ message_of core.setup core.replica part (moment_at part handed) to given
+  sent_due =
+      next_due part core stands among (max handed core.last) to given to_in
+      ∙ ap (λ (m : ℕ). message_of core.setup core.replica part m to given) (ap (max handed) stands.last)
+
+  abbrev entry : Entry
+  entry = entry_of core.replica part handed (act.Send message)
+
+  due : IsDue core.setup part entry
+  due =
+      let at = moment_at part handed in
+      let whole = message_of core.setup core.replica part at to given in
+      let room : length part < HISTORY_MAX = omega (arith, stands.count, (not_full core free).0) in
+      let known = sound part core stands free among handed handed_in (act.Send message) in
+      let moment_ok : at ≤ MOMENT_MAX = moment_in part core stands free among handed handed_in (act.Send message) in
+      is_due part core stands free among handed handed_in (act.Send message)
+      (subst (λ (m : Message). IsActInRange core.setup core.replica (act.Send m)) (sym sent_due)
+      (due_message_in_range core.setup good core.replica part known among room at moment_ok to to_in (λ same. other (sym same)) given, refl))
+      (subst (λ (m : Message). IsActDue core.setup core.replica part at (act.Send m)) (sym sent_due)
+      (message_again core.setup core.replica part to given at))
+
+  pub Stands-sent : Stands (part ++ entry ∷ []) (entered (with_sent core) handed)
+  Stands-sent =
+      let sends = act.Send message in
+      let more : sent_in (part ++ entry ∷ []) ≡ sent_in part ++ message ∷ [] = sent_in-push_some part entry message refl in
+      let few : length (sent_in part) ≤ length part = length-filter_map sent_by part in
+      let room = not_full core free in
+      let open_ : IsOpen part entry (with_sent core) = record {
+        is_part = goes_on part core stands free among handed handed_in sends due tt;
+        grows = has_grown part core stands free among handed handed_in sends due;
+        loans = no_loans part core stands free among handed handed_in sends tt;
+        logs = λ origin within. stands.logs origin within ∙ sym (quiet_log core.setup core.replica part entry refl refl origin);
+        covers = λ origin within other.
+            stands.covers origin within ∙ cover_of-other core.replica part _ origin other ∙ sym (ap (λ k. k.cover) (keeping-push_none part entry origin refl));
+        own = stands.covers core.replica among;
+        known = λ peer origin peer_in origin_in. stands.known peer origin peer_in origin_in ∙ sym (known-push_none part entry peer origin refl);
+        seen = stands.seen ∙ sym (quiet_seen core.setup core.replica part entry refl refl);
+        clock = stands.clock ∙ sym (clock-push_none part entry refl refl);
+        calls = λ client within. stands.calls client within ∙ sym (calls_in-push part entry client ∙ omega arith);
+        sends = omega (arith, stands.sends, ap length more, length_push (sent_in part) message, few, stands.count, room.0);
+        count = stands.count;
+        last = stands.last;
+      } in
+      Stands-entered part entry (with_sent core) handed open_ refl among covers_sized

@@ -1,0 +1,21 @@
+use Rattle.std.proofs.Common.{◌≡◌, ℕ, List, ◌++◌, ◌-◌, get_or, take, drop, ap, ◌∙◌, length, arith}
+use Rattle.std.proofs.lemmas.List.{length-take}
+use Rattle.std.specs.List.{range_with_len, flat_map}
+use Rattle.tact_base.specs.declared.write.Write.{Write}
+use Rattle.replica_core.specs.States.{log_at}
+use Rattle.replica_core.proofs.SendLemmas.{writes_more}
+use Rattle.replica_core.proofs.replica.Replica.writes.Goals as goal
+
+pub overflow_sub-room : goal.overflow_sub-room
+overflow_sub-room c =
+    let told : List Write = flat_map (λ origin. drop (get_or c.args.firsts.now origin 0) (log_at c.args.self.now.core origin)) (range_with_len 0 c.loop-origin.origin) in
+    let is : c.loop-origin.writes ≡ take 64 told = c.loop-origin.invariant in
+    omega (arith, c.len-room.ensures, ap length is, length-take 64 told)
+
+pub loop-origin-preserved : goal.loop-origin-preserved
+loop-origin-preserved c =
+    let of_origin = λ (origin : ℕ). drop (get_or c.args.firsts.now origin 0) (log_at c.args.self.now.core origin) in
+    let room : ℕ = 64 - c.len-room.result in
+    let left : room ≡ 64 - length c.loop-origin.writes = ap (λ (n : ℕ). 64 - n) c.len-room.ensures in
+    writes_more of_origin c.loop-origin.origin room c.loop-origin.writes c.append_clones.new.self c.loop-origin.invariant left
+    (c.in_ok-append_clones.ensures.equal_if_clones_are (λ x y same. same) ∙ ap (λ (ws : List Write). c.loop-origin.writes ++ ws) c.stretch.ensures)

@@ -1,0 +1,16 @@
+//! A replica: what it has of each origin, in order and committed, what it knows of its peers, and the
+//! entries that it makes.
+#![tactic(auto)]
+
+mod admitting;
+mod fault;
+mod ranges;
+mod replica;
+mod sending;
+#[cfg(test)]
+mod tests;
+mod writing;
+
+pub use fault::CoreFault;
+pub use ranges::is_message_in_range;
+pub use replica::Replica;

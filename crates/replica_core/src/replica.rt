@@ -1,0 +1,241 @@
+//! The state of a replica, and what can be read of it.
+ghost use Rattle.std.specs.Prelude.{◌≡◌, ◌↔◌, ℕ, ◌*◌, ◌<◌, ◌≤◌, [], suc, length, map, replicate, slice_index, IfOk, OnOk, OnErr, IsOk, IfErr, IsTrue, true, false, max};
+ghost use Rattle.tact_base.specs.Covers.{least_stamp};
+ghost use Rattle.tact_base.specs.declared.limits.TheConstants.{HISTORY_MAX, MOMENT_MAX};
+ghost use Rattle.tact_base.specs.WriteOrder.{committed_to, tentative_past};
+ghost use Rattle.replica_core.specs.States.{HasPlaces, log_at, known_at, cover_at, entered, is_full};
+ghost use Rattle.replica_core.specs.Stands.{Stands, GoesOn, IsSameReplica};
+ghost use Rattle.run_model.specs.declared.entry.Act.TheVariants.{Restart};
+
+use crate::CoreFault;
+use commit_order::Ordered;
+use run_model::Config;
+use std::alloc::Global;
+use std::marker::Model;
+use tact_base::{Cover, HISTORY_MAX, NoMemory, STAMP_MAX, Write};
+use version_vector::Vector;
+use write_log::Logs;
+
+/// One replica of a setup. Contracts see what it keeps, as plain lists and numbers, and for how many more
+/// writes it has room; `Stands` says when that is what the definitions say of a part of a history.
+#[derive(Drop)]
+pub struct Replica {
+    pub(crate) config: Config,
+    pub(crate) replica: u32,
+    pub(crate) logs: Logs,
+    pub(crate) vector: Vector,
+    pub(crate) ordered: Ordered,
+    pub(crate) known: Vec<u64>,
+    pub(crate) clock: u64,
+    pub(crate) calls: [u64; 8],
+    pub(crate) sends: u64,
+    pub(crate) count: u64,
+    pub(crate) last: u64,
+    pub(crate) spare: u64,
+}
+
+impl Model for Replica {
+    ghost use Rattle.std.specs.Prelude.{◌≤◌};
+    ghost use Rattle.write_log.specs.Logs.{room_of};
+    ghost use Rattle.replica_core.specs.States.{ReplicaState, HasPlaces, IsKeptInOrder};
+
+    ghost Value = { ReplicaState };
+
+    ghost view = { λ r. record {
+      core = record {
+        setup = r.config;
+        replica = r.replica;
+        logs = r.logs.logs;
+        covers = r.vector;
+        known = r.known.items;
+        seen = r.ordered.writes;
+        point = r.ordered.point;
+        clock = r.clock;
+        calls = r.calls;
+        sends = r.sends;
+        count = r.count;
+        last = r.last;
+      };
+      spare = r.spare;
+    } };
+
+    ghost invariant = { λ r. HasPlaces r.config.replicas r.replica r.logs.logs r.vector r.known.items r.calls
+        × (r.spare ≤ room_of r.logs r.replica) × (r.spare ≤ r.ordered.room)
+        × IsKeptInOrder r.config.replicas r.replica r.logs.logs r.vector r.ordered.writes r.ordered.point r.clock };
+}
+
+impl Replica {
+    /// The replica of this number of a setup, which has done nothing. It keeps its writes in memory of
+    /// `alloc`.
+    pub fn new(alloc: Global, config: &Config, replica: u32) -> Result<Replica, NoMemory>
+        requires { replica < config.now.replicas }
+        ensures setup { IfOk result (λ made. (made.core.setup ≡ config.now) × (made.core.replica ≡ replica)) }
+        ensures stands { IfOk result (λ made. Stands [] made.core) }
+    {
+        let replicas = config.replicas();
+        Ok(Replica {
+            config: config.copy(alloc)?,
+            replica,
+            logs: Logs::new(alloc, replicas)?,
+            vector: Vector::new(alloc, replicas)?,
+            ordered: Ordered::new(alloc),
+            known: vec![in alloc; 0; (replicas * replicas) as usize]?,
+            clock: 0,
+            calls: [0; 8],
+            sends: 0,
+            count: 0,
+            last: 0,
+            spare: 0,
+        })
+    }
+
+    /// Makes room for at least `k` more own writes, without memory where there is so much. `NoMemory`
+    /// leaves everything as it was.
+    pub fn reserve(&mut self, k: u64) -> Result<(), NoMemory>
+        ensures core { self.new.core ≡ self.old.core }
+        ensures room { OnOk result (k ≤ self.new.spare) }
+        ensures kept { self.old.spare ≤ self.new.spare }
+        ensures enough { k ≤ self.old.spare → IsOk result }
+        ensures err { OnErr result (self.new ≡ self.old) }
+    {
+        if k > self.spare {
+            self.logs.reserve(self.replica, k)?;
+            self.ordered.reserve(k)?;
+            self.spare = k;
+        }
+        Ok(())
+    }
+
+    /// How many writes of an origin it has. Takes no memory.
+    pub fn have(&self, i: u32) -> u64
+        requires { i < self.now.core.setup.replicas }
+        ensures { result ≡ length (log_at self.now.core i) }
+    {
+        self.logs.count(i)
+    }
+
+    /// How many writes of an origin a peer is known to have. Takes no memory.
+    pub fn known(&self, k: u32, i: u32) -> u64
+        requires peer { k < self.now.core.setup.replicas }
+        requires origin { i < self.now.core.setup.replicas }
+        ensures { result ≡ known_at self.now.core k i }
+    {
+        self.known[(k * self.config.replicas() + i) as usize]
+    }
+
+    /// The cover of an origin: of itself its own state, at the moment of its last entry. Takes no memory.
+    pub fn cover(&self, i: u32) -> Cover
+        requires { i < self.now.core.setup.replicas }
+        ensures { result ≡ cover_at self.now.core i }
+    {
+        self.vector.cover(i)
+    }
+
+    /// Its clock. Takes no memory.
+    pub fn clock(&self) -> u64
+        ensures { result ≡ self.now.core.clock }
+    {
+        self.clock
+    }
+
+    /// The stamp up to which writes are committed: the least over the covers of all replicas. Takes no
+    /// memory.
+    pub fn point(&self) -> u64
+        ensures { result ≡ least_stamp self.now.core.covers }
+    {
+        self.vector.least_stamp().1
+    }
+
+    /// The committed writes, in order. Takes no memory.
+    pub fn committed(&self) -> &[Write]
+        ensures { result.now ≡ committed_to self.now.core.point self.now.core.seen }
+    {
+        self.ordered.committed()
+    }
+
+    /// The other writes that it has, in order. Takes no memory.
+    pub fn tentative(&self) -> &[Write]
+        ensures { result.now ≡ tentative_past self.now.core.point self.now.core.seen }
+    {
+        self.ordered.tentative()
+    }
+
+    /// How many entries it made. Takes no memory.
+    pub fn count(&self) -> u64
+        ensures { result ≡ self.now.core.count }
+    {
+        self.count
+    }
+
+    /// How many calls of a client it answered. Takes no memory.
+    pub fn calls(&self, client: u32) -> u64
+        requires { client < 8 }
+        ensures { result ≡ slice_index self.now.core.calls client }
+    {
+        self.calls[client as usize]
+    }
+
+    /// The moment of its last entry, 0 at first. Takes no memory.
+    pub fn last(&self) -> u64
+        ensures { result ≡ self.now.core.last }
+    {
+        self.last
+    }
+
+    /// For how many more own writes it has room. Takes no memory.
+    pub fn spare(&self) -> u64
+        ensures { result ≡ self.now.spare }
+    {
+        self.spare
+    }
+}
+
+impl Replica {
+    /// Begins anew, which changes nothing but the count of entries and the last moment. `Full` comes exactly
+    /// where 20,000 entries were made or the clock stands at 2^40. Takes no memory.
+    pub fn restart(&mut self, moment: u64) -> Result<(), CoreFault>
+        requires { moment ≤ MOMENT_MAX }
+        ensures goes_on { OnOk result (GoesOn self.old.core self.new.core moment Restart) }
+        ensures same { IsSameReplica self.old.core self.new.core }
+        ensures spare { self.new.spare ≡ self.old.spare }
+        ensures not_full { OnOk result (is_full self.old.core ≡ false) }
+        ensures full { IfErr result (λ fault. (is_full self.old.core ≡ true) × (fault ≡ CoreFault.Full self.old.core.count self.old.core.clock)) }
+        ensures err { OnErr result (self.new ≡ self.old) }
+    {
+        self.may_enter()?;
+        self.enter(moment);
+        Ok(())
+    }
+
+    // Whether an entry may follow.
+    pub(crate) fn may_enter(&self) -> Result<(), CoreFault>
+        ensures ok { OnOk result (is_full self.now.core ≡ false) }
+        ensures err { OnErr result (is_full self.now.core ≡ true) }
+        ensures full { IfErr result (λ fault. fault ≡ CoreFault.Full self.now.core.count self.now.core.clock) }
+        ensures places { HasPlaces self.now.core.setup.replicas self.now.core.replica self.now.core.logs self.now.core.covers self.now.core.known self.now.core.calls }
+    {
+        if self.count >= HISTORY_MAX || self.clock >= STAMP_MAX {
+            return Err(CoreFault::Full {
+                count: self.count,
+                clock: self.clock,
+            });
+        }
+        Ok(())
+    }
+
+    // Counts an entry at the moment that follows the handed one, and commits what can be.
+    pub(crate) fn enter(&mut self, moment: u64)
+        requires { self.old.core.count < HISTORY_MAX }
+        ensures { self.new ≡ record self.old { core = entered self.old.core moment } }
+    {
+        self.count += 1;
+        self.last = moment.max(self.last);
+        let own = Cover {
+            count: self.logs.count(self.replica),
+            stamp: self.clock,
+            moment: self.last,
+        };
+        self.vector.raise(self.replica, own);
+        self.ordered.commit_to(self.vector.least_stamp().1);
+    }
+}
