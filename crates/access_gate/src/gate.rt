@@ -1,5 +1,5 @@
 ghost use Rattle.std.specs.Prelude.{◌≡◌, ◌<◌, ◌≤◌, All, length, sum};
-ghost use Rattle.tact_base.specs.Admission.{heaviest};
+ghost use Rattle.tact_base.specs.Admission.{first_over_part};
 ghost use Rattle.tact_base.specs.declared.limits.TheConstants.{REPLICAS_MIN, REPLICAS_MAX};
 ghost use Rattle.access_gate.specs.Verdicts.{AreOuts, admission, refusal};
 
@@ -74,7 +74,7 @@ fn refusal(replicas: u32, need: &Need, facts: &Facts, moment: u64) -> Option<Ver
     let outs = facts.outs.items();
     let total = outs.iter().sum();
     if total > need.num {
-        let holder = heaviest(replicas, outs, need.num);
+        let holder = first_over_part(replicas, outs, need.num);
         return Some(Verdict::WaitLent {
             conit: need.conit,
             holder: holder as u32,
@@ -100,12 +100,12 @@ fn refusal(replicas: u32, need: &Need, facts: &Facts, moment: u64) -> Option<Ver
 }
 
 // The least holder that has more than its part of `num`: of outs that pass it together, one does.
-fn heaviest(replicas: u32, outs: &[u64], num: u64) -> usize
+fn first_over_part(replicas: u32, outs: &[u64], num: u64) -> usize
     requires some { REPLICAS_MIN ≤ replicas }
     requires few { replicas ≤ REPLICAS_MAX }
     requires outs { AreOuts replicas outs.now }
     requires passed { num < sum outs.now }
-    ensures holder { result ≡ heaviest outs.now num }
+    ensures holder { result ≡ first_over_part outs.now num }
     ensures within { result < length outs.now }
 {
     let parts = u64::from(replicas - 1);

@@ -3,9 +3,8 @@ use Rattle.std.proofs.Common.{◌≡◌, ◌≢◌, ℕ, ◌<◌, ◌==◌, ◌�
 use Rattle.std.specs.List.{range_with_len}
 use Rattle.std.proofs.lemmas.List.FromFn.{length-map-range_with_len, fill_by_all}
 use Rattle.tact_base.proofs.ListLemmas.{get_or-map_range}
-use Rattle.run_model.specs.Config.{Setup}
-use Rattle.run_model.specs.Histories.{replicas_of}
-use Rattle.run_model.specs.Kept.{have, known}
+use Rattle.tact_base.specs.Setup.{Setup, replicas_of}
+use Rattle.run_model.specs.Taking.{have, known}
 use Rattle.run_model.specs.Messages.{first_for}
 use Rattle.run_model.specs.ScriptRuns.{zeros}
 use Rattle.run_model.specs.declared.entry.Entry.{Entry}

@@ -1,9 +1,8 @@
 -- What a replica sends to a peer, and whether it has to, by two lists: by origin, how many of its writes the replica has, and how many the peer is known to have.
 use Rattle.std.specs.Prelude.{◌≡◌, ◌≢◌, ℕ, ◌<◌, ◌==◌, min, if◌then◌else◌, List, length, map, slice_index}
 use Rattle.std.specs.List.{range_with_len}
-use Rattle.run_model.specs.Config.{Setup}
-use Rattle.run_model.specs.Histories.{replicas_of}
-use Rattle.run_model.specs.Kept.{have, known}
+use Rattle.tact_base.specs.Setup.{Setup, replicas_of}
+use Rattle.run_model.specs.Taking.{have, known}
 use Rattle.run_model.specs.declared.entry.Entry.{Entry}
 
 -- by origin, where its writes begin in a message to a peer: past those that the peer is known to have; of the peer's own, past all

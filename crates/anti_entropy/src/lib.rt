@@ -3,8 +3,7 @@
 #![tactic(auto)]
 
 ghost use Rattle.std.specs.Prelude.{◌≡◌, ◌≢◌, ◌<◌, ◌↔◌, ◌⊎◌, ℕ, List, [], IsTrue, IfOk, SomeIndex, length, map, slice_index};
-ghost use Rattle.run_model.specs.Config.{Setup};
-ghost use Rattle.run_model.specs.Histories.{replicas_of};
+ghost use Rattle.tact_base.specs.Setup.{Setup, replicas_of};
 ghost use Rattle.run_model.specs.Messages.{first_for};
 ghost use Rattle.run_model.specs.ScriptRuns.{zeros};
 ghost use Rattle.run_model.specs.declared.entry.Entry.{Entry};

@@ -10,8 +10,9 @@ use Rattle.tact_base.specs.declared.conit_list.Weight.{Weight}
 use Rattle.tact_base.specs.declared.limits.TheConstants.{MOMENT_MAX}
 use Rattle.tact_base.specs.declared.write.Op.{Op}
 use Rattle.tact_base.specs.declared.write.Write.{Write}
-use Rattle.run_model.specs.Histories.{moment_at, is_call_of, calls_in, replicas_of}
-use Rattle.run_model.specs.Kept.{Keeping, log_of, have}
+use Rattle.run_model.specs.Histories.{moment_at, is_call_of, calls_in}
+use Rattle.tact_base.specs.Setup.{replicas_of}
+use Rattle.run_model.specs.Taking.{OriginState, log_of, have}
 use Rattle.run_model.specs.Ranges.{IsOpInRange, IsWeightInRange, AreWeightsInRange}
 use Rattle.run_model.specs.Order.{seen}
 use Rattle.run_model.specs.Replies.{reply_of}
@@ -21,7 +22,7 @@ use Rattle.run_model.specs.declared.call.Reply.TheVariants as reply
 use Rattle.run_model.specs.declared.entry.Act.{Act}
 use Rattle.run_model.specs.declared.entry.Act.TheVariants as act
 use Rattle.run_model.specs.declared.entry.Entry.{Entry}
-use Rattle.run_model.proofs.PartLemmas.{accepted_in, own-push_some, keeping-push_none, known-push_none, sent_in-push_none, calls_in-push}
+use Rattle.run_model.proofs.PartLemmas.{accepted_in, own-push_some, origin_state-push_none, known-push_none, sent_in-push_none, calls_in-push}
 use Rattle.run_model.proofs.Accepted.{log_of-same, log_of-other}
 use Rattle.run_model.proofs.ClockLemmas.{clock-accepted}
 use Rattle.run_model.proofs.SoundViews.{cover_of-other}
@@ -80,7 +81,7 @@ module _ (part : List Entry) (core : Core) (stands : Stands part core) (free : i
       (λ (other : origin ≡ core.replica → ⊥).
       get_or-set_other core.logs core.replica origin (log_at core core.replica ++ write ∷ []) [] other
       ∙ stands.logs origin within ∙ log_of-other core.replica part origin other
-      ∙ sym (ap (λ (k : Keeping). k.log) (keeping-push_none part entry origin refl)) ∙ sym (log_of-other core.replica (part ++ entry ∷ []) origin other))
+      ∙ sym (ap (λ (k : OriginState). k.log) (origin_state-push_none part entry origin refl)) ∙ sym (log_of-other core.replica (part ++ entry ∷ []) origin other))
       (cases_eq origin core.replica)
 
   -- no write that it has is this one
@@ -97,7 +98,7 @@ module _ (part : List Entry) (core : Core) (stands : Stands part core) (free : i
       ap (with_write write) stands.seen
       ∙ sym (in_order-one_more (log_of core.replica part) (log_of core.replica (part ++ entry ∷ [])) core.replica write core.setup.replicas among
       (log_of-same core.replica (part ++ entry ∷ []) ∙ own-push_some part entry write accepts ∙ ap (λ log. log ++ write ∷ []) (sym (log_of-same core.replica part)))
-      (λ origin other. log_of-other core.replica (part ++ entry ∷ []) origin other ∙ ap (λ (k : Keeping). k.log) (keeping-push_none part entry origin refl) ∙ sym (log_of-other core.replica part origin other))
+      (λ origin other. log_of-other core.replica (part ++ entry ∷ []) origin other ∙ ap (λ (k : OriginState). k.log) (origin_state-push_none part entry origin refl) ∙ sym (log_of-other core.replica part origin other))
       apart)
 
   calls_are : (one : ℕ) → one < 8 → get_or after.calls one 0 ≡ calls_in (part ++ entry ∷ []) one
@@ -128,7 +129,7 @@ module _ (part : List Entry) (core : Core) (stands : Stands part core) (free : i
         loans = no_loans part core stands free among handed handed_in asks tt;
         logs = logs_are;
         covers = λ origin within other.
-            stands.covers origin within ∙ cover_of-other core.replica part _ origin other ∙ sym (ap (λ (k : Keeping). k.cover) (keeping-push_none part entry origin refl));
+            stands.covers origin within ∙ cover_of-other core.replica part _ origin other ∙ sym (ap (λ (k : OriginState). k.cover) (origin_state-push_none part entry origin refl));
         own = stands.covers core.replica among;
         known = λ peer origin peer_in origin_in. stands.known peer origin peer_in origin_in ∙ sym (known-push_none part entry peer origin refl);
         seen = seen_is;

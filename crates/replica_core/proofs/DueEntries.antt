@@ -6,20 +6,21 @@ use Rattle.tact_base.proofs.ListLemmas.{flat_map_agree}
 use Rattle.tact_base.specs.WriteOrder.{in_order}
 use Rattle.tact_base.specs.declared.limits.TheConstants.{HISTORY_MAX, STAMP_MAX, MOMENT_MAX}
 use Rattle.tact_base.specs.declared.write.Write.{Write}
-use Rattle.run_model.specs.Config.{Setup}
-use Rattle.run_model.specs.Histories.{moment_at, replicas_of}
-use Rattle.run_model.specs.Kept.{Keeping, log_of}
+use Rattle.tact_base.specs.Setup.{Setup, replicas_of}
+use Rattle.run_model.specs.Histories.{moment_at}
+use Rattle.run_model.specs.Taking.{OriginState, log_of}
 use Rattle.run_model.specs.Order.{seen}
 use Rattle.run_model.specs.Ranges.{IsActInRange}
 use Rattle.run_model.specs.Runs.{IsActDue, IsDue, FitsIfTaken, MayFollow, IsPart}
 use Rattle.run_model.specs.declared.entry.Act.{Act}
 use Rattle.run_model.specs.declared.entry.Entry.{Entry}
 use Rattle.run_model.proofs.PrefixLemmas.{EachAfter-push}
-use Rattle.run_model.proofs.PartLemmas.{accepted_in, taken_by, own-push_none, keeping-push_none}
+use Rattle.run_model.proofs.PartLemmas.{accepted_in, taken_by, own-push_none, origin_state-push_none}
 use Rattle.run_model.proofs.Growth.{Grows, Grows-push}
 use Rattle.run_promises.proofs.PartSound.{PartSound, PartSound-part}
 use Rattle.replica_core.specs.States.{Core, is_full}
-use Rattle.replica_core.specs.Stands.{Stands, MovesNoLoan, HasNoLoans}
+use Rattle.run_model.specs.Loans.{MovesNoLoan, HasNoLoans}
+use Rattle.replica_core.specs.Stands.{Stands}
 
 -- a replica that isn't full
 pub not_full : (core : Core) → is_full core ≡ false → (core.count < HISTORY_MAX) × (core.clock < STAMP_MAX)
@@ -68,7 +69,7 @@ module _ (part : List Entry) (core : Core) (stands : Stands part core) (free : i
 -- What stays where an entry accepts and takes nothing.
 module _ (setup : Setup) (replica : ℕ) (part : List Entry) (entry : Entry) (accepts : accepted_in entry ≡ None) (takes : taken_by entry ≡ None) where
   pub quiet_log : (origin : ℕ) → log_of replica (part ++ entry ∷ []) origin ≡ log_of replica part origin
-  quiet_log origin = ap₂ (λ (mine : List Write) (kept : Keeping). cond (origin == replica) mine kept.log) (own-push_none part entry accepts) (keeping-push_none part entry origin takes)
+  quiet_log origin = ap₂ (λ (own_log : List Write) (kept : OriginState). cond (origin == replica) own_log kept.log) (own-push_none part entry accepts) (origin_state-push_none part entry origin takes)
 
   pub quiet_seen : seen setup replica (part ++ entry ∷ []) ≡ seen setup replica part
   quiet_seen =

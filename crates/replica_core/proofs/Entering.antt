@@ -7,7 +7,7 @@ use Rattle.tact_base.specs.Covers.{no_cover, later_cover, least_of}
 use Rattle.tact_base.specs.declared.write.Cover.{Cover}
 use Rattle.run_model.specs.Histories.{last_moment, moment_at, sent_in, calls_in}
 use Rattle.run_model.specs.OwnWrites.{own}
-use Rattle.run_model.specs.Kept.{keeping, log_of, clock, cover_of, covers_of, known}
+use Rattle.run_model.specs.Taking.{origin_state, log_of, clock, cover_of, covers_of, known}
 use Rattle.run_model.specs.Order.{seen}
 use Rattle.run_model.specs.Runs.{IsPart}
 use Rattle.run_model.specs.declared.entry.Entry.{Entry}
@@ -16,8 +16,9 @@ use Rattle.run_model.proofs.Accepted.{log_of-same}
 use Rattle.run_model.proofs.Growth.{Grows}
 use Rattle.run_model.proofs.SoundViews.{cover_of-same, cover_of-other}
 use Rattle.replica_core.specs.States.{Core, log_at, cover_at, known_at, own_cover, covers_with_own, entered}
-use Rattle.replica_core.specs.Stands.{Stands, HasNoLoans}
-use Rattle.replica_core.proofs.CoreLemmas.{stamps_of}
+use Rattle.run_model.specs.Loans.{HasNoLoans}
+use Rattle.replica_core.specs.Stands.{Stands}
+use Rattle.tact_base.proofs.CoversLemmas.{stamps_of}
 
 -- a told cover none of whose numbers is less is kept
 later_cover-told : (kept told : Cover) → kept.count ≤ told.count → kept.stamp ≤ told.stamp → kept.moment ≤ told.moment → later_cover kept told ≡ told
@@ -33,7 +34,7 @@ pub record IsOpen (part : List Entry) (entry : Entry) (core : Core) : Type 0 whe
   pub grows : Grows core.replica part (part ++ entry ∷ [])
   pub loans : HasNoLoans (part ++ entry ∷ [])
   pub logs : (origin : ℕ) → origin < core.setup.replicas → log_at core origin ≡ log_of core.replica (part ++ entry ∷ []) origin
-  pub covers : (origin : ℕ) → origin < core.setup.replicas → (origin ≡ core.replica → ⊥) → cover_at core origin ≡ (keeping (part ++ entry ∷ []) origin).cover
+  pub covers : (origin : ℕ) → origin < core.setup.replicas → (origin ≡ core.replica → ⊥) → cover_at core origin ≡ (origin_state (part ++ entry ∷ []) origin).cover
   pub own : cover_at core core.replica ≡ cover_of core.replica part (last_moment part) core.replica
   pub known : (peer origin : ℕ) → peer < core.setup.replicas → origin < core.setup.replicas → known_at core peer origin ≡ known (part ++ entry ∷ []) peer origin
   pub seen : core.seen ≡ seen core.setup core.replica (part ++ entry ∷ [])

@@ -1,11 +1,6 @@
-pub mod CoreLemmas
 pub mod Entering
 pub mod DueEntries
 pub mod Restarting
 pub mod AdmitLemmas
 pub mod Accepting
-pub mod RangeLists
-pub mod RangesLemmas
-pub mod RangesPlaced
-pub mod RangesWeights
 pub mod SendLemmas

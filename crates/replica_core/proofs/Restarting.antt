@@ -6,28 +6,27 @@ use Rattle.std.proofs.lemmas.List.{get_or-replicate, length-replicate, get_or_pa
 use Rattle.std.proofs.lemmas.List.FromFn.{length-map-range_with_len}
 use Rattle.std.proofs.lemmas.Nat.{mul-add-lt}
 use Rattle.std.proofs.lemmas.List.Elements.{All-nil}
-use Rattle.tact_base.proofs.KeepingLemmas.{least_of-is_least}
+use Rattle.tact_base.proofs.CoversLemmas.{least_of-is_least, stamps_of, least_stamp-le}
 use Rattle.tact_base.proofs.ListLemmas.{flat_map_none, get_or-map_range}
 use Rattle.tact_base.specs.Covers.{no_cover}
 use Rattle.tact_base.specs.WriteOrder.{in_order}
 use Rattle.tact_base.specs.declared.limits.TheConstants.{MOMENT_MAX}
 use Rattle.tact_base.specs.declared.write.Cover.{Cover}
 use Rattle.tact_base.specs.declared.write.Write.{Write}
-use Rattle.run_model.specs.Config.{Setup}
-use Rattle.run_model.specs.Histories.{replicas_of}
-use Rattle.run_model.specs.Kept.{log_of, cover_of, covers_of}
+use Rattle.tact_base.specs.Setup.{Setup, replicas_of}
+use Rattle.run_model.specs.Taking.{log_of, cover_of, covers_of}
 use Rattle.run_model.specs.Order.{seen, point}
 use Rattle.run_model.specs.Runs.{MayFollow, IsDue}
 use Rattle.run_model.specs.declared.entry.Act.TheVariants as act
 use Rattle.run_model.specs.declared.entry.Entry.{Entry}
 use Rattle.run_model.proofs.PrefixLemmas.{EachAfter-nil}
-use Rattle.run_model.proofs.PartLemmas.{keeping-push_none, known-push_none, sent_in-push_none, calls_in-push}
+use Rattle.run_model.proofs.PartLemmas.{origin_state-push_none, known-push_none, sent_in-push_none, calls_in-push}
 use Rattle.run_model.proofs.Accepted.{log_of-same, log_of-other}
 use Rattle.run_model.proofs.ClockLemmas.{clock-push_none}
 use Rattle.run_model.proofs.SoundViews.{cover_of-same, cover_of-other}
 use Rattle.replica_core.specs.States.{Core, entered, is_full, HasPlaces, IsKeptInOrder}
-use Rattle.replica_core.specs.Stands.{Stands, MovesNoLoan}
-use Rattle.replica_core.proofs.CoreLemmas.{stamps_of}
+use Rattle.run_model.specs.Loans.{MovesNoLoan}
+use Rattle.replica_core.specs.Stands.{Stands}
 use Rattle.replica_core.proofs.Entering.{IsOpen, Stands-entered}
 use Rattle.replica_core.proofs.DueEntries.{entry_of, is_due, goes_on, has_grown, no_loans, quiet_log, quiet_seen}
 
@@ -43,7 +42,7 @@ Stands-restarted part core stands free among sized handed handed_in =
       loans = no_loans part core stands free among handed handed_in act.Restart tt;
       logs = λ origin within. stands.logs origin within ∙ sym (quiet_log core.setup core.replica part entry refl refl origin);
       covers = λ origin within other.
-          stands.covers origin within ∙ cover_of-other core.replica part _ origin other ∙ sym (ap (λ k. k.cover) (keeping-push_none part entry origin refl));
+          stands.covers origin within ∙ cover_of-other core.replica part _ origin other ∙ sym (ap (λ k. k.cover) (origin_state-push_none part entry origin refl));
       own = stands.covers core.replica among;
       known = λ peer origin peer_in origin_in. stands.known peer origin peer_in origin_in ∙ sym (known-push_none part entry peer origin refl);
       seen = stands.seen ∙ sym (quiet_seen core.setup core.replica part entry refl refl);
@@ -145,5 +144,5 @@ IsKeptInOrder-made replicas replica logs covers seen point among is_logs is_cove
       ordered = sym (ap in_order (flat_map_none (λ origin. get_or logs origin []) (range_with_len 0 replicas) (λ k d within. no_list replicas logs is_logs _)));
       placed = All-nil (λ (write : Write). (write.origin < replicas) × (write.index < length (get_or logs write.origin [])));
       own = omega (arith, ap (λ (c : Cover). c.stamp) (get_or-replicate replicas replica no_cover no_cover among));
-      committed = omega arith;
+      committed = omega (arith, least_stamp-le (replicate replicas no_cover) replica no_cover (omega (arith, among, length-replicate replicas no_cover)), ap (λ (c : Cover). c.stamp) (get_or-replicate replicas replica no_cover no_cover among));
     })

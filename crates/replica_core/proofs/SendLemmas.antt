@@ -5,14 +5,14 @@ use Rattle.std.proofs.lemmas.Bool.{cases_eq, eq-eqb, ne_eqb}
 use Rattle.std.proofs.lemmas.List.{length_push}
 use Rattle.std.proofs.lemmas.List.Elements.{All-head, All-tail}
 use Rattle.std.proofs.lemmas.List.Sums.{sum_by-cons}
-use Rattle.tact_base.proofs.ListLemmas.{All-range, flat_map_agree, get_or-map_range}
+use Rattle.tact_base.proofs.ListLemmas.{All-range, flat_map_agree, get_or-map_range, map_agree, length-filter_map, map_range_agree}
 use Rattle.tact_base.specs.declared.limits.TheConstants.{MESSAGE_WRITES, MOMENT_MAX, HISTORY_MAX}
 use Rattle.tact_base.specs.declared.write.Cover.{Cover}
 use Rattle.tact_base.specs.declared.write.Write.{Write}
-use Rattle.run_model.specs.Config.{Setup, IsSetup, loan_of}
+use Rattle.tact_base.specs.Setup.{Setup, IsSetup, loan_of}
 use Rattle.run_model.specs.Histories.{last_moment, moment_at, sent_in}
-use Rattle.run_model.specs.Kept.{log_of, have, cover_of, keeping}
-use Rattle.run_model.specs.Loans.{lent_by_act, returned_by_act, lent, returned}
+use Rattle.run_model.specs.Taking.{log_of, have, cover_of, origin_state}
+use Rattle.run_model.specs.Loans.{lent_by_act, returned_by_act, lent, returned, MovesNoLoan, HasNoLoans}
 use Rattle.run_model.specs.Messages.{first_for, writes_for, message_of}
 use Rattle.run_model.specs.Ranges.{IsActInRange}
 use Rattle.run_model.specs.Runs.{IsActDue, IsDue}
@@ -22,14 +22,14 @@ use Rattle.run_model.specs.declared.entry.Entry.{Entry}
 use Rattle.run_model.specs.declared.entry.Message.{Message}
 use Rattle.run_model.proofs.Accepted.{log_of-same}
 use Rattle.run_model.proofs.ClockLemmas.{clock-push_none}
-use Rattle.run_model.proofs.Firsts.{map_agree, message_again}
-use Rattle.run_model.proofs.PartLemmas.{sent_by, length-filter_map, keeping-push_none, known-push_none, sent_in-push_some, calls_in-push}
+use Rattle.run_model.proofs.Firsts.{message_again}
+use Rattle.run_model.proofs.PartLemmas.{sent_by, origin_state-push_none, known-push_none, sent_in-push_some, calls_in-push}
 use Rattle.run_model.proofs.SoundViews.{cover_of-same, cover_of-other}
 use Rattle.run_promises.proofs.DueInRange.{due_message_in_range}
 use Rattle.replica_core.specs.States.{Core, log_at, cover_at, known_at, own_cover, origins_of, one_more, is_full, entered}
 use Rattle.replica_core.specs.Sending.{cover_told, first_told, writes_told, next_message, with_sent}
-use Rattle.replica_core.specs.Stands.{Stands, MovesNoLoan, HasNoLoans}
-use Rattle.replica_core.proofs.RangeLists.{flat_map_range_more}
+use Rattle.replica_core.specs.Stands.{Stands}
+use Rattle.run_model.proofs.SentMessages.{lent_opening, returned_nothing, same_message}
 use Rattle.replica_core.proofs.Entering.{IsOpen, Stands-entered}
 use Rattle.replica_core.proofs.DueEntries.{entry_of, sound, moment_in, not_full, is_due, goes_on, has_grown, no_loans, quiet_log, quiet_seen}
 
@@ -40,62 +40,6 @@ first_told-same core to given origin same =
 pub first_told-other : (core : Core) (to : ℕ) (given : List ℕ) (origin : ℕ) → (origin ≡ to → ⊥) → first_told core to given origin ≡ min (length (log_at core origin)) (max (get_or given origin 0) (known_at core to origin))
 first_told-other core to given origin other =
     ap (λ yes. cond yes (length (log_at core origin)) (min (length (log_at core origin)) (max (get_or given origin 0) (known_at core to origin)))) (ne_eqb origin to other)
-
--- the first few of two lists, and of one more origin
-take-append : {A : Type 0} (m : ℕ) (xs ys : List A) → take m (xs ++ ys) ≡ take m xs ++ take (m - length (take m xs)) ys
-take-append zero xs ys = refl
-take-append (suc m) [] ys = let e : suc m - 0 ≡ suc m = omega arith in ap (λ n. take n ys) (sym e)
-take-append (suc m) (x ∷ xs) ys =
-    let e : suc m - suc (length (take m xs)) ≡ m - length (take m xs) = omega arith in
-    ap (λ (rest : List _). x ∷ rest) (take-append m xs ys ∙ ap (λ n. take m xs ++ take n ys) (sym e))
-
-pub writes_more : (of_origin : ℕ → List Write) (n room : ℕ) (before after : List Write) → before ≡ take 64 (flat_map of_origin (range_with_len 0 n)) → room ≡ 64 - length before
-    → after ≡ before ++ take room (of_origin n) → after ≡ take 64 (flat_map of_origin (range_with_len 0 (n + 1)))
-writes_more of_origin n room before after was left grew =
-    grew
-    ∙ ap (λ (k : ℕ). before ++ take k (of_origin n)) left
-    ∙ ap (λ (ws : List Write). ws ++ take (64 - length ws) (of_origin n)) was
-    ∙ sym (take-append 64 (flat_map of_origin (range_with_len 0 n)) (of_origin n))
-    ∙ ap (take 64) (sym (flat_map_range_more of_origin n))
-
--- two functions that agree below a bound
-map_range_agree : {A : Type 0} (f g : ℕ → A) (len : ℕ) → ((n : ℕ) → n < len → f n ≡ g n) → map f (range_with_len 0 len) ≡ map g (range_with_len 0 len)
-map_range_agree f g len agree = map_agree f g (range_with_len 0 len) (All-range (λ n. f n ≡ g n) 0 len (λ n low high. agree n (omega (arith, high))))
-
--- a part without loans lent and gave back nothing
-lends_nothing : (done : Act) (holder conit : ℕ) → MovesNoLoan done → lent_by_act holder conit done ≡ 0
-lends_nothing (act.Lend to at amount) holder conit none = absurd none
-lends_nothing other holder conit none = refl
-
-returns_nothing : (done : Act) (owner conit : ℕ) → MovesNoLoan done → returned_by_act owner conit done ≡ 0
-returns_nothing (act.Back to at amount) owner conit none = absurd none
-returns_nothing other owner conit none = refl
-
-sum_of_none : {A : Type 0} (f : A → ℕ) (xs : List A) → All (λ x. f x ≡ 0) xs → sum_by f xs ≡ 0
-sum_of_none f [] all = refl
-sum_of_none f (x ∷ xs) all =
-    omega (arith, sum_by-cons f x xs, All-head (λ x. f x ≡ 0) x xs all, sum_of_none f xs (All-tail (λ x. f x ≡ 0) x xs all))
-
-lent_opening : (setup : Setup) (replica : ℕ) (part : List Entry) (holder conit : ℕ) → HasNoLoans part → lent setup replica part holder conit ≡ loan_of setup replica conit holder
-lent_opening setup replica part holder conit none =
-    omega (arith, sum_of_none (λ (entry : Entry). lent_by_act holder conit entry.act) part (λ k d within. lends_nothing (get_or part k d).act holder conit (none k d within)))
-
-returned_nothing : (part : List Entry) (owner conit : ℕ) → HasNoLoans part → returned part owner conit ≡ 0
-returned_nothing part owner conit none =
-    sum_of_none (λ (entry : Entry). returned_by_act owner conit entry.act) part (λ k d within. returns_nothing (get_or part k d).act owner conit (none k d within))
-
--- messages of the same parts
-abbrev pub told_by : ℕ → ℕ → ℕ → List ℕ → List Cover → List ℕ → List Write → List ℕ → List ℕ → Message
-told_by from to number haves covers firsts writes lent returned = record { from = from; to = to; number = number; haves = haves; covers = covers; firsts = firsts; writes = writes; lent = lent; returned = returned }
-
-pub same_message : (from from' to number number' : ℕ) (haves haves' : List ℕ) (covers covers' : List Cover) (firsts firsts' : List ℕ) (writes writes' : List Write) (lent lent' returned returned' : List ℕ)
-    → from ≡ from' → number ≡ number' → haves ≡ haves' → covers ≡ covers' → firsts ≡ firsts' → writes ≡ writes' → lent ≡ lent' → returned ≡ returned'
-    → told_by from to number haves covers firsts writes lent returned ≡ told_by from' to number' haves' covers' firsts' writes' lent' returned'
-same_message from from' to number number' haves haves' covers covers' firsts firsts' writes writes' lent lent' returned returned' a b c d e f g h =
-    ap₂ (λ x y. told_by x to y haves covers firsts writes lent returned) a b
-    ∙ ap₂ (λ x y. told_by from' to number' x y firsts writes lent returned) c d
-    ∙ ap₂ (λ x y. told_by from' to number' haves' covers' x y lent returned) e f
-    ∙ ap₂ (λ x y. told_by from' to number' haves' covers' firsts' writes' x y) g h
 
 -- where it stands for a part, it sends the message that is due after it
 module _ (part : List Entry) (core : Core) (stands : Stands part core) (among : core.replica < core.setup.replicas) where
@@ -180,7 +124,7 @@ module _ (part : List Entry) (core : Core) (stands : Stands part core) (good : I
         loans = no_loans part core stands free among handed handed_in sends tt;
         logs = λ origin within. stands.logs origin within ∙ sym (quiet_log core.setup core.replica part entry refl refl origin);
         covers = λ origin within other.
-            stands.covers origin within ∙ cover_of-other core.replica part _ origin other ∙ sym (ap (λ k. k.cover) (keeping-push_none part entry origin refl));
+            stands.covers origin within ∙ cover_of-other core.replica part _ origin other ∙ sym (ap (λ k. k.cover) (origin_state-push_none part entry origin refl));
         own = stands.covers core.replica among;
         known = λ peer origin peer_in origin_in. stands.known peer origin peer_in origin_in ∙ sym (known-push_none part entry peer origin refl);
         seen = stands.seen ∙ sym (quiet_seen core.setup core.replica part entry refl refl);

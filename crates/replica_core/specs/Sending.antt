@@ -4,8 +4,7 @@ use Rattle.std.specs.List.{flat_map}
 use Rattle.tact_base.specs.declared.limits.TheConstants.{MESSAGE_WRITES}
 use Rattle.tact_base.specs.declared.write.Cover.{Cover}
 use Rattle.tact_base.specs.declared.write.Write.{Write}
-use Rattle.run_model.specs.Config.{loan_of}
-use Rattle.run_model.specs.Histories.{conits_of}
+use Rattle.tact_base.specs.Setup.{loan_of, conits_of}
 use Rattle.run_model.specs.declared.entry.Message.{Message}
 use Rattle.replica_core.specs.States.{Core, log_at, cover_at, known_at, own_cover, origins_of, one_more}
 

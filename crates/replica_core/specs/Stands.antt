@@ -1,7 +1,8 @@
 -- When a replica stands for a part, and what goes on from there.
 use Rattle.std.specs.Prelude.{◌≡◌, true, false, ℕ, ◌<◌, List, [], ◌∷◌, ◌++◌, All, length, slice_index}
 use Rattle.run_model.specs.Histories.{sent_in, calls_in, last_moment, moment_at}
-use Rattle.run_model.specs.Kept.{log_of, cover_of, clock, known}
+use Rattle.run_model.specs.Taking.{log_of, cover_of, clock, known}
+use Rattle.run_model.specs.Loans.{HasNoLoans}
 use Rattle.run_model.specs.Order.{seen, point}
 use Rattle.run_model.specs.Runs.{IsPart}
 use Rattle.run_model.specs.declared.call.Request.{Request}
@@ -12,15 +13,6 @@ use Rattle.run_model.specs.declared.entry.Entry.{Entry}
 use Rattle.replica_core.specs.States.{Core, log_at, cover_at, known_at, is_full}
 use Rattle.replica_core.specs.declared.fault.CoreFault.{CoreFault}
 use Rattle.replica_core.specs.declared.fault.CoreFault.TheVariants as fault
-
--- an act that moves no loan, and a part of such acts
-abbrev pub MovesNoLoan : Act → Type 0
-MovesNoLoan (act.Lend to conit amount) = ⊥
-MovesNoLoan (act.Back owner conit amount) = ⊥
-MovesNoLoan other = Unit {0}
-
-abbrev pub HasNoLoans : List Entry → Type 0
-HasNoLoans part = All (λ entry. MovesNoLoan entry.act) part
 
 -- A replica stands for a part that can be: whatever it keeps is what the definitions say of the part.
 pub record Stands (part : List Entry) (core : Core) : Type 0 where

@@ -8,7 +8,7 @@ use Rattle.tact_base.specs.declared.conit_list.Weight.{Weight}
 use Rattle.tact_base.specs.declared.write.Cover.{Cover}
 use Rattle.tact_base.specs.declared.write.Op.{Op}
 use Rattle.tact_base.specs.declared.write.Write.{Write}
-use Rattle.run_model.specs.Config.{Setup}
+use Rattle.tact_base.specs.Setup.{Setup}
 
 -- What a replica keeps. By origin: its log, and its cover, its own at the moment of its last entry. By peer and then origin:
 -- how many of the origin's writes the peer is known to have. All writes in order, of which those up to the point are committed.
@@ -78,12 +78,12 @@ abbrev pub joined : ℕ → List (List Write) → List Write
 joined replicas logs = flat_map (λ origin. slice_index_or logs origin []) (range_with_len 0 replicas)
 
 -- What holds of it between two entries: the writes in order are those of its logs, each within its log; its own cover isn't past its
--- clock; and nothing is committed past the least stamp.
+-- clock; and what is committed goes up to the least stamp.
 pub record IsKeptInOrder (replicas replica : ℕ) (logs : List (List Write)) (covers : List Cover) (seen : List Write) (point clock : ℕ) : Type 0 where
   pub ordered : seen ≡ in_order (joined replicas logs)
   pub placed : All (λ (write : Write). (write.origin < replicas) × (write.index < length (slice_index_or logs write.origin []))) seen
   pub own : (slice_index_or covers replica no_cover).stamp ≤ clock
-  pub committed : point ≤ least_stamp covers
+  pub committed : point ≡ least_stamp covers
 
 -- one more, at most the greatest u64
 abbrev pub one_more : ℕ → ℕ

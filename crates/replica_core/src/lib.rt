@@ -4,7 +4,6 @@
 
 mod admitting;
 mod fault;
-mod ranges;
 mod replica;
 mod sending;
 #[cfg(test)]
@@ -12,5 +11,4 @@ mod tests;
 mod writing;
 
 pub use fault::CoreFault;
-pub use ranges::is_message_in_range;
 pub use replica::Replica;

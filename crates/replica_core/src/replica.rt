@@ -141,7 +141,8 @@ impl Replica {
     /// The stamp up to which writes are committed: the least over the covers of all replicas. Takes no
     /// memory.
     pub fn point(&self) -> u64
-        ensures { result ≡ least_stamp self.now.core.covers }
+        ensures point { result ≡ self.now.core.point }
+        ensures least { result ≡ least_stamp self.now.core.covers }
     {
         self.vector.least_stamp().1
     }

@@ -2,8 +2,8 @@
 ghost use Rattle.std.specs.Prelude.{◌≡◌, ◌≢◌, ◌<◌, ◌≤◌, List, true, false, take, drop, length, map, slice_index, IfOk, IfErr, OnOk, OnErr};
 ghost use Rattle.std.specs.List.{range_with_len};
 ghost use Rattle.tact_base.specs.declared.limits.TheConstants.{MOMENT_MAX};
-ghost use Rattle.run_model.specs.Config.{IsSetup, loan_of};
-ghost use Rattle.run_model.specs.Histories.{moment_at, conits_of};
+ghost use Rattle.tact_base.specs.Setup.{IsSetup, loan_of, conits_of};
+ghost use Rattle.run_model.specs.Histories.{moment_at};
 ghost use Rattle.run_model.specs.Messages.{message_of};
 ghost use Rattle.run_model.specs.declared.entry.Act.TheVariants as act;
 ghost use Rattle.run_model.specs.declared.entry.Entry.{Entry};

@@ -3,17 +3,18 @@ use Rattle.std.proofs.Common.{◌≡◌, ℕ, ◌+◌, Bool, true, false, cond, 
 use Rattle.std.specs.List.{slice_get, filter_map, cons_option}
 use Rattle.std.proofs.lemmas.Bool.{eq-eqb, ne_eqb}
 use Rattle.std.proofs.lemmas.Option.{same_Some, some_pair_parts}
-use Rattle.tact_base.specs.Shares.{Fitting, heavy, held, short, fits, fitting}
+use Rattle.tact_base.specs.Shares.{fit_of}
 use Rattle.tact_base.specs.declared.conit_list.Weight.{Weight}
+use Rattle.tact_base.specs.declared.fit.Fit.{Fit}
+use Rattle.tact_base.specs.declared.fit.Fit.TheVariants as fit
 use Rattle.tact_base.specs.declared.write.Op.{Op}
 use Rattle.tact_base.specs.declared.write.Write.{Write}
-use Rattle.run_model.specs.Config.{Setup}
-use Rattle.run_model.specs.Histories.{peers_of}
+use Rattle.tact_base.specs.Setup.{Setup, peers_of}
 use Rattle.run_model.specs.OwnWrites.{own, asked_write, done_as, accepted_as, accepted_by}
-use Rattle.run_model.specs.Kept.{keeping, log_of, have, clock}
+use Rattle.run_model.specs.Taking.{origin_state, log_of, have, clock}
 use Rattle.run_model.specs.Missing.{reserved}
 use Rattle.run_model.specs.Loans.{share}
-use Rattle.run_model.specs.Replies.{first_some, refusal_by, refusal, weight_refusal, missing_of_sign, done, reply_of}
+use Rattle.run_model.specs.Replies.{first_some, refused_as, refusal, weight_refusal, missing_of_sign, done, reply_of}
 use Rattle.run_model.specs.Runs.{IsDue, IsActDue}
 use Rattle.run_model.specs.declared.call.Request.{Request}
 use Rattle.run_model.specs.declared.call.Request.TheVariants as request
@@ -33,10 +34,10 @@ pub record IsNext (replica : ℕ) (part : List Entry) (at : ℕ) (write : Write)
 
 -- the log of a replica itself, and of another
 pub log_of-same : (replica : ℕ) (part : List Entry) → log_of replica part replica ≡ own part
-log_of-same replica part = ap (λ yes. cond yes (own part) (keeping part replica).log) (eq-eqb replica replica refl)
+log_of-same replica part = ap (λ yes. cond yes (own part) (origin_state part replica).log) (eq-eqb replica replica refl)
 
-pub log_of-other : (replica : ℕ) (part : List Entry) (origin : ℕ) → (origin ≡ replica → ⊥) → log_of replica part origin ≡ (keeping part origin).log
-log_of-other replica part origin other = ap (λ yes. cond yes (own part) (keeping part origin).log) (ne_eqb origin replica other)
+pub log_of-other : (replica : ℕ) (part : List Entry) (origin : ℕ) → (origin ≡ replica → ⊥) → log_of replica part origin ≡ (origin_state part origin).log
+log_of-other replica part origin other = ap (λ yes. cond yes (own part) (origin_state part origin).log) (ne_eqb origin replica other)
 
 -- what holds of each reply that a place may give holds of the first
 pub first_some-each : {A : Type 0} (f : A → Option Reply) (P : Reply → Type 0) → ((item : A) (given : Reply) → f item ≡ Some given → P given) → (items : List A) (given : Reply) → first_some f items ≡ Some given → P given
@@ -48,17 +49,19 @@ first_some-each f P each (item ∷ items) given is = go (f item) refl (first_som
     go (Some found) is_here rest is = each item given (is_here ∙ is)
 
 -- a refusal accepts nothing
-refusal_by-accepts_none : (conit peer share reserved missing amount : ℕ) (fit : Fitting) (given : Reply) → refusal_by conit peer share reserved missing amount fit ≡ Some given → done_as given ≡ None
-refusal_by-accepts_none conit peer share reserved missing amount heavy given is = cc
-refusal_by-accepts_none conit peer share reserved missing amount held given is = cc
-refusal_by-accepts_none conit peer share reserved missing amount short given is = cc
-refusal_by-accepts_none conit peer share reserved missing amount fits given is = cc
+refused_as-accepts_none : (conit : ℕ) (answer : Fit) (given : Reply)
+    → refused_as conit answer ≡ Some given
+    → done_as given ≡ None
+refused_as-accepts_none conit fit.Fits given is = cc
+refused_as-accepts_none conit (fit.TooHeavy peer weight share) given is = cc
+refused_as-accepts_none conit (fit.WaitHeld peer reserved weight share) given is = cc
+refused_as-accepts_none conit (fit.WaitShare peer missing reserved weight share) given is = cc
 
 weight_refusal-accepts_none : (setup : Setup) (replica : ℕ) (part : List Entry) (weight : Weight) (given : Reply) → weight_refusal setup replica part weight ≡ Some given → done_as given ≡ None
 weight_refusal-accepts_none setup replica part weight =
     first_some-each (λ peer. refusal setup replica part weight.conit peer (unsigned_abs weight.nweight) (missing_of_sign replica part peer weight.conit weight.nweight)) (λ given. done_as given ≡ None)
-    (λ peer given. refusal_by-accepts_none weight.conit peer (share setup replica part peer weight.conit) (reserved part weight.conit) (missing_of_sign replica part peer weight.conit weight.nweight) (unsigned_abs weight.nweight)
-    (fitting (share setup replica part peer weight.conit) (reserved part weight.conit) (missing_of_sign replica part peer weight.conit weight.nweight) (unsigned_abs weight.nweight)) given)
+    (λ peer given. refused_as-accepts_none weight.conit
+    (fit_of peer (share setup replica part peer weight.conit) (reserved part weight.conit) (missing_of_sign replica part peer weight.conit weight.nweight) (unsigned_abs weight.nweight)) given)
     (peers_of setup replica)
 
 -- a reply that accepts nothing, or accepts with the next index and stamp

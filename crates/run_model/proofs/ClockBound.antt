@@ -6,14 +6,14 @@ use Rattle.tact_base.proofs.ListLemmas.{All-flat_map}
 use Rattle.tact_base.specs.declared.write.Cover.{Cover}
 use Rattle.tact_base.specs.declared.write.Write.{Write}
 use Rattle.tact_base.specs.Covers.{no_cover}
-use Rattle.run_model.specs.Config.{Setup}
-use Rattle.run_model.specs.Histories.{mine, sent_in, taken_in}
+use Rattle.tact_base.specs.Setup.{Setup}
+use Rattle.run_model.specs.Histories.{part_of, sent_in, taken_in}
 use Rattle.run_model.specs.OwnWrites.{own}
-use Rattle.run_model.specs.Kept.{clock, told_cover}
+use Rattle.run_model.specs.Taking.{clock, told_cover}
 use Rattle.run_model.specs.Runs.{IsLawful, IsRun}
 use Rattle.run_model.specs.declared.entry.Entry.{Entry}
 use Rattle.run_model.specs.declared.entry.Message.{Message}
-use Rattle.run_model.proofs.PartLemmas.{accepted_in, taken_by, greatest-is_least, mine-push_cases, own-push_none, own-push_some, taken_in-push_none, taken_in-push_some}
+use Rattle.run_model.proofs.PartLemmas.{accepted_in, taken_by, greatest-is_least, part_of-push_cases, own-push_none, own-push_some, taken_in-push_none, taken_in-push_some}
 use Rattle.run_model.proofs.ClockLemmas.{own_stamps, taken_stamps, own-le-clock, taken-le-clock}
 use Rattle.run_model.proofs.Accepted.{accepted_is_next}
 use Rattle.run_model.proofs.Sound.{Sound, IsSoundMessage}
@@ -61,20 +61,20 @@ clock-push-within most part entry below accepts takes =
     tolds None none all = subst (All (λ (message : Message). (origin : ℕ) → (told_cover message origin).stamp ≤ most)) (sym (taken_in-push_none part entry none)) all
     tolds (Some message) some all = subst (All (λ (message : Message). (origin : ℕ) → (told_cover message origin).stamp ≤ most)) (sym (taken_in-push_some part entry message some)) (All-push (λ (message : Message). (origin : ℕ) → (told_cover message origin).stamp ≤ most) (taken_in part) message all (takes message some))
 
-clock-step : (setup : Setup) (history : List Entry) (entry : Entry) → Sound setup history → IsLawful setup history entry → ((replica : ℕ) → clock (mine history replica) ≤ length history) → (replica : ℕ) → clock (mine (history ++ entry ∷ []) replica) ≤ length (history ++ entry ∷ [])
+clock-step : (setup : Setup) (history : List Entry) (entry : Entry) → Sound setup history → IsLawful setup history entry → ((replica : ℕ) → clock (part_of history replica) ≤ length history) → (replica : ℕ) → clock (part_of (history ++ entry ∷ []) replica) ≤ length (history ++ entry ∷ [])
 clock-step setup history entry sound lawful below =
     let most = length (history ++ entry ∷ []) in
     let more : most ≡ length history + 1 = length_push history entry in
-    mine-push_cases history entry (λ replica part. clock part ≤ most)
-    (clock-push-within most (mine history entry.replica) entry (omega (arith, more, below entry.replica))
-    (λ write some. omega (arith, more, below entry.replica, (accepted_is_next setup (mine history entry.replica) entry write lawful.due some).stamp))
+    part_of-push_cases history entry (λ replica part. clock part ≤ most)
+    (clock-push-within most (part_of history entry.replica) entry (omega (arith, more, below entry.replica))
+    (λ write some. omega (arith, more, below entry.replica, (accepted_is_next setup (part_of history entry.replica) entry write lawful.due some).stamp))
     (λ message some origin.
     let sent : IsSoundMessage history message.from message =
-    All-contains (IsSoundMessage history message.from) (sent_in (mine history message.from)) message (sound.sent message.from) (taken_was_sent history entry.act message lawful.sent some) in
+    All-contains (IsSoundMessage history message.from) (sent_in (part_of history message.from)) message (sound.sent message.from) (taken_was_sent history entry.act message lawful.sent some) in
     omega (arith, more, below origin, (sent.told origin).cover.stamp)))
     (λ replica. omega (arith, more, below replica))
 
-pub clock-run : (setup : Setup) (history : List Entry) → IsRun setup history → (replica : ℕ) → clock (mine history replica) ≤ length history
+pub clock-run : (setup : Setup) (history : List Entry) → IsRun setup history → (replica : ℕ) → clock (part_of history replica) ≤ length history
 clock-run setup =
-    over_runs setup (λ history. (replica : ℕ) → clock (mine history replica) ≤ length history) (λ replica. omega arith)
+    over_runs setup (λ history. (replica : ℕ) → clock (part_of history replica) ≤ length history) (λ replica. omega arith)
     (λ before entry run lawful below. clock-step setup before entry (Sound-run setup before run) lawful below)

@@ -11,7 +11,7 @@ use Rattle.tact_base.specs.declared.write.Write.{Write}
 use Rattle.run_model.specs.Histories.{taken_in, greatest}
 use Rattle.run_model.specs.OwnWrites.{own}
 use Rattle.tact_base.specs.Covers.{no_cover}
-use Rattle.run_model.specs.Kept.{clock, told_cover}
+use Rattle.run_model.specs.Taking.{clock, told_cover}
 use Rattle.run_model.specs.declared.entry.Entry.{Entry}
 use Rattle.run_model.specs.declared.entry.Message.{Message}
 use Rattle.run_model.proofs.PartLemmas.{accepted_in, taken_by, greatest-append, greatest-is_most, own-push, own-push_none, own-push_some, taken_in-push, taken_in-push_none, taken_in-push_some}

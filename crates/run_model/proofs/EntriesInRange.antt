@@ -10,8 +10,8 @@ use Rattle.tact_base.specs.declared.limits.TheConstants.{AMOUNT_MAX, ALPHA_MAX}
 use Rattle.tact_base.specs.declared.conit_list.Weight.{Weight}
 use Rattle.tact_base.specs.declared.write.Op.{Op}
 use Rattle.tact_base.specs.declared.write.Write.{Write}
-use Rattle.run_model.specs.Config.{Setup, IsSetup, loans_of, loan_of}
-use Rattle.run_model.specs.Histories.{mine, sent_in, sent_by_act}
+use Rattle.tact_base.specs.Setup.{Setup, IsSetup, loans_of, loan_of}
+use Rattle.run_model.specs.Histories.{part_of, sent_in, sent_by_act}
 use Rattle.run_model.specs.Loans.{lent_by_act, returned_by_act}
 use Rattle.run_model.specs.OwnWrites.{asked_write, done_as, accepted_as, accepted_by}
 use Rattle.run_model.specs.Ranges.{IsOpInRange, IsWeightInRange, AreWeightsInRange, IsRequestInRange, IsMessageInRange, IsActInRange, IsEntryInRange}
@@ -23,7 +23,7 @@ use Rattle.run_model.specs.declared.entry.Act.{Act}
 use Rattle.run_model.specs.declared.entry.Act.TheVariants as act
 use Rattle.run_model.specs.declared.entry.Entry.{Entry}
 use Rattle.run_model.specs.declared.entry.Message.{Message}
-use Rattle.run_model.proofs.ConfigLemmas.{HasCounts-from_IsSetup, HasRow-from_IsSetup, length-loans_of}
+use Rattle.tact_base.proofs.SetupLemmas.{HasCounts-from_IsSetup, HasRow-from_IsSetup, length-loans_of}
 use Rattle.run_model.proofs.PartLemmas.{sent_by}
 
 -- what a filter gives of elements that each give what holds
@@ -42,7 +42,7 @@ entries_in_range setup history run place d within =
     (run (take place history) (drop (place + 1) history) (get_or history place d)
     (sym (take-append-drop place history) ∙ ap (λ rest. take place history ++ rest) (drop_more history place d within))).due.in_range
 
-pub part_in_range : (setup : Setup) (history : List Entry) → IsRun setup history → (replica : ℕ) → All (IsEntryInRange setup) (mine history replica)
+pub part_in_range : (setup : Setup) (history : List Entry) → IsRun setup history → (replica : ℕ) → All (IsEntryInRange setup) (part_of history replica)
 part_in_range setup history run replica = All-filter (λ (entry : Entry). entry.replica == replica) (IsEntryInRange setup) history (entries_in_range setup history run)
 
 -- the messages that were sent
@@ -54,11 +54,11 @@ sent_act setup replica (act.Lend to conit amount) message within some = cc
 sent_act setup replica (act.Back owner conit amount) message within some = cc
 sent_act setup replica act.Restart message within some = cc
 
-pub sent_in_range : (setup : Setup) (history : List Entry) → IsRun setup history → (replica : ℕ) → All (IsMessageInRange setup) (sent_in (mine history replica))
+pub sent_in_range : (setup : Setup) (history : List Entry) → IsRun setup history → (replica : ℕ) → All (IsMessageInRange setup) (sent_in (part_of history replica))
 sent_in_range setup history run replica =
     let P = λ (entry : Entry). (message : Message) → sent_by entry ≡ Some message → IsMessageInRange setup message in
-    All-filter_map (IsMessageInRange setup) sent_by (mine history replica)
-    (All-weaker (IsEntryInRange setup) P (λ entry within message some. sent_act setup entry.replica entry.act message within.act some) (mine history replica) (part_in_range setup history run replica))
+    All-filter_map (IsMessageInRange setup) sent_by (part_of history replica)
+    (All-weaker (IsEntryInRange setup) P (λ entry within message some. sent_act setup entry.replica entry.act message within.act some) (part_of history replica) (part_in_range setup history run replica))
 
 -- what a write asks for
 pub record IsAskedInRange (setup : Setup) (write : Write) : Type 0 where

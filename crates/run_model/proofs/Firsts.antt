@@ -1,20 +1,15 @@
 -- The firsts that a message has ask for the same message.
 use Rattle.std.proofs.Common.{◌≡◌, ℕ, ◌<◌, ◌==◌, min, max, Bool, true, false, cond, slice_index, length, List, [], ◌∷◌, take, drop, map, All, refl, ap, ap₂, arith}
 use Rattle.std.proofs.lemmas.List.Elements.{All-head, All-tail}
-use Rattle.tact_base.proofs.ListLemmas.{All-range, flat_map_agree, get_or-map_range}
+use Rattle.tact_base.proofs.ListLemmas.{All-range, map_agree, flat_map_agree, get_or-map_range}
 use Rattle.tact_base.specs.declared.limits.TheConstants.{MESSAGE_WRITES}
 use Rattle.tact_base.specs.declared.write.Write.{Write}
-use Rattle.run_model.specs.Config.{Setup}
-use Rattle.run_model.specs.Histories.{replicas_of, conits_of, sent_in}
-use Rattle.run_model.specs.Kept.{log_of, have, covers_of, known}
+use Rattle.tact_base.specs.Setup.{Setup, replicas_of, conits_of}
+use Rattle.run_model.specs.Histories.{sent_in}
+use Rattle.run_model.specs.Taking.{log_of, have, covers_of, known}
 use Rattle.run_model.specs.Loans.{lent, returned}
 use Rattle.run_model.specs.Messages.{first_for, message_of}
 use Rattle.run_model.specs.declared.entry.Entry.{Entry}
-
--- a map of functions that agree at each element
-pub map_agree : {X A : Type 0} (f g : X → A) (xs : List X) → All (λ x. f x ≡ g x) xs → map f xs ≡ map g xs
-map_agree f g [] all = refl
-map_agree f g (x ∷ xs) all = ap₂ (λ y ys. y ∷ ys) (All-head (λ x. f x ≡ g x) x xs all) (map_agree f g xs (All-tail (λ x. f x ≡ g x) x xs all))
 
 -- What a replica sends to another, where these firsts are given.
 module _ (setup : Setup) (replica : ℕ) (part : List Entry) (to : ℕ) (given : List ℕ) where

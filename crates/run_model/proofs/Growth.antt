@@ -6,16 +6,16 @@ use Rattle.std.proofs.lemmas.List.{append-nil, append_assoc, length-append}
 use Rattle.std.proofs.lemmas.List.Elements.{All-nil, All-append, All-weaker}
 use Rattle.tact_base.proofs.ListLemmas.{All-one}
 use Rattle.tact_base.specs.declared.write.Write.{Write}
-use Rattle.run_model.specs.Config.{Setup}
-use Rattle.run_model.specs.Histories.{mine, last_moment}
+use Rattle.tact_base.specs.Setup.{Setup}
+use Rattle.run_model.specs.Histories.{part_of, last_moment}
 use Rattle.run_model.specs.OwnWrites.{own}
-use Rattle.run_model.specs.Kept.{Keeping, keeping, told_first, told_writes, have, clock}
+use Rattle.run_model.specs.Taking.{OriginState, origin_state, told_first, told_writes, have, clock}
 use Rattle.run_model.specs.Runs.{IsDue}
 use Rattle.run_model.specs.declared.entry.Entry.{Entry}
 use Rattle.run_model.specs.declared.entry.Message.{Message}
-use Rattle.run_model.proofs.PartLemmas.{accepted_in, mine-push_cases, taken_by, own-push, last_moment-push, keeping-push_none, keeping-push_some}
+use Rattle.run_model.proofs.PartLemmas.{accepted_in, part_of-push_cases, taken_by, own-push, last_moment-push, origin_state-push_none, origin_state-push_some}
 use Rattle.run_model.proofs.Accepted.{IsNext, log_of-same, log_of-other, accepted_is_next}
-use Rattle.tact_base.proofs.KeepingLemmas.{log_after-le}
+use Rattle.tact_base.proofs.LogsLemmas.{log_after-le}
 use Rattle.run_model.proofs.ClockLemmas.{clock-le-push}
 
 -- a write that a part may accept later
@@ -34,14 +34,14 @@ pub record Grows (replica : ℕ) (before after : List Entry) : Type 0 where
   pub have : (origin : ℕ) → have replica before origin ≤ have replica after origin
 
 -- a log that is kept doesn't get shorter
-keeping-le-push : (part : List Entry) (entry : Entry) (origin : ℕ) → length (keeping part origin).log ≤ length (keeping (part ++ entry ∷ []) origin).log
-keeping-le-push part entry origin = go (taken_by entry) refl
+origin_state-le-push : (part : List Entry) (entry : Entry) (origin : ℕ) → length (origin_state part origin).log ≤ length (origin_state (part ++ entry ∷ []) origin).log
+origin_state-le-push part entry origin = go (taken_by entry) refl
   where
-    go : (taken : Option Message) → taken_by entry ≡ taken → length (keeping part origin).log ≤ length (keeping (part ++ entry ∷ []) origin).log
-    go None none = le_of_eq (sym (ap (λ (kept : Keeping). length kept.log) (keeping-push_none part entry origin none)))
+    go : (taken : Option Message) → taken_by entry ≡ taken → length (origin_state part origin).log ≤ length (origin_state (part ++ entry ∷ []) origin).log
+    go None none = le_of_eq (sym (ap (λ (kept : OriginState). length kept.log) (origin_state-push_none part entry origin none)))
     go (Some message) some =
-        le_trans (log_after-le (keeping part origin).log (told_first message origin) (told_writes message origin))
-        (le_of_eq (sym (ap (λ (kept : Keeping). length kept.log) (keeping-push_some part entry origin message some))))
+        le_trans (log_after-le (origin_state part origin).log (told_first message origin) (told_writes message origin))
+        (le_of_eq (sym (ap (λ (kept : OriginState). length kept.log) (origin_state-push_some part entry origin message some))))
 
 pub Grows-refl : (replica : ℕ) (part : List Entry) → Grows replica part part
 Grows-refl replica part = record {
@@ -88,7 +88,7 @@ module _ (setup : Setup) (part : List Entry) (entry : Entry) (due : IsDue setup 
       (omega (arith, length-append (own part) (cons_option (accepted_in entry) []))))
       (λ (other : origin ≡ entry.replica → ⊥).
       rw (log_of-other entry.replica part origin other, log_of-other entry.replica (part ++ entry ∷ []) origin other)
-      (keeping-le-push part entry origin))
+      (origin_state-le-push part entry origin))
       (cases_eq origin entry.replica)
 
   pub Grows-push : Grows entry.replica part (part ++ entry ∷ [])
@@ -102,7 +102,7 @@ module _ (setup : Setup) (part : List Entry) (entry : Entry) (due : IsDue setup 
   }
 
 -- After an entry that is due after the part of its replica, each part has grown, the others by nothing.
-pub Grows-history : (setup : Setup) (history : List Entry) (entry : Entry) → IsDue setup (mine history entry.replica) entry → (replica : ℕ) → Grows replica (mine history replica) (mine (history ++ entry ∷ []) replica)
+pub Grows-history : (setup : Setup) (history : List Entry) (entry : Entry) → IsDue setup (part_of history entry.replica) entry → (replica : ℕ) → Grows replica (part_of history replica) (part_of (history ++ entry ∷ []) replica)
 Grows-history setup history entry due =
-    mine-push_cases history entry (λ replica part. Grows replica (mine history replica) part) (Grows-push setup (mine history entry.replica) entry due)
-    (λ replica. Grows-refl replica (mine history replica))
+    part_of-push_cases history entry (λ replica part. Grows replica (part_of history replica) part) (Grows-push setup (part_of history entry.replica) entry due)
+    (λ replica. Grows-refl replica (part_of history replica))

@@ -1,4 +1,3 @@
-pub mod ConfigLemmas
 pub mod TextLemmas
 pub mod PrefixLemmas
 pub mod RunInduction
@@ -15,8 +14,12 @@ pub mod SoundStep
 pub mod SoundRuns
 pub mod Agreement
 pub mod WorkedRun
+pub mod OriginWrites
 pub mod Placed
+pub mod StandByOrigin
+pub mod WeightsInRange
 pub mod EntriesInRange
 pub mod ClockBound
 pub mod Firsts
+pub mod SentMessages
 pub mod BoardText

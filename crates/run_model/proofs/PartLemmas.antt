@@ -7,10 +7,10 @@ use Rattle.std.proofs.lemmas.List.Elements.{filter-append, filter_map-append, Al
 use Rattle.std.proofs.lemmas.List.Sums.{length-filter, count_by-le-length}
 use Rattle.tact_base.proofs.ListLemmas.{fold-push}
 use Rattle.tact_base.specs.declared.write.Write.{Write}
-use Rattle.run_model.specs.Histories.{mine, last_moment, sent_in, taken_in, taken_from, sent_by_act, taken_by_act, is_call_of, calls_in, greatest}
+use Rattle.run_model.specs.Histories.{part_of, last_moment, sent_in, taken_in, taken_from, sent_by_act, taken_by_act, is_call_of, calls_in, greatest}
 use Rattle.run_model.specs.OwnWrites.{own, accepted_by}
 use Rattle.tact_base.specs.Covers.{no_cover}
-use Rattle.run_model.specs.Kept.{keeping, keeping_after, known, told_have}
+use Rattle.run_model.specs.Taking.{origin_state, after_taking, known, told_have}
 use Rattle.run_model.specs.declared.entry.Entry.{Entry}
 use Rattle.run_model.specs.declared.entry.Message.{Message}
 
@@ -48,25 +48,25 @@ greatest-is_least (x ∷ numbers) most all =
 
 -- One more entry of a history.
 module _ (history : List Entry) (entry : Entry) (replica : ℕ) where
-  pub mine-push_same : entry.replica ≡ replica → mine (history ++ entry ∷ []) replica ≡ mine history replica ++ entry ∷ []
-  mine-push_same same =
+  pub part_of-push_same : entry.replica ≡ replica → part_of (history ++ entry ∷ []) replica ≡ part_of history replica ++ entry ∷ []
+  part_of-push_same same =
       let test : (entry.replica == replica) ≡ true = eq-eqb entry.replica replica same in
       filter-append (λ (e : Entry). e.replica == replica) history (entry ∷ [])
-      ∙ ap (λ yes. mine history replica ++ cond yes (entry ∷ []) []) test
+      ∙ ap (λ yes. part_of history replica ++ cond yes (entry ∷ []) []) test
 
-  pub mine-push_other : (entry.replica ≡ replica → ⊥) → mine (history ++ entry ∷ []) replica ≡ mine history replica
-  mine-push_other other =
+  pub part_of-push_other : (entry.replica ≡ replica → ⊥) → part_of (history ++ entry ∷ []) replica ≡ part_of history replica
+  part_of-push_other other =
       let test : (entry.replica == replica) ≡ false = ne_eqb entry.replica replica other in
       filter-append (λ (e : Entry). e.replica == replica) history (entry ∷ [])
-      ∙ ap (λ yes. mine history replica ++ cond yes (entry ∷ []) []) test ∙ append-nil (mine history replica)
+      ∙ ap (λ yes. part_of history replica ++ cond yes (entry ∷ []) []) test ∙ append-nil (part_of history replica)
 
 -- what holds of the part that has the entry, and of those that don't, holds of each
-pub mine-push_cases : (history : List Entry) (entry : Entry) (Q : ℕ → List Entry → Type 0) → Q entry.replica (mine history entry.replica ++ entry ∷ []) → ((replica : ℕ) → Q replica (mine history replica)) → (replica : ℕ) → Q replica (mine (history ++ entry ∷ []) replica)
-mine-push_cases history entry Q here elsewhere replica = ⊎_elim
+pub part_of-push_cases : (history : List Entry) (entry : Entry) (Q : ℕ → List Entry → Type 0) → Q entry.replica (part_of history entry.replica ++ entry ∷ []) → ((replica : ℕ) → Q replica (part_of history replica)) → (replica : ℕ) → Q replica (part_of (history ++ entry ∷ []) replica)
+part_of-push_cases history entry Q here elsewhere replica = ⊎_elim
     (λ (same : entry.replica ≡ replica).
-    subst (Q replica) (sym (mine-push_same history entry replica same)) (subst (λ r. Q r (mine history r ++ entry ∷ [])) same here))
+    subst (Q replica) (sym (part_of-push_same history entry replica same)) (subst (λ r. Q r (part_of history r ++ entry ∷ [])) same here))
     (λ (other : entry.replica ≡ replica → ⊥).
-    subst (Q replica) (sym (mine-push_other history entry replica other)) (elsewhere replica))
+    subst (Q replica) (sym (part_of-push_other history entry replica other)) (elsewhere replica))
     (cases_eq entry.replica replica)
 
 -- the length of a list that has an element or none
@@ -114,13 +114,13 @@ module _ (part : List Entry) (entry : Entry) where
   taken_in-push_some message some = taken_in-push ∙ ap (λ o. taken_in part ++ cons_option o []) some
 
   -- what is kept of an origin
-  pub keeping-push_none : (origin : ℕ) → taken_by entry ≡ None → keeping (part ++ entry ∷ []) origin ≡ keeping part origin
-  keeping-push_none origin none = ap (fold (keeping_after origin) (record { log = []; cover = no_cover })) (taken_in-push_none none)
+  pub origin_state-push_none : (origin : ℕ) → taken_by entry ≡ None → origin_state (part ++ entry ∷ []) origin ≡ origin_state part origin
+  origin_state-push_none origin none = ap (fold (after_taking origin) (record { log = []; cover = no_cover })) (taken_in-push_none none)
 
-  pub keeping-push_some : (origin : ℕ) (message : Message) → taken_by entry ≡ Some message → keeping (part ++ entry ∷ []) origin ≡ keeping_after origin (keeping part origin) message
-  keeping-push_some origin message some =
-      ap (fold (keeping_after origin) (record { log = []; cover = no_cover })) (taken_in-push_some message some)
-      ∙ fold-push (keeping_after origin) (record { log = []; cover = no_cover }) (taken_in part) message
+  pub origin_state-push_some : (origin : ℕ) (message : Message) → taken_by entry ≡ Some message → origin_state (part ++ entry ∷ []) origin ≡ after_taking origin (origin_state part origin) message
+  origin_state-push_some origin message some =
+      ap (fold (after_taking origin) (record { log = []; cover = no_cover })) (taken_in-push_some message some)
+      ∙ fold-push (after_taking origin) (record { log = []; cover = no_cover }) (taken_in part) message
 
   -- what a peer is known to have
   pub known-push_none : (peer origin : ℕ) → taken_by entry ≡ None → known (part ++ entry ∷ []) peer origin ≡ known part peer origin
@@ -152,16 +152,7 @@ module _ (part : List Entry) (entry : Entry) where
       ap (λ messages. greatest (map (λ (m : Message). told_have m origin) messages)) list
 
 -- a part is no longer than the history
-pub length-mine : (history : List Entry) (replica : ℕ) → length (mine history replica) ≤ length history
+pub length-mine : (history : List Entry) (replica : ℕ) → length (part_of history replica) ≤ length history
 length-mine history replica =
     let test = λ (entry : Entry). entry.replica == replica in
     omega (arith, length-filter test history, count_by-le-length test history)
-
--- what a filter gives is no longer than the list
-pub length-filter_map : {X Y : Type 0} (f : X → Option Y) (xs : List X) → length (filter_map f xs) ≤ length xs
-length-filter_map f [] = omega arith
-length-filter_map {X} {Y} f (x ∷ xs) = go (f x) (length-filter_map f xs)
-  where
-    go : (here : Option Y) → length (filter_map f xs) ≤ length xs → length (cons_option here (filter_map f xs)) ≤ suc (length xs)
-    go None few = omega (arith, few)
-    go (Some y) few = omega (arith, few)

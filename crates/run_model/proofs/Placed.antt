@@ -5,32 +5,11 @@ use Rattle.std.proofs.lemmas.Bool.{eq-eqb, ne_eqb}
 use Rattle.std.proofs.lemmas.List.{append-nil, take_all, length-map, length-drop, get_or-drop, get_or-map, ext_get_or}
 use Rattle.std.proofs.lemmas.List.Elements.{All-weaker, All-take, filter-append}
 use Rattle.std.proofs.lemmas.List.FromFn.{length-range_with_len, get_or-range_with_len}
-use Rattle.tact_base.proofs.ListLemmas.{All-flat_map, All-range, filter_all, filter_none, flat_map_agree}
+use Rattle.tact_base.proofs.ListLemmas.{All-flat_map, All-range, filter_all, filter_none, flat_map_agree, take-append}
 use Rattle.tact_base.specs.declared.write.Write.{Write}
 use Rattle.run_model.specs.Histories.{IsPrefix}
+use Rattle.run_model.proofs.OriginWrites.{from_one, from_one-all, from_one-none}
 use Rattle.run_model.proofs.PrefixLemmas.{IsPrefix-length, IsPrefix-reads}
-
--- the writes of an origin
-abbrev from_one : ℕ → List Write → List Write
-from_one origin writes = filter (λ (write : Write). write.origin == origin) writes
-
-from_one-all : (origin : ℕ) (writes : List Write) → All (λ (write : Write). write.origin ≡ origin) writes → from_one origin writes ≡ writes
-from_one-all origin writes each =
-    filter_all (λ (write : Write). write.origin == origin) writes
-    (All-weaker (λ (write : Write). write.origin ≡ origin) (λ (write : Write). (write.origin == origin) ≡ true) (λ write is. eq-eqb write.origin origin is) writes each)
-
-from_one-none : (origin : ℕ) (writes : List Write) → All (λ (write : Write). write.origin ≢ origin) writes → from_one origin writes ≡ []
-from_one-none origin writes each =
-    filter_none (λ (write : Write). write.origin == origin) writes
-    (All-weaker (λ (write : Write). write.origin ≢ origin) (λ (write : Write). (write.origin == origin) ≡ false) (λ write isnt. ne_eqb write.origin origin isnt) writes each)
-
--- a front of joined lists is a front of the first and one of the second
-take-append : (n : ℕ) (xs ys : List Write) → take n (xs ++ ys) ≡ take n xs ++ take (n - length xs) ys
-take-append zero xs ys = let none : 0 - length xs ≡ 0 = omega arith in rw none refl
-take-append (suc n) [] ys = let all : suc n - 0 ≡ suc n = omega arith in rw all refl
-take-append (suc n) (x ∷ xs) ys =
-    let less : suc n - suc (length xs) ≡ n - length xs = omega arith in
-    rw less (ap (λ rest. x ∷ rest) (take-append n xs ys))
 
 -- writes of one origin, and then writes of others, stand by origin if those do
 placed-more : (origin start len : ℕ) (ours others : List Write) → origin < start → All (λ (write : Write). write.origin ≡ origin) ours → All (λ (write : Write). write.origin ≢ origin) others

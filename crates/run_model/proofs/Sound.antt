@@ -2,15 +2,15 @@
 use Rattle.std.proofs.Common.{◌≡◌, ℕ, ◌<◌, ◌≤◌, List, length, get_or, drop, All, AllPairs}
 use Rattle.tact_base.specs.declared.write.Cover.{Cover}
 use Rattle.tact_base.specs.declared.write.Write.{Write}
-use Rattle.run_model.specs.Config.{Setup}
-use Rattle.run_model.specs.Histories.{mine, last_moment, sent_in, IsPrefix}
+use Rattle.tact_base.specs.Setup.{Setup}
+use Rattle.run_model.specs.Histories.{part_of, last_moment, sent_in, IsPrefix}
 use Rattle.run_model.specs.OwnWrites.{own}
-use Rattle.run_model.specs.Kept.{Keeping, keeping, told_have, told_cover, told_first, told_writes, have, clock, known}
+use Rattle.run_model.specs.Taking.{OriginState, origin_state, told_have, told_cover, told_first, told_writes, have, clock, known}
 use Rattle.run_model.specs.declared.entry.Entry.{Entry}
 use Rattle.run_model.specs.declared.entry.Message.{Message}
 
 -- writes of one replica stand in order
-pub record AreInOrder (replica : ℕ) (writes : List Write) : Type 0 where
+pub record AreNumbered (replica : ℕ) (writes : List Write) : Type 0 where
   pub origins : All (λ (write : Write). write.origin ≡ replica) writes
   pub indices : (place : ℕ) (d : Write) → place < length writes → (get_or writes place d).index ≡ place
   pub stamps : AllPairs (λ (one other : Write). one.stamp < other.stamp) writes
@@ -18,8 +18,8 @@ pub record AreInOrder (replica : ℕ) (writes : List Write) : Type 0 where
   pub stamps_least : All (λ (write : Write). 1 ≤ write.stamp) writes
 
 -- so do the own writes of a part, up to its clock and its last moment
-pub record IsInOrder (replica : ℕ) (part : List Entry) : Type 0 where
-  pub writes : AreInOrder replica (own part)
+pub record IsNumbered (replica : ℕ) (part : List Entry) : Type 0 where
+  pub writes : AreNumbered replica (own part)
   pub open writes use *
   pub stamps_most : All (λ (write : Write). write.stamp ≤ clock part) (own part)
   pub moments_most : All (λ (write : Write). write.moment ≤ last_moment part) (own part)
@@ -32,7 +32,7 @@ pub record Vouches (part : List Entry) (cover : Cover) : Type 0 where
   pub later : All (λ (write : Write). cover.count ≤ write.index → (cover.stamp < write.stamp) × (cover.moment ≤ write.moment)) (own part)
 
 -- what a replica with this clock keeps of an origin that has this part
-pub record IsSoundKeeping (clock : ℕ) (kept : Keeping) (part : List Entry) : Type 0 where
+pub record IsSoundKeeping (clock : ℕ) (kept : OriginState) (part : List Entry) : Type 0 where
   pub log : IsPrefix kept.log (own part)
   pub stamps : All (λ (write : Write). write.stamp ≤ clock) kept.log
   pub cover : Vouches part kept.cover
@@ -49,7 +49,7 @@ pub record IsSoundTold (message : Message) (origin had : ℕ) (part : List Entry
 -- a message that a replica sent
 pub record IsSoundMessage (history : List Entry) (sender : ℕ) (message : Message) : Type 0 where
   pub from : message.from ≡ sender
-  pub told : (origin : ℕ) → IsSoundTold message origin (have sender (mine history sender) origin) (mine history origin)
+  pub told : (origin : ℕ) → IsSoundTold message origin (have sender (part_of history sender) origin) (part_of history origin)
   pub stamps : All (λ (write : Write). write.stamp ≤ (told_cover message sender).stamp) message.writes
 
 -- the number of each message is its place
@@ -59,11 +59,11 @@ HaveTheirPlaces messages = (place : ℕ) (d : Message) → place < length messag
 -- a history whose parts fit together
 pub record Sound (setup : Setup) (history : List Entry) : Type 0 where
   -- own writes are in order
-  pub own : (replica : ℕ) → IsInOrder replica (mine history replica)
+  pub own : (replica : ℕ) → IsNumbered replica (part_of history replica)
   -- logs are beginnings, and covers vouch
-  pub kept : (replica origin : ℕ) → IsSoundKeeping (clock (mine history replica)) (keeping (mine history replica) origin) (mine history origin)
+  pub kept : (replica origin : ℕ) → IsSoundKeeping (clock (part_of history replica)) (origin_state (part_of history replica) origin) (part_of history origin)
   -- what is known of a peer, the peer has
-  pub known : (replica peer origin : ℕ) → known (mine history replica) peer origin ≤ have peer (mine history peer) origin
+  pub known : (replica peer origin : ℕ) → known (part_of history replica) peer origin ≤ have peer (part_of history peer) origin
   -- sent messages tell no more than what is so, and the number of one is its place
-  pub sent : (replica : ℕ) → All (IsSoundMessage history replica) (sent_in (mine history replica))
-  pub numbers : (replica : ℕ) → HaveTheirPlaces (sent_in (mine history replica))
+  pub sent : (replica : ℕ) → All (IsSoundMessage history replica) (sent_in (part_of history replica))
+  pub numbers : (replica : ℕ) → HaveTheirPlaces (sent_in (part_of history replica))

@@ -5,23 +5,24 @@ use Rattle.std.proofs.lemmas.List.Elements.{All-append, All-weaker, All-drop}
 use Rattle.tact_base.specs.Logs.{log_after}
 use Rattle.tact_base.specs.declared.write.Cover.{Cover}
 use Rattle.tact_base.specs.declared.write.Write.{Write}
-use Rattle.tact_base.proofs.KeepingLemmas.{log_after-le, log_after-cases, cover_after-cases}
+use Rattle.tact_base.proofs.LogsLemmas.{log_after-le, log_after-cases}
+use Rattle.tact_base.proofs.CoversLemmas.{cover_after-cases}
 use Rattle.run_model.specs.Histories.{IsPrefix}
 use Rattle.run_model.specs.OwnWrites.{own}
 use Rattle.tact_base.specs.Covers.{no_cover}
-use Rattle.run_model.specs.Kept.{Keeping, keeping_after, told_cover, told_first, told_writes, clock}
+use Rattle.run_model.specs.Taking.{OriginState, after_taking, told_cover, told_first, told_writes, clock}
 use Rattle.run_model.specs.declared.entry.Entry.{Entry}
 use Rattle.run_model.specs.declared.entry.Message.{Message}
 use Rattle.run_model.proofs.PrefixLemmas.{IsPrefix-trans, IsPrefix-stretch}
 use Rattle.run_model.proofs.Growth.{IsLater, Grows}
-use Rattle.run_model.proofs.Sound.{IsInOrder, Vouches, IsSoundKeeping, IsSoundTold}
+use Rattle.run_model.proofs.Sound.{IsNumbered, Vouches, IsSoundKeeping, IsSoundTold}
 
 -- what a part has stands at the beginning of what it goes on to
 pub own-prefix : (replica : ℕ) (before after : List Entry) → Grows replica before after → IsPrefix (own before) (own after)
 own-prefix replica before after grows = (grows.new, grows.own)
 
 -- the empty cover vouches for any part
-pub Vouches-empty : (replica : ℕ) (part : List Entry) → IsInOrder replica part → Vouches part no_cover
+pub Vouches-empty : (replica : ℕ) (part : List Entry) → IsNumbered replica part → Vouches part no_cover
 Vouches-empty replica part sound = record {
   count = omega arith;
   stamp = omega arith;
@@ -42,7 +43,7 @@ Vouches-grows replica before after cover grows vouches =
       later = subst (All P) (sym grows.own) (All-append P (own before) grows.new vouches.later new);
     }
 
-pub IsSoundKeeping-grows : (low high : ℕ) (kept : Keeping) (origin : ℕ) (before after : List Entry) → low ≤ high → Grows origin before after → IsSoundKeeping low kept before → IsSoundKeeping high kept after
+pub IsSoundKeeping-grows : (low high : ℕ) (kept : OriginState) (origin : ℕ) (before after : List Entry) → low ≤ high → Grows origin before after → IsSoundKeeping low kept before → IsSoundKeeping high kept after
 IsSoundKeeping-grows low high kept origin before after rises grows sound = record {
   log = IsPrefix-trans kept.log (own before) (own after) sound.log (own-prefix origin before after grows);
   stamps = All-weaker (λ (write : Write). write.stamp ≤ low) (λ (write : Write). write.stamp ≤ high) (λ write below. omega (arith, below)) kept.log sound.stamps;
@@ -51,8 +52,8 @@ IsSoundKeeping-grows low high kept origin before after rises grows sound = recor
 }
 
 -- A sound message is taken.
-pub IsSoundKeeping-after : (clock : ℕ) (origin : ℕ) (kept : Keeping) (message : Message) (had : ℕ) (part : List Entry) → IsSoundTold message origin had part
-    → All (λ (write : Write). write.stamp ≤ clock) (told_writes message origin) → IsSoundKeeping clock kept part → IsSoundKeeping clock (keeping_after origin kept message) part
+pub IsSoundKeeping-after : (clock : ℕ) (origin : ℕ) (kept : OriginState) (message : Message) (had : ℕ) (part : List Entry) → IsSoundTold message origin had part
+    → All (λ (write : Write). write.stamp ≤ clock) (told_writes message origin) → IsSoundKeeping clock kept part → IsSoundKeeping clock (after_taking origin kept message) part
 IsSoundKeeping-after clock origin kept message had part told below sound =
     let first = told_first message origin in
     let writes = told_writes message origin in

@@ -7,17 +7,17 @@ use Rattle.tact_base.proofs.ListLemmas.{All-flat_map, All-range, filter_all, fil
 use Rattle.tact_base.specs.declared.limits.TheConstants.{MESSAGE_WRITES}
 use Rattle.tact_base.specs.declared.write.Cover.{Cover}
 use Rattle.tact_base.specs.declared.write.Write.{Write}
-use Rattle.run_model.specs.Config.{Setup}
-use Rattle.run_model.specs.Histories.{mine, last_moment, replicas_of, IsPrefix}
+use Rattle.tact_base.specs.Setup.{Setup, replicas_of}
+use Rattle.run_model.specs.Histories.{part_of, last_moment, IsPrefix}
 use Rattle.run_model.specs.OwnWrites.{own}
 use Rattle.tact_base.specs.Covers.{no_cover}
-use Rattle.run_model.specs.Kept.{keeping, told_have, told_cover, told_first, told_writes, log_of, have, clock, cover_of, known}
+use Rattle.run_model.specs.Taking.{origin_state, told_have, told_cover, told_first, told_writes, log_of, have, clock, cover_of, known}
 use Rattle.run_model.specs.Messages.{first_for, message_of}
 use Rattle.run_model.specs.declared.entry.Entry.{Entry}
 use Rattle.run_model.specs.declared.entry.Message.{Message}
 use Rattle.run_model.proofs.PrefixLemmas.{IsPrefix-nil, IsPrefix-trans, IsPrefix-take, IsPrefix-filter, IsPrefix-drop}
 use Rattle.run_model.proofs.Growth.{Grows}
-use Rattle.run_model.proofs.Sound.{IsInOrder, Vouches, IsSoundTold, IsSoundMessage, Sound}
+use Rattle.run_model.proofs.Sound.{IsNumbered, Vouches, IsSoundTold, IsSoundMessage, Sound}
 use Rattle.run_model.proofs.SoundKeeping.{own-prefix, Vouches-empty, Vouches-grows}
 use Rattle.run_model.proofs.SoundViews.{own_cover, cover_of-same, cover_of-other, Vouches-own, Sound-log, Sound-origins, Sound-stamps, Sound-count}
 
@@ -32,10 +32,10 @@ IsSoundTold-grows message origin had has before after more grows told = record {
   count = told.count;
 }
 
-pub IsSoundMessage-grows : (history further : List Entry) (sender : ℕ) (message : Message) → ((replica : ℕ) → Grows replica (mine history replica) (mine further replica)) → IsSoundMessage history sender message → IsSoundMessage further sender message
+pub IsSoundMessage-grows : (history further : List Entry) (sender : ℕ) (message : Message) → ((replica : ℕ) → Grows replica (part_of history replica) (part_of further replica)) → IsSoundMessage history sender message → IsSoundMessage further sender message
 IsSoundMessage-grows history further sender message grows sound = record {
   from = sound.from;
-  told = λ origin. IsSoundTold-grows message origin (have sender (mine history sender) origin) (have sender (mine further sender) origin) (mine history origin) (mine further origin) ((grows sender).have origin) (grows origin) (sound.told origin);
+  told = λ origin. IsSoundTold-grows message origin (have sender (part_of history sender) origin) (have sender (part_of further sender) origin) (part_of history origin) (part_of further origin) ((grows sender).have origin) (grows origin) (sound.told origin);
   stamps = sound.stamps;
 }
 
@@ -66,7 +66,7 @@ module _ (writes_of : ℕ → List Write) (each : (origin : ℕ) → All (λ (wr
 -- The message that a replica sends after a sound history, at a moment.
 module _ (setup : Setup) (history : List Entry) (sound : Sound setup history) (replica : ℕ) (at to : ℕ) (given : List ℕ) where
   abbrev part : List Entry
-  part = mine history replica
+  part = part_of history replica
 
   abbrev message : Message
   message = message_of setup replica part at to given
@@ -114,12 +114,12 @@ module _ (setup : Setup) (history : List Entry) (sound : Sound setup history) (r
 
   -- What it tells of an origin, where the sender has at least as many of its writes later on, and the origin's part goes on.
   module _ (origin had : ℕ) (later : List Entry) where
-    told_within : origin < setup.replicas → have replica part origin ≤ had → IsPrefix (own (mine history origin)) (own later) → Vouches later (cover_of replica part at origin) → IsSoundTold message origin had later
+    told_within : origin < setup.replicas → have replica part origin ≤ had → IsPrefix (own (part_of history origin)) (own later) → Vouches later (cover_of replica part at origin) → IsSoundTold message origin had later
     told_within within more prefix vouches =
         let has : told_have message origin ≡ have replica part origin = get_or-map_range (have replica part) setup.replicas origin 0 within in
         let first : told_first message origin ≡ first_for replica part to given origin = get_or-map_range (first_for replica part to given) setup.replicas origin 0 within in
         let cover : told_cover message origin ≡ cover_of replica part at origin = get_or-map_range (cover_of replica part at) setup.replicas origin no_cover within in
-        let log : IsPrefix (log_of replica part origin) (own later) = IsPrefix-trans (log_of replica part origin) (own (mine history origin)) (own later) (Sound-log setup history sound replica origin) prefix in
+        let log : IsPrefix (log_of replica part origin) (own later) = IsPrefix-trans (log_of replica part origin) (own (part_of history origin)) (own later) (Sound-log setup history sound replica origin) prefix in
         let front : IsPrefix (told_writes message origin) (drop (first_for replica part to given origin) (own later)) =
         IsPrefix-trans (told_writes message origin) (onward origin) (drop (first_for replica part to given origin) (own later)) (told_writes-within origin within)
         (IsPrefix-drop (first_for replica part to given origin) (log_of replica part origin) (own later) log) in
@@ -132,7 +132,7 @@ module _ (setup : Setup) (history : List Entry) (sound : Sound setup history) (r
         }
 
     -- of what is no replica it tells nothing
-    told_past : setup.replicas ≤ origin → IsInOrder origin later → IsSoundTold message origin had later
+    told_past : setup.replicas ≤ origin → IsNumbered origin later → IsSoundTold message origin had later
     told_past past in_order =
         let has : told_have message origin ≡ 0 = get_or-map_range_past (have replica part) setup.replicas origin 0 past in
         let first : told_first message origin ≡ 0 = get_or-map_range_past (first_for replica part to given) setup.replicas origin 0 past in
@@ -146,24 +146,24 @@ module _ (setup : Setup) (history : List Entry) (sound : Sound setup history) (r
         }
 
   -- It is sound in a history that goes on with no write and no higher clock of its sender, whose last moment is that of the message.
-  pub IsSoundMessage-sent : (further : List Entry) → replica < setup.replicas → ((other : ℕ) → Grows other (mine history other) (mine further other)) → own (mine further replica) ≡ own part → clock (mine further replica) ≡ clock part → last_moment (mine further replica) ≡ at
-      → ((other : ℕ) → IsInOrder other (mine further other)) → IsSoundMessage further replica message
+  pub IsSoundMessage-sent : (further : List Entry) → replica < setup.replicas → ((other : ℕ) → Grows other (part_of history other) (part_of further other)) → own (part_of further replica) ≡ own part → clock (part_of further replica) ≡ clock part → last_moment (part_of further replica) ≡ at
+      → ((other : ℕ) → IsNumbered other (part_of further other)) → IsSoundMessage further replica message
   IsSoundMessage-sent further within grows same_own same_clock last in_order = record {
     from = refl;
     told = λ origin. ⊎_elim
         (λ (inside : origin < setup.replicas).
-        told_within origin (have replica (mine further replica) origin) (mine further origin) inside ((grows replica).have origin) (own-prefix origin (mine history origin) (mine further origin) (grows origin)) (vouches origin))
-        (λ (past : setup.replicas ≤ origin). told_past origin (have replica (mine further replica) origin) (mine further origin) past (in_order origin))
+        told_within origin (have replica (part_of further replica) origin) (part_of further origin) inside ((grows replica).have origin) (own-prefix origin (part_of history origin) (part_of further origin) (grows origin)) (vouches origin))
+        (λ (past : setup.replicas ≤ origin). told_past origin (have replica (part_of further replica) origin) (part_of further origin) past (in_order origin))
         (cases_lt origin setup.replicas);
     stamps = sent_stamps within;
   }
     where
-      vouches : (origin : ℕ) → Vouches (mine further origin) (cover_of replica part at origin)
+      vouches : (origin : ℕ) → Vouches (part_of further origin) (cover_of replica part at origin)
       vouches origin = ⊎_elim
           (λ (same : origin ≡ replica).
-          let own_one : Vouches (mine further replica) (own_cover (mine further replica) at) = Vouches-own replica (mine further replica) at (in_order replica) (omega (arith, last)) in
-          let is : own_cover (mine further replica) at ≡ own_cover part at = ap₂ (λ writes stamp. record { count = length writes; stamp = stamp; moment = at }) same_own same_clock in
-          rw (same, cover_of-same replica part at) (subst (Vouches (mine further replica)) is own_one))
+          let own_one : Vouches (part_of further replica) (own_cover (part_of further replica) at) = Vouches-own replica (part_of further replica) at (in_order replica) (omega (arith, last)) in
+          let is : own_cover (part_of further replica) at ≡ own_cover part at = ap₂ (λ writes stamp. record { count = length writes; stamp = stamp; moment = at }) same_own same_clock in
+          rw (same, cover_of-same replica part at) (subst (Vouches (part_of further replica)) is own_one))
           (λ (other : origin ≡ replica → ⊥).
-          rw (cover_of-other replica part at origin other) (Vouches-grows origin (mine history origin) (mine further origin) (keeping part origin).cover (grows origin) (sound.kept replica origin).cover))
+          rw (cover_of-other replica part at origin other) (Vouches-grows origin (part_of history origin) (part_of further origin) (origin_state part origin).cover (grows origin) (sound.kept replica origin).cover))
           (cases_eq origin replica)

@@ -5,21 +5,21 @@ use Rattle.std.proofs.lemmas.List.{length_push, get_or_append_left, get_or_push}
 use Rattle.std.proofs.lemmas.List.Elements.{All-push, All-weaker}
 use Rattle.std.proofs.lemmas.List.Quantifiers.{all_pairs_push}
 use Rattle.tact_base.specs.declared.write.Write.{Write}
-use Rattle.run_model.specs.Config.{Setup}
+use Rattle.tact_base.specs.Setup.{Setup}
 use Rattle.run_model.specs.Histories.{last_moment}
 use Rattle.run_model.specs.OwnWrites.{own}
-use Rattle.run_model.specs.Kept.{clock}
+use Rattle.run_model.specs.Taking.{clock}
 use Rattle.run_model.specs.Runs.{IsDue}
 use Rattle.run_model.specs.declared.entry.Entry.{Entry}
 use Rattle.run_model.proofs.PartLemmas.{accepted_in, own-push_none, own-push_some, last_moment-push}
 use Rattle.run_model.proofs.ClockLemmas.{own-le-clock}
 use Rattle.run_model.proofs.Accepted.{accepted_is_next}
-use Rattle.run_model.proofs.Sound.{AreInOrder, IsInOrder}
+use Rattle.run_model.proofs.Sound.{AreNumbered, IsNumbered}
 
 -- one more write, later than those before it
-AreInOrder-push : (replica : ℕ) (writes : List Write) (write : Write) → write.origin ≡ replica → write.index ≡ length writes → All (λ (earlier : Write). earlier.stamp < write.stamp) writes → All (λ (earlier : Write). earlier.moment ≤ write.moment) writes → 1 ≤ write.stamp
-    → AreInOrder replica writes → AreInOrder replica (writes ++ write ∷ [])
-AreInOrder-push replica writes write origin index above after least in_order = record {
+AreNumbered-push : (replica : ℕ) (writes : List Write) (write : Write) → write.origin ≡ replica → write.index ≡ length writes → All (λ (earlier : Write). earlier.stamp < write.stamp) writes → All (λ (earlier : Write). earlier.moment ≤ write.moment) writes → 1 ≤ write.stamp
+    → AreNumbered replica writes → AreNumbered replica (writes ++ write ∷ [])
+AreNumbered-push replica writes write origin index above after least in_order = record {
   origins = All-push (λ (w : Write). w.origin ≡ replica) writes write in_order.origins origin;
   indices = λ place d within. ⊎_elim
       (λ (earlier : place < length writes). rw (get_or_append_left writes (write ∷ []) d place earlier) (in_order.indices place d earlier))
@@ -33,13 +33,13 @@ AreInOrder-push replica writes write origin index above after least in_order = r
 }
 
 -- One more entry of a part.
-module _ (setup : Setup) (part : List Entry) (entry : Entry) (due : IsDue setup part entry) (sound : IsInOrder entry.replica part) where
-  writes-push : (accepted : Option Write) → accepted_in entry ≡ accepted → AreInOrder entry.replica (own (part ++ entry ∷ []))
-  writes-push None none = subst (AreInOrder entry.replica) (sym (own-push_none part entry none)) sound.writes
+module _ (setup : Setup) (part : List Entry) (entry : Entry) (due : IsDue setup part entry) (sound : IsNumbered entry.replica part) where
+  writes-push : (accepted : Option Write) → accepted_in entry ≡ accepted → AreNumbered entry.replica (own (part ++ entry ∷ []))
+  writes-push None none = subst (AreNumbered entry.replica) (sym (own-push_none part entry none)) sound.writes
   writes-push (Some write) some =
       let next = accepted_is_next setup part entry write due some in
-      subst (AreInOrder entry.replica) (sym (own-push_some part entry write some))
-      (AreInOrder-push entry.replica (own part) write next.origin next.index
+      subst (AreNumbered entry.replica) (sym (own-push_some part entry write some))
+      (AreNumbered-push entry.replica (own part) write next.origin next.index
       (All-weaker (λ (w : Write). w.stamp ≤ clock part) (λ (w : Write). w.stamp < write.stamp) (λ w below. omega (arith, below, next.stamp)) (own part) sound.stamps_most)
       (All-weaker (λ (w : Write). w.moment ≤ last_moment part) (λ (w : Write). w.moment ≤ write.moment) (λ w before. omega (arith, before, next.moment, due.moment)) (own part) sound.moments_most)
       (omega (arith, next.stamp)) sound.writes)
@@ -57,8 +57,8 @@ module _ (setup : Setup) (part : List Entry) (entry : Entry) (due : IsDue setup 
           subst (All (λ (write : Write). write.moment ≤ entry.moment)) (sym (own-push_some part entry write some))
           (All-push (λ (write : Write). write.moment ≤ entry.moment) (own part) write before (le_of_eq (accepted_is_next setup part entry write due some).moment))
 
-  pub IsInOrder-push : IsInOrder entry.replica (part ++ entry ∷ [])
-  IsInOrder-push = record {
+  pub IsNumbered-push : IsNumbered entry.replica (part ++ entry ∷ [])
+  IsNumbered-push = record {
     writes = writes-push (accepted_in entry) refl;
     stamps_most = own-le-clock (part ++ entry ∷ []);
     moments_most = subst (λ last. All (λ (write : Write). write.moment ≤ last) (own (part ++ entry ∷ []))) (sym (last_moment-push part entry)) (moments-push (accepted_in entry) refl);

@@ -4,19 +4,19 @@ use Rattle.std.proofs.lemmas.List.{append-nil, append_assoc}
 use Rattle.std.proofs.lemmas.List.Elements.{All-nil}
 use Rattle.tact_base.proofs.ListLemmas.{from_right}
 use Rattle.tact_base.specs.declared.write.Write.{Write}
-use Rattle.run_model.specs.Config.{Setup}
-use Rattle.run_model.specs.Histories.{mine, IsPrefix}
+use Rattle.tact_base.specs.Setup.{Setup}
+use Rattle.run_model.specs.Histories.{part_of, IsPrefix}
 use Rattle.run_model.specs.Runs.{IsLawful, IsRun}
 use Rattle.run_model.specs.declared.entry.Entry.{Entry}
 use Rattle.run_model.proofs.PrefixLemmas.{IsPrefix-nil, IsPrefix-append, EachAfter-last}
 use Rattle.run_model.proofs.RunInduction.{IsRun-prefix, over_runs}
 use Rattle.run_model.proofs.Growth.{Grows, Grows-refl, Grows-trans, Grows-history}
-use Rattle.run_model.proofs.Sound.{AreInOrder, IsInOrder, IsSoundMessage, Sound}
+use Rattle.run_model.proofs.Sound.{AreNumbered, IsNumbered, IsSoundMessage, Sound}
 use Rattle.run_model.proofs.SoundKeeping.{Vouches-empty}
 use Rattle.run_model.proofs.SoundStep.{Sound-push}
 
-AreInOrder-nil : (replica : ℕ) → AreInOrder replica []
-AreInOrder-nil replica = record {
+AreNumbered-nil : (replica : ℕ) → AreNumbered replica []
+AreNumbered-nil replica = record {
   origins = All-nil (λ (write : Write). write.origin ≡ replica);
   indices = λ place d within. absurd (omega arith);
   stamps = λ one other d before within. absurd (omega arith);
@@ -24,9 +24,9 @@ AreInOrder-nil replica = record {
   stamps_least = All-nil (λ (write : Write). 1 ≤ write.stamp);
 }
 
-pub IsInOrder-nil : (replica : ℕ) → IsInOrder replica []
-IsInOrder-nil replica = record {
-  writes = AreInOrder-nil replica;
+pub IsNumbered-nil : (replica : ℕ) → IsNumbered replica []
+IsNumbered-nil replica = record {
+  writes = AreNumbered-nil replica;
   stamps_most = All-nil (λ (write : Write). write.stamp ≤ 0);
   moments_most = All-nil (λ (write : Write). write.moment ≤ 0);
 }
@@ -34,11 +34,11 @@ IsInOrder-nil replica = record {
 -- the empty history
 pub Sound-nil : (setup : Setup) → Sound setup []
 Sound-nil setup = record {
-  own = IsInOrder-nil;
+  own = IsNumbered-nil;
   kept = λ replica origin. record {
     log = IsPrefix-nil [];
     stamps = All-nil (λ (write : Write). write.stamp ≤ 0);
-    cover = Vouches-empty origin [] (IsInOrder-nil origin);
+    cover = Vouches-empty origin [] (IsNumbered-nil origin);
     count = omega arith;
   };
   known = λ replica peer origin. omega arith;
@@ -54,17 +54,17 @@ pub Sound-prefix : (setup : Setup) (front history : List Entry) → IsRun setup 
 Sound-prefix setup front history run prefix = Sound-run setup front (IsRun-prefix setup front history prefix run)
 
 -- each part grows from where a prefix leaves it
-Grows-onward : (setup : Setup) (front rest : List Entry) → IsRun setup (front ++ rest) → (replica : ℕ) → Grows replica (mine front replica) (mine (front ++ rest) replica)
-Grows-onward setup front rest = from_right (λ rest. IsRun setup (front ++ rest) → (replica : ℕ) → Grows replica (mine front replica) (mine (front ++ rest) replica))
-    (λ run replica. rw (append-nil front) (Grows-refl replica (mine front replica)))
+Grows-onward : (setup : Setup) (front rest : List Entry) → IsRun setup (front ++ rest) → (replica : ℕ) → Grows replica (part_of front replica) (part_of (front ++ rest) replica)
+Grows-onward setup front rest = from_right (λ rest. IsRun setup (front ++ rest) → (replica : ℕ) → Grows replica (part_of front replica) (part_of (front ++ rest) replica))
+    (λ run replica. rw (append-nil front) (Grows-refl replica (part_of front replica)))
     (λ rest entry grows run replica.
     let whole : IsRun setup ((front ++ rest) ++ entry ∷ []) = subst (IsRun setup) (sym (append_assoc front rest (entry ∷ []))) run in
     let before : IsRun setup (front ++ rest) = IsRun-prefix setup (front ++ rest) ((front ++ rest) ++ entry ∷ []) (IsPrefix-append (front ++ rest) (entry ∷ [])) whole in
     let lawful : IsLawful setup (front ++ rest) entry = EachAfter-last (IsLawful setup) (front ++ rest) entry whole in
-    subst (λ history. Grows replica (mine front replica) (mine history replica)) (append_assoc front rest (entry ∷ []))
-    (Grows-trans replica (mine front replica) (mine (front ++ rest) replica) (mine ((front ++ rest) ++ entry ∷ []) replica) (grows before replica) (Grows-history setup (front ++ rest) entry lawful.due replica)))
+    subst (λ history. Grows replica (part_of front replica) (part_of history replica)) (append_assoc front rest (entry ∷ []))
+    (Grows-trans replica (part_of front replica) (part_of (front ++ rest) replica) (part_of ((front ++ rest) ++ entry ∷ []) replica) (grows before replica) (Grows-history setup (front ++ rest) entry lawful.due replica)))
     rest
 
-pub Grows-run : (setup : Setup) (front history : List Entry) → IsRun setup history → IsPrefix front history → (replica : ℕ) → Grows replica (mine front replica) (mine history replica)
+pub Grows-run : (setup : Setup) (front history : List Entry) → IsRun setup history → IsPrefix front history → (replica : ℕ) → Grows replica (part_of front replica) (part_of history replica)
 Grows-run setup front history run (rest, is) replica =
-    subst (λ whole. Grows replica (mine front replica) (mine whole replica)) (sym is) (Grows-onward setup front rest (subst (IsRun setup) is run) replica)
+    subst (λ whole. Grows replica (part_of front replica) (part_of whole replica)) (sym is) (Grows-onward setup front rest (subst (IsRun setup) is run) replica)

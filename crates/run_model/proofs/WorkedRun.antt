@@ -5,8 +5,8 @@ use Rattle.tact_base.specs.declared.limits.TheConstants.{LENT_MAX}
 use Rattle.tact_base.specs.declared.conit_list.Weight.{Weight}
 use Rattle.tact_base.specs.declared.write.Op.TheVariants as op
 use Rattle.tact_base.specs.declared.write.Write.{Write}
-use Rattle.run_model.specs.Config.{Setup, setup, config_fault, IsSetup}
-use Rattle.run_model.specs.Histories.{mine}
+use Rattle.tact_base.specs.Setup.{Setup, setup, config_fault, IsSetup}
+use Rattle.run_model.specs.Histories.{part_of}
 use Rattle.run_model.specs.Messages.{message_of}
 use Rattle.run_model.specs.Order.{committed, value}
 use Rattle.run_model.specs.Ranges.{IsToldInRange, IsMessageInRange, IsWriteInRange, IsWeightInRange, AreWeightsInRange}
@@ -50,10 +50,10 @@ abbrev history : List Entry
 history = accepts ∷ sends ∷ takes ∷ []
 
 -- the write is committed there, and counts
-is_committed : committed two_replicas 1 (mine history 1) ≡ write ∷ []
+is_committed : committed two_replicas 1 (part_of history 1) ≡ write ∷ []
 is_committed = refl
 
-is_counted : value two_replicas 1 (mine history 1) 0 ≡ pos 5
+is_counted : value two_replicas 1 (part_of history 1) 0 ≡ pos 5
 is_counted = refl
 
 weights_in_range : AreWeightsInRange two_replicas (weight ∷ [])

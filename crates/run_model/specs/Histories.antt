@@ -1,26 +1,15 @@
 -- Histories and parts: what happened, in order, and what one replica did of it.
 use Rattle.std.specs.Prelude.{◌≡◌, ℕ, ◌==◌, Bool, false, not, max, List, ◌∷◌, ◌++◌, filter, fold, length, Option, None, Some}
 use Rattle.std.specs.List.{filter_map, range_with_len}
-use Rattle.run_model.specs.Config.{Setup}
+use Rattle.tact_base.specs.Setup.{Setup}
 use Rattle.run_model.specs.declared.entry.Act.{Act}
 use Rattle.run_model.specs.declared.entry.Act.TheVariants.{Call, Send, Take}
 use Rattle.run_model.specs.declared.entry.Entry.{Entry}
 use Rattle.run_model.specs.declared.entry.Message.{Message}
 
--- the replicas, and the conits, of a setup
-abbrev pub replicas_of : Setup → List ℕ
-replicas_of setup = range_with_len 0 setup.replicas
-
-abbrev pub conits_of : Setup → List ℕ
-conits_of setup = range_with_len 0 setup.conits
-
--- the replicas other than one
-abbrev pub peers_of : Setup → ℕ → List ℕ
-peers_of setup replica = filter (λ peer. not (peer == replica)) (replicas_of setup)
-
 -- the part of a replica in a history: its entries, in order
-abbrev pub mine : List Entry → ℕ → List Entry
-mine history replica = filter (λ entry. entry.replica == replica) history
+abbrev pub part_of : List Entry → ℕ → List Entry
+part_of history replica = filter (λ entry. entry.replica == replica) history
 
 -- the moment of the last entry of a part, 0 where it has none
 abbrev pub last_moment : List Entry → ℕ

@@ -1,7 +1,6 @@
-pub mod Config
 pub mod Histories
 pub mod OwnWrites
-pub mod Kept
+pub mod Taking
 pub mod Missing
 pub mod Loans
 pub mod Order

@@ -1,11 +1,12 @@
 -- The message that a replica sends (anti-entropy after Golding; the loans and the covers are this project's own).
-use Rattle.std.specs.Prelude.{ℕ, ◌==◌, min, max, List, take, drop, length, map, slice_index, if◌then◌else◌}
+use Rattle.std.specs.Prelude.{ℕ, List, take, drop, length, map, slice_index}
 use Rattle.std.specs.List.{flat_map}
+use Rattle.tact_base.specs.Counts.{first_index}
 use Rattle.tact_base.specs.declared.limits.TheConstants.{MESSAGE_WRITES}
 use Rattle.tact_base.specs.declared.write.Write.{Write}
-use Rattle.run_model.specs.Config.{Setup}
-use Rattle.run_model.specs.Histories.{replicas_of, conits_of, sent_in}
-use Rattle.run_model.specs.Kept.{log_of, have, covers_of, known}
+use Rattle.tact_base.specs.Setup.{Setup, replicas_of, conits_of}
+use Rattle.run_model.specs.Histories.{sent_in}
+use Rattle.run_model.specs.Taking.{log_of, have, covers_of, known}
 use Rattle.run_model.specs.Loans.{lent, returned}
 use Rattle.run_model.specs.declared.entry.Entry.{Entry}
 use Rattle.run_model.specs.declared.entry.Message.{Message}
@@ -13,8 +14,7 @@ use Rattle.run_model.specs.declared.entry.Message.{Message}
 -- where the writes of an origin begin in a message: past what the receiver has, as it is given or known; of the receiver's own, none
 abbrev pub first_for : ℕ → List Entry → ℕ → List ℕ → ℕ → ℕ
 first_for replica part to given origin =
-    if origin == to then have replica part origin
-    else min (have replica part origin) (max (slice_index given origin) (known part to origin))
+    first_index to origin (have replica part origin) (known part to origin) (slice_index given origin)
 
 -- the writes of a message: from each origin in rising order those from its first on, as many as there is room for
 abbrev pub writes_for : Setup → ℕ → List Entry → ℕ → List ℕ → List Write

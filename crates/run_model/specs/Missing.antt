@@ -3,7 +3,7 @@ use Rattle.std.specs.Prelude.{ℕ, ◌-◌, ◌==◌, max, nat_le, unsigned_abs,
 use Rattle.tact_base.specs.Sums.{plus_sum, minus_sum}
 use Rattle.tact_base.specs.declared.write.Write.{Write}
 use Rattle.run_model.specs.OwnWrites.{own}
-use Rattle.run_model.specs.Kept.{known}
+use Rattle.run_model.specs.Taking.{known}
 use Rattle.run_model.specs.declared.call.Request.{Request}
 use Rattle.run_model.specs.declared.call.Request.TheVariants as request
 use Rattle.run_model.specs.declared.call.Reply.{Reply}

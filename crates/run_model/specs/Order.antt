@@ -6,9 +6,8 @@ use Rattle.tact_base.specs.Images.{Image, image_of, ops_of}
 use Rattle.tact_base.specs.Sums.{net_sum}
 use Rattle.tact_base.specs.WriteOrder.{in_order, committed_to, tentative_past}
 use Rattle.tact_base.specs.declared.write.Write.{Write}
-use Rattle.run_model.specs.Config.{Setup}
-use Rattle.run_model.specs.Histories.{replicas_of}
-use Rattle.run_model.specs.Kept.{log_of, covers_of}
+use Rattle.tact_base.specs.Setup.{Setup, replicas_of}
+use Rattle.run_model.specs.Taking.{log_of, covers_of}
 use Rattle.run_model.specs.declared.entry.Entry.{Entry}
 
 -- the writes of all logs, in order

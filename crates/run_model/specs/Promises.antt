@@ -3,8 +3,8 @@ use Rattle.std.specs.Prelude.{◌≡◌, ◌≢◌, ◌⊎◌, ℕ, ◌+◌, ◌
 use Rattle.tact_base.specs.Admission.{wanted_moment}
 use Rattle.tact_base.specs.Sums.{plus_sum, minus_sum}
 use Rattle.tact_base.specs.declared.conit_list.Need.{Need}
-use Rattle.run_model.specs.Config.{Setup, alpha_of}
-use Rattle.run_model.specs.Histories.{mine, peers_of, IsPrefix, EachAfter}
+use Rattle.tact_base.specs.Setup.{Setup, alpha_of, peers_of}
+use Rattle.run_model.specs.Histories.{part_of, IsPrefix, EachAfter}
 use Rattle.run_model.specs.Missing.{reserved}
 use Rattle.run_model.specs.Loans.{lent, returned, lent_known, returned_known, share, home}
 use Rattle.run_model.specs.Order.{committed}
@@ -34,8 +34,8 @@ IsAnswered setup history =
 
 -- within: what a peer may miss, and what is reserved, is within the share lent for it
 pub record IsWithinFor (setup : Setup) (history : List Entry) (replica peer conit : ℕ) : Type 0 where
-  pub plus : plus_sum (unseen history replica peer) conit + reserved (mine history replica) conit ≤ share setup replica (mine history replica) peer conit
-  pub minus : minus_sum (unseen history replica peer) conit + reserved (mine history replica) conit ≤ share setup replica (mine history replica) peer conit
+  pub plus : plus_sum (unseen history replica peer) conit + reserved (part_of history replica) conit ≤ share setup replica (part_of history replica) peer conit
+  pub minus : minus_sum (unseen history replica peer) conit + reserved (part_of history replica) conit ≤ share setup replica (part_of history replica) peer conit
 
 abbrev pub IsWithin : Setup → List Entry → Type 0
 IsWithin setup history =
@@ -45,16 +45,16 @@ IsWithin setup history =
 -- what of an owner's alpha a holder has, or is on its way to the holder or back
 abbrev pub held_by : Setup → List Entry → ℕ → ℕ → ℕ → ℕ
 held_by setup history owner conit holder =
-    share setup holder (mine history holder) owner conit
-    + (lent setup owner (mine history owner) holder conit - lent_known setup holder (mine history holder) owner conit)
-    + (returned (mine history holder) owner conit - returned_known (mine history owner) holder conit)
+    share setup holder (part_of history holder) owner conit
+    + (lent setup owner (part_of history owner) holder conit - lent_known setup holder (part_of history holder) owner conit)
+    + (returned (part_of history holder) owner conit - returned_known (part_of history owner) holder conit)
 
 -- Exact: an owner's alpha is what is at home and what the holders have. None of the differences is below 0.
 pub record IsExactFor (setup : Setup) (history : List Entry) (owner conit : ℕ) : Type 0 where
-  pub total : alpha_of setup owner conit ≡ home setup owner (mine history owner) conit + sum (map (held_by setup history owner conit) (peers_of setup owner))
-  pub told : All (λ holder. lent_known setup holder (mine history holder) owner conit ≤ lent setup owner (mine history owner) holder conit) (peers_of setup owner)
-  pub covered : All (λ holder. returned (mine history holder) owner conit ≤ lent_known setup holder (mine history holder) owner conit) (peers_of setup owner)
-  pub back : All (λ holder. returned_known (mine history owner) holder conit ≤ returned (mine history holder) owner conit) (peers_of setup owner)
+  pub total : alpha_of setup owner conit ≡ home setup owner (part_of history owner) conit + sum (map (held_by setup history owner conit) (peers_of setup owner))
+  pub told : All (λ holder. lent_known setup holder (part_of history holder) owner conit ≤ lent setup owner (part_of history owner) holder conit) (peers_of setup owner)
+  pub covered : All (λ holder. returned (part_of history holder) owner conit ≤ lent_known setup holder (part_of history holder) owner conit) (peers_of setup owner)
+  pub back : All (λ holder. returned_known (part_of history owner) holder conit ≤ returned (part_of history holder) owner conit) (peers_of setup owner)
 
 abbrev pub IsExact : Setup → List Entry → Type 0
 IsExact setup history = (owner conit : ℕ) → owner < setup.replicas → conit < setup.conits → IsExactFor setup history owner conit
@@ -66,7 +66,7 @@ AreAgreed first second = IsPrefix first second ⊎ IsPrefix second first
 abbrev pub IsAgreed : Setup → List Entry → Type 0
 IsAgreed setup history =
     (first second : List Entry) (one other : ℕ) → IsPrefix first history → IsPrefix second history → one < setup.replicas → other < setup.replicas
-    → AreAgreed (committed setup one (mine first one)) (committed setup other (mine second other))
+    → AreAgreed (committed setup one (part_of first one)) (committed setup other (part_of second other))
 
 -- kept: all of this, whenever a replica's lock is free, which is at every prefix
 pub record IsKept (setup : Setup) (history : List Entry) : Type 0 where

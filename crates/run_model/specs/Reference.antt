@@ -4,16 +4,16 @@ use Rattle.std.specs.List.{flat_map}
 use Rattle.tact_base.specs.Covers.{least_of}
 use Rattle.tact_base.specs.Sums.{net_sum, order_sum}
 use Rattle.tact_base.specs.declared.write.Write.{Write}
-use Rattle.run_model.specs.Config.{Setup}
-use Rattle.run_model.specs.Histories.{replicas_of, peers_of, mine}
+use Rattle.tact_base.specs.Setup.{Setup, replicas_of, peers_of}
+use Rattle.run_model.specs.Histories.{part_of}
 use Rattle.run_model.specs.OwnWrites.{own}
-use Rattle.run_model.specs.Kept.{have}
+use Rattle.run_model.specs.Taking.{have}
 use Rattle.run_model.specs.Order.{tentative, value}
 use Rattle.run_model.specs.declared.entry.Entry.{Entry}
 
 -- all writes that were accepted
 abbrev pub all_writes : Setup → List Entry → List Write
-all_writes setup history = flat_map (λ replica. own (mine history replica)) (replicas_of setup)
+all_writes setup history = flat_map (λ replica. own (part_of history replica)) (replicas_of setup)
 
 -- the reference value of a conit
 abbrev pub reference : Setup → List Entry → ℕ → ℤ
@@ -21,15 +21,15 @@ reference setup history conit = net_sum (all_writes setup history) conit
 
 -- the writes of an origin that a replica hasn't seen
 abbrev pub unseen : List Entry → ℕ → ℕ → List Write
-unseen history origin replica = filter (λ write. nat_le (have replica (mine history replica) origin) write.index) (own (mine history origin))
+unseen history origin replica = filter (λ write. nat_le (have replica (part_of history replica) origin) write.index) (own (part_of history origin))
 
 -- how far a replica's value is off
 abbrev pub num_error : Setup → List Entry → ℕ → ℕ → ℕ
-num_error setup history replica conit = unsigned_abs (reference setup history conit -ℤ value setup replica (mine history replica) conit)
+num_error setup history replica conit = unsigned_abs (reference setup history conit -ℤ value setup replica (part_of history replica) conit)
 
 -- how much order weight is tentative at a replica
 abbrev pub order_error : Setup → List Entry → ℕ → ℕ → ℕ
-order_error setup history replica conit = order_sum (tentative setup replica (mine history replica)) conit
+order_error setup history replica conit = order_sum (tentative setup replica (part_of history replica)) conit
 
 -- the writes of all others that a replica hasn't seen
 abbrev pub unseen_by : Setup → List Entry → ℕ → List Write

@@ -1,17 +1,17 @@
 -- The reply that is due to a request: the first case that applies.
-use Rattle.std.specs.Prelude.{ℕ, ◌+◌, ◌==◌, nat_lt, ℤ, pos, negsuc, unsigned_abs, List, map, slice_get, Option, None, Some, if◌then◌else◌}
+use Rattle.std.specs.Prelude.{ℕ, ◌+◌, ◌==◌, nat_lt, ℤ, pos, negsuc, unsigned_abs, List, map, slice_get, Option, None, Some, if◌then◌else◌, unwrap_or}
 use Rattle.std.specs.List.{filter_map}
 use Rattle.std.specs.Option.{option_map}
-use Rattle.std.specs.Prelude.{unwrap_or}
 use Rattle.tact_base.specs.Admission.{Hindrance, lent as too_much_lent, unordered, stale, hindrance, wanted_moment}
 use Rattle.tact_base.specs.Covers.{slowest, first_late}
-use Rattle.tact_base.specs.Shares.{Fitting, heavy, held, short, fits, fitting}
+use Rattle.tact_base.specs.Shares.{fit_of}
 use Rattle.tact_base.specs.Sums.{order_sum}
 use Rattle.tact_base.specs.declared.conit_list.Need.{Need}
+use Rattle.tact_base.specs.declared.fit.Fit.{Fit}
+use Rattle.tact_base.specs.declared.fit.Fit.TheVariants as fit
 use Rattle.tact_base.specs.declared.conit_list.Weight.{Weight}
-use Rattle.run_model.specs.Config.{Setup}
-use Rattle.run_model.specs.Histories.{replicas_of, peers_of}
-use Rattle.run_model.specs.Kept.{have, clock, covers_of}
+use Rattle.tact_base.specs.Setup.{Setup, replicas_of, peers_of}
+use Rattle.run_model.specs.Taking.{have, clock, covers_of}
 use Rattle.run_model.specs.Missing.{missing_plus, missing_minus, greater_missing, reserved}
 use Rattle.run_model.specs.Loans.{share, out}
 use Rattle.run_model.specs.Order.{tentative, value, image}
@@ -25,17 +25,17 @@ use Rattle.run_model.specs.declared.entry.Entry.{Entry}
 abbrev pub first_some : {A : Type 0} → (A → Option Reply) → List A → Option Reply
 first_some f items = slice_get (filter_map f items) 0
 
--- what an amount on a conit gets of a peer, where it may miss `missing` beside
-abbrev pub refusal_by : ℕ → ℕ → ℕ → ℕ → ℕ → ℕ → Fitting → Option Reply
-refusal_by conit peer share reserved missing amount heavy = Some (reply.TooHeavy conit peer amount share)
-refusal_by conit peer share reserved missing amount held = Some (reply.WaitHeld conit peer reserved amount share)
-refusal_by conit peer share reserved missing amount short = Some (reply.WaitShare conit peer missing reserved amount share)
-refusal_by conit peer share reserved missing amount fits = None
+-- what a share of a bound on a conit answers, as a reply where it refuses
+abbrev pub refused_as : ℕ → Fit → Option Reply
+refused_as conit fit.Fits = None
+refused_as conit (fit.TooHeavy peer weight share) = Some (reply.TooHeavy conit peer weight share)
+refused_as conit (fit.WaitHeld peer reserved weight share) = Some (reply.WaitHeld conit peer reserved weight share)
+refused_as conit (fit.WaitShare peer missing reserved weight share) = Some (reply.WaitShare conit peer missing reserved weight share)
 
+-- what an amount on a conit gets of a peer, where it may miss `missing` beside
 abbrev pub refusal : Setup → ℕ → List Entry → ℕ → ℕ → ℕ → ℕ → Option Reply
 refusal setup replica part conit peer amount missing =
-    refusal_by conit peer (share setup replica part peer conit) (reserved part conit) missing amount
-    (fitting (share setup replica part peer conit) (reserved part conit) missing amount)
+    refused_as conit (fit_of peer (share setup replica part peer conit) (reserved part conit) missing amount)
 
 -- what a peer may miss of the sign of a weight
 abbrev pub missing_of_sign : ℕ → List Entry → ℕ → ℕ → ℤ → ℕ

@@ -2,9 +2,9 @@
 use Rattle.std.specs.Prelude.{◌≡◌, ℕ, ◌-◌, ◌<◌, ◌≤◌, List, All, Contains, length, drop, slice_index}
 use Rattle.tact_base.specs.declared.limits.TheConstants.{HISTORY_MAX, STAMP_MAX}
 use Rattle.tact_base.specs.declared.write.Write.{Write}
-use Rattle.run_model.specs.Config.{Setup}
-use Rattle.run_model.specs.Histories.{mine, last_moment, sent_in, calls_in, EachAfter}
-use Rattle.run_model.specs.Kept.{told_have, told_cover, told_first, told_writes, have, clock}
+use Rattle.tact_base.specs.Setup.{Setup}
+use Rattle.run_model.specs.Histories.{part_of, last_moment, sent_in, calls_in, EachAfter}
+use Rattle.run_model.specs.Taking.{told_have, told_cover, told_first, told_writes, have, clock}
 use Rattle.run_model.specs.Loans.{lent, home, free}
 use Rattle.run_model.specs.Messages.{message_of}
 use Rattle.run_model.specs.Order.{point}
@@ -62,12 +62,12 @@ IsPart setup replica part = EachAfter (MayFollow setup replica) part
 
 -- a taken message was sent, by the replica that it tells
 abbrev pub WasSent : List Entry → Act → Type 0
-WasSent history (act.Take message) = Contains (sent_in (mine history message.from)) message
+WasSent history (act.Take message) = Contains (sent_in (part_of history message.from)) message
 WasSent history other = Unit {0}
 
 -- an entry that may follow a history
 pub record IsLawful (setup : Setup) (history : List Entry) (entry : Entry) : Type 0 where
-  pub due : IsDue setup (mine history entry.replica) entry
+  pub due : IsDue setup (part_of history entry.replica) entry
   pub sent : WasSent history entry.act
 
 -- a run: each entry may follow those before it, so a message is taken never, once or often, and in any order

@@ -4,9 +4,9 @@ use Rattle.std.specs.List.{flat_map, join_with_byte, last_or}
 use Rattle.std.specs.Fmt.{signed_decimal}
 use Rattle.tact_base.specs.declared.conit_list.Need.{Need}
 use Rattle.tact_base.specs.declared.write.Write.{Write}
-use Rattle.run_model.specs.Config.{Setup}
-use Rattle.run_model.specs.Histories.{mine, moment_at, sent_in, calls_in, replicas_of}
-use Rattle.run_model.specs.Kept.{have, clock}
+use Rattle.tact_base.specs.Setup.{Setup, replicas_of}
+use Rattle.run_model.specs.Histories.{part_of, moment_at, sent_in, calls_in}
+use Rattle.run_model.specs.Taking.{have, clock}
 use Rattle.run_model.specs.Loans.{home, free}
 use Rattle.run_model.specs.Messages.{message_of}
 use Rattle.run_model.specs.Order.{point, committed, tentative}
@@ -34,7 +34,7 @@ not_played = record { history = []; handed = 0 }
 -- with one more entry of a replica, at the moment that is due there
 abbrev pub enters : Played → ℕ → (List Entry → ℕ → Act) → Played
 enters played replica act =
-    let part = mine played.history replica in
+    let part = part_of played.history replica in
     let moment = moment_at part played.handed in
     record played { history = played.history ++ record { replica = replica; moment = moment; act = act part moment } ∷ [] }
 
@@ -53,7 +53,7 @@ takes_one played replica (Some message) = enters played replica (λ part moment.
 takes_one played replica None = played
 
 abbrev pub takes : Played → ℕ → ℕ → ℕ → Played
-takes played replica from number = takes_one played replica (slice_get (sent_in (mine played.history from)) number)
+takes played replica from number = takes_one played replica (slice_get (sent_in (part_of played.history from)) number)
 
 -- no firsts: a zero for each replica
 abbrev pub zeros : Setup → List ℕ
@@ -62,7 +62,7 @@ zeros setup = map (λ origin. 0) (replicas_of setup)
 -- one sends to another, which takes the message: the last that it sent
 abbrev pub passes : Setup → Played → ℕ → ℕ → Played
 passes setup played from to =
-    takes (sends setup played from to (zeros setup)) to from (length (sent_in (mine played.history from)))
+    takes (sends setup played from to (zeros setup)) to from (length (sent_in (part_of played.history from)))
 
 -- what a line makes; a loan or a return over its limit makes no entry
 abbrev pub after_line : Setup → Played → Line → Played
@@ -76,10 +76,10 @@ after_line setup played (line.Send from to firsts) = sends setup played from to 
 after_line setup played (line.Take replica from number) = takes played replica from number
 after_line setup played (line.Sync first second) = passes setup (passes setup played first second) second first
 after_line setup played (line.Lend owner holder conit amount) =
-    if nat_le amount (home setup owner (mine played.history owner) conit)
+    if nat_le amount (home setup owner (part_of played.history owner) conit)
     then enters played owner (λ part moment. act.Lend holder conit amount) else played
 after_line setup played (line.Back holder owner conit amount) =
-    if nat_le amount (free setup holder (mine played.history holder) owner conit)
+    if nat_le amount (free setup holder (part_of played.history holder) owner conit)
     then enters played holder (λ part moment. act.Back owner conit amount) else played
 after_line setup played (line.Restart replica) = enters played replica (λ part moment. act.Restart)
 after_line setup played other = played
@@ -104,7 +104,7 @@ place_token None = codes "none"
 -- the state of a replica
 abbrev pub show_text : Setup → List Entry → ℕ → List ℕ
 show_text setup history replica =
-    let part = mine history replica in
+    let part = part_of history replica in
     comment (codes "show" ∷ decimal replica ∷ codes "have" ∷ map (λ origin. decimal (have replica part origin)) (replicas_of setup)
     ++ codes "clock" ∷ decimal (clock part) ∷ codes "point" ∷ decimal (point setup replica part)
     ∷ codes "committed" ∷ decimal (length (committed setup replica part)) ∷ codes "last" ∷ place_token (last_or None (committed setup replica part))
@@ -139,11 +139,11 @@ abbrev pub line_comment : Setup → List Entry → Line → List ℕ
 line_comment setup history (line.Show replica) = show_text setup history replica
 line_comment setup history (line.Ref conit) = comment (codes "ref" ∷ decimal conit ∷ signed_decimal (reference setup history conit) ∷ [])
 line_comment setup history (line.Lend owner holder conit amount) =
-    let limit = home setup owner (mine history owner) conit in
+    let limit = home setup owner (part_of history owner) conit in
     if nat_le amount limit then []
     else comment (codes "lend" ∷ map decimal (owner ∷ holder ∷ conit ∷ amount ∷ []) ++ codes "home" ∷ decimal limit ∷ [])
 line_comment setup history (line.Back holder owner conit amount) =
-    let limit = free setup holder (mine history holder) owner conit in
+    let limit = free setup holder (part_of history holder) owner conit in
     if nat_le amount limit then []
     else comment (codes "back" ∷ map decimal (holder ∷ owner ∷ conit ∷ amount ∷ []) ++ codes "free" ∷ decimal limit ∷ [])
 line_comment setup history other = []

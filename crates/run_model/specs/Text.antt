@@ -13,7 +13,7 @@ use Rattle.run_model.specs.declared.call.Reply.TheVariants.{Done, Granted, Relea
 use Rattle.run_model.specs.declared.entry.Act.{Act}
 use Rattle.run_model.specs.declared.entry.Act.TheVariants.{Call, Send, Take, Lend, Back, Restart}
 use Rattle.run_model.specs.declared.entry.Entry.{Entry}
-use Rattle.run_model.specs.Config.{Setup, owners_and_conits, alpha_of, loans_of}
+use Rattle.tact_base.specs.Setup.{Setup, owners_and_conits, alpha_of, loans_of}
 
 -- the tokens, with a space between each two
 abbrev pub line_text : List (List ℕ) → List ℕ

@@ -4,7 +4,7 @@ use Rattle.std.specs.List.{flat_map, range_with_len}
 use Rattle.tact_base.specs.declared.conit_list.Need.{Need}
 use Rattle.tact_base.specs.declared.conit_list.Weight.{Weight}
 use Rattle.tact_base.specs.declared.write.Op.TheVariants as op
-use Rattle.run_model.specs.Config.{Setup, setup}
+use Rattle.tact_base.specs.Setup.{Setup, setup}
 use Rattle.run_model.specs.ScriptRuns.{not_played, lines_text, history_of}
 use Rattle.run_model.specs.Text.{end_text}
 use Rattle.run_model.specs.declared.script_line.Line.{Line}

@@ -1,35 +1,10 @@
 ghost use Rattle.std.specs.Prelude.{◌≡◌, ◌≤◌, ◌<◌, ◌+◌, ◌*◌, ℕ, true, None, Some, IfSome, MatchResult, IfOk, length, sum, nat_lt, slice_index, slice_range};
 ghost use Rattle.tact_base.specs.declared.limits.TheConstants.{ALPHA_MAX};
-ghost use Rattle.run_model.specs.Config.{are_counts_good, row_fault, first_row_fault, config_fault, setup, IsSetup, IsRefusalOf, alpha_of, loan_of, loans_of};
-ghost use Rattle.run_model.specs.declared.config.ConfigFault.TheVariants.{NoMemory as OutOfMemory};
+ghost use Rattle.tact_base.specs.Setup.{are_counts_good, row_fault, first_row_fault, config_fault, setup, IsSetup, IsRefusalOf, alpha_of, loan_of, loans_of};
 
 use std::alloc::Global;
 use std::marker::Model;
-use tact_base::{ALPHA_MAX, CONITS_MAX, NoMemory, Numbers, REPLICAS_MAX, REPLICAS_MIN};
-
-/// Why a setup was refused.
-#[derive(Clone, Copy, Debug, PartialEq, Eq)]
-pub enum ConfigFault {
-    /// There are fewer than 2 or more than 8 replicas, no conit or more than 16, or a list hasn't as many
-    /// numbers as the counts ask for.
-    BadCount,
-    /// The alpha of the owner on the conit is over 10^12.
-    AlphaOver { owner: u32, conit: u32 },
-    /// The owner lends to itself on the conit.
-    OwnLoan { owner: u32, conit: u32 },
-    /// What the owner lends on the conit passes its alpha.
-    LoansOver { owner: u32, conit: u32 },
-    /// Want of memory.
-    NoMemory,
-}
-
-impl From<NoMemory> for ConfigFault {
-    ghost from_gives = { λ _ fault. fault ≡ OutOfMemory };
-
-    fn from(_: NoMemory) -> Self {
-        ConfigFault::NoMemory
-    }
-}
+use tact_base::{ALPHA_MAX, CONITS_MAX, ConfigFault, NoMemory, Numbers, REPLICAS_MAX, REPLICAS_MIN};
 
 /// What a run is made for: the counts of replicas and conits, and for each owner and conit its alpha and
 /// the part of it that each holder is lent at the opening. Alphas and loans are in units of weight.
@@ -42,7 +17,7 @@ pub struct Config {
 }
 
 impl Model for Config {
-    ghost use Rattle.run_model.specs.Config.{Setup, IsSetup};
+    ghost use Rattle.tact_base.specs.Setup.{Setup, IsSetup};
 
     ghost Value = { Setup };
 
@@ -196,7 +171,7 @@ fn row_fault(owner: u32, conit: u32, alpha: u64, loans: &[u64]) -> Option<Config
         Some(ConfigFault::AlphaOver { owner, conit })
     } else if loans[owner as usize] > 0 {
         Some(ConfigFault::OwnLoan { owner, conit })
-    } else if do_pass(loans, alpha) {
+    } else if is_passed_by(loans, alpha) {
         Some(ConfigFault::LoansOver { owner, conit })
     } else {
         None
@@ -204,7 +179,7 @@ fn row_fault(owner: u32, conit: u32, alpha: u64, loans: &[u64]) -> Option<Config
 }
 
 // Whether the loans add up to more than alpha. Their sum may pass what a u64 holds.
-fn do_pass(loans: &[u64], alpha: u64) -> bool
+fn is_passed_by(loans: &[u64], alpha: u64) -> bool
     ensures { result ≡ nat_lt alpha (sum loans.now) }
 {
     let mut left = alpha;

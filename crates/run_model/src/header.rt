@@ -2,7 +2,7 @@
 
 ghost use Rattle.std.specs.Prelude.{◌≡◌, ◌<◌, ◌++◌, OnOk, OnErr};
 ghost use Rattle.std.specs.List.{flat_map};
-ghost use Rattle.run_model.specs.Config.{owners_and_conits};
+ghost use Rattle.tact_base.specs.Setup.{owners_and_conits};
 ghost use Rattle.run_model.specs.Text.{BeginsWith, bound_line, header_text, end_text};
 
 use crate::Config;

@@ -1,7 +1,7 @@
 //! What is true of every run.
 
 ghost use Rattle.std.specs.Prelude.{List};
-ghost use Rattle.run_model.specs.Config.{Setup};
+ghost use Rattle.tact_base.specs.Setup.{Setup};
 ghost use Rattle.run_model.specs.Runs.{IsRun};
 ghost use Rattle.run_model.specs.Promises.{IsAgreed};
 ghost use Rattle.run_model.specs.declared.entry.Entry.{Entry};

@@ -9,7 +9,7 @@ use Rattle.std.proofs.lemmas.List.Elements.{All-nil, All-cons, All-head, All-tai
 use Rattle.std.proofs.lemmas.List.FromFn.{get_or-enumerate_from, length-enumerate_from, length-range_with_len}
 use Rattle.std.proofs.lemmas.Option.{same_Some}
 use Rattle.tact_base.proofs.ListLemmas.{All-flat_map, get_or-map_range}
-use Rattle.tact_base.specs.Admission.{Hindrance, lent as too_much_lent, unordered, stale, hindrance, heaviest, wanted_moment}
+use Rattle.tact_base.specs.Admission.{Hindrance, lent as too_much_lent, unordered, stale, hindrance, first_over_part, wanted_moment}
 use Rattle.tact_base.specs.Covers.{no_cover, first_late, slowest}
 use Rattle.tact_base.specs.Sums.{order_sum}
 use Rattle.tact_base.specs.declared.conit_list.Need.{Need}
@@ -17,10 +17,10 @@ use Rattle.tact_base.specs.declared.write.Cover.{Cover}
 use Rattle.tact_base.specs.declared.write.Late.{Late}
 use Rattle.tact_base.specs.declared.write.Op.{Op}
 use Rattle.tact_base.specs.declared.write.Write.{Write}
-use Rattle.run_model.specs.Config.{Setup, IsSetup}
-use Rattle.run_model.specs.Histories.{mine, last_moment, replicas_of, peers_of, IsPrefix}
+use Rattle.tact_base.specs.Setup.{Setup, IsSetup, replicas_of, peers_of}
+use Rattle.run_model.specs.Histories.{part_of, last_moment, IsPrefix}
 use Rattle.run_model.specs.OwnWrites.{own}
-use Rattle.run_model.specs.Kept.{keeping, have, cover_of, covers_of}
+use Rattle.run_model.specs.Taking.{origin_state, have, cover_of, covers_of}
 use Rattle.run_model.specs.Order.{tentative, value, image}
 use Rattle.run_model.specs.Promises.{IsMet, MeetsNeeds, IsAnswered, IsWithin}
 use Rattle.run_model.specs.Ranges.{IsNeedInRange, IsRequestInRange}
@@ -70,7 +70,7 @@ unhindered need outs tentative slow late none = go (nat_lt need.num (sum outs)) 
     unmapped (Some one) none = cc
 
     go : (much : Bool) → nat_lt need.num (sum outs) ≡ much → (disordered : Bool) → nat_lt need.order tentative ≡ disordered
-        → cond much (Some (too_much_lent (heaviest outs need.num) (get_or outs (heaviest outs need.num) 0) (sum outs))) (cond disordered (Some (unordered slow tentative)) (option_map stale late)) ≡ None → IsUnhindered need outs tentative late
+        → cond much (Some (too_much_lent (first_over_part outs need.num) (get_or outs (first_over_part outs need.num) 0) (sum outs))) (cond disordered (Some (unordered slow tentative)) (option_map stale late)) ≡ None → IsUnhindered need outs tentative late
     go true is other is_other none = cc
     go false is true is_other none = cc
     go false is false is_other none = record {
@@ -114,7 +114,7 @@ none_from_all P Q xs apart all (k, x, within, is, holds) = apart x (subst P is (
 module _ (setup : Setup) (history : List Entry) (sound : Sound setup history) (agree : LoansAgree setup history) (within : IsWithin setup history)
     (replica moment : ℕ) (replica_in : replica < setup.replicas) (need : Need) (in_range : IsNeedInRange setup need) where
   abbrev part : List Entry
-  part = mine history replica
+  part = part_of history replica
 
   abbrev wanted : ℕ
   wanted = wanted_moment moment need
@@ -131,12 +131,12 @@ module _ (setup : Setup) (history : List Entry) (sound : Sound setup history) (a
       let vouches = Sound-cover setup history sound replica origin 0 (omega arith) in
       let count = Sound-count setup history sound replica origin 0 in
       let has = have replica part origin in
-      All-kept IsLate (λ (w : Write). nat_le has w.index) (own (mine history origin))
+      All-kept IsLate (λ (w : Write). nat_le has w.index) (own (part_of history origin))
       (All-weaker (λ (w : Write). cover.count ≤ w.index → (cover.stamp < w.stamp) × (cover.moment ≤ w.moment)) (λ (w : Write). nat_le has w.index ≡ true → IsLate w)
       (λ w later passes.
       let past : cover.count ≤ w.index = le_trans count (leb-true has w.index passes) in
       omega (arith, at_moment, ap (λ (c : Cover). c.moment) same, (later past).1))
-      (own (mine history origin)) vouches.later)))
+      (own (part_of history origin)) vouches.later)))
 
   pub IsMet-before : need_refusal setup replica part moment need ≡ None → IsMet setup history replica moment need
   IsMet-before none =
@@ -162,7 +162,7 @@ module _ (setup : Setup) (history : List Entry) (entry : Entry) (sound : Sound s
   reader = entry.replica
 
   abbrev read_part : List Entry
-  read_part = mine history entry.replica
+  read_part = part_of history entry.replica
 
   -- an answer changes nothing that is measured
   IsMet-after : (need : Need) → IsMet setup history reader entry.moment need → IsMet setup (history ++ entry ∷ []) reader entry.moment need

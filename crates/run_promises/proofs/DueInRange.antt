@@ -6,21 +6,21 @@ use Rattle.std.proofs.lemmas.List.{length-take, length-drop}
 use Rattle.std.proofs.lemmas.List.Elements.{All-nil, All-map, All-take, All-drop, All-weaker}
 use Rattle.std.proofs.lemmas.List.FromFn.{length-map-range_with_len}
 use Rattle.std.proofs.lemmas.List.Sums.{sum_by-le}
-use Rattle.tact_base.proofs.ListLemmas.{All-flat_map, All-range, flat_map_agree, get_or-map_range}
+use Rattle.tact_base.proofs.ListLemmas.{All-flat_map, All-range, flat_map_agree, get_or-map_range, length-filter_map}
 use Rattle.tact_base.specs.Covers.{no_cover}
 use Rattle.tact_base.specs.declared.limits.TheConstants.{AMOUNT_MAX, MOMENT_MAX, STAMP_MAX, LENT_MAX, HISTORY_MAX, MESSAGE_WRITES}
 use Rattle.tact_base.specs.declared.write.Cover.{Cover}
 use Rattle.tact_base.specs.declared.write.Write.{Write}
-use Rattle.run_model.specs.Config.{Setup, IsSetup}
-use Rattle.run_model.specs.Histories.{replicas_of, conits_of, IsPrefix}
-use Rattle.run_model.specs.Kept.{told_have, told_cover, told_first, told_writes, log_of, have, clock, cover_of, known}
+use Rattle.tact_base.specs.Setup.{Setup, IsSetup, replicas_of, conits_of}
+use Rattle.run_model.specs.Histories.{IsPrefix}
+use Rattle.run_model.specs.Taking.{told_have, told_cover, told_first, told_writes, log_of, have, clock, cover_of, known}
 use Rattle.run_model.specs.Loans.{lent, returned, lent_by_act, returned_by_act}
 use Rattle.run_model.specs.Messages.{first_for, message_of}
 use Rattle.run_model.specs.Ranges.{IsWriteInRange, IsToldInRange, IsMessageInRange, IsEntryInRange}
 use Rattle.run_model.specs.declared.entry.Entry.{Entry}
 use Rattle.run_model.specs.declared.entry.Message.{Message}
 use Rattle.run_model.proofs.PrefixLemmas.{IsPrefix-take, IsPrefix-filter, IsPrefix-length}
-use Rattle.run_model.proofs.PartLemmas.{sent_by, length-filter_map}
+use Rattle.run_model.proofs.PartLemmas.{sent_by}
 use Rattle.run_model.proofs.SoundMessages.{joined-within}
 use Rattle.run_model.proofs.Placed.{front_is_placed, stretch_has_places}
 use Rattle.run_model.proofs.EntriesInRange.{loan_of-most, lent_by-most, returned_by-most}

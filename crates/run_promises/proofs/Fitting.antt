@@ -7,10 +7,10 @@ use Rattle.std.proofs.lemmas.List.Elements.{All-nil, All-filter, All-drop, All-c
 use Rattle.std.proofs.lemmas.List.FromFn.{get_or-range_with_len}
 use Rattle.std.proofs.lemmas.Option.{same_Some}
 use Rattle.tact_base.specs.declared.write.Write.{Write}
-use Rattle.run_model.specs.Config.{Setup, IsSetup}
-use Rattle.run_model.specs.Histories.{mine, sent_in, taken_by_act, EachAfter}
+use Rattle.tact_base.specs.Setup.{Setup, IsSetup}
+use Rattle.run_model.specs.Histories.{part_of, sent_in, taken_by_act, EachAfter}
 use Rattle.run_model.specs.OwnWrites.{own}
-use Rattle.run_model.specs.Kept.{told_have, told_cover, told_first, told_writes, log_of, have, cover_of}
+use Rattle.run_model.specs.Taking.{told_have, told_cover, told_first, told_writes, log_of, have, cover_of}
 use Rattle.run_model.specs.Loans.{lent, returned as returned_to}
 use Rattle.run_model.specs.Order.{point}
 use Rattle.run_model.specs.Ranges.{IsMessageInRange, IsActInRange}
@@ -20,7 +20,7 @@ use Rattle.run_model.specs.declared.entry.Act.TheVariants as act
 use Rattle.run_model.specs.declared.entry.Entry.{Entry}
 use Rattle.run_model.specs.declared.entry.Message.{Message}
 use Rattle.run_model.proofs.PrefixLemmas.{IsPrefix-All, EachAfter-nil, EachAfter-push}
-use Rattle.run_model.proofs.PartLemmas.{taken_by, mine-push_cases}
+use Rattle.run_model.proofs.PartLemmas.{taken_by, part_of-push_cases}
 use Rattle.run_model.proofs.Accepted.{log_of-same}
 use Rattle.run_model.proofs.Agreement.{point-le}
 use Rattle.run_model.proofs.Sound.{Sound, IsSoundMessage}
@@ -42,15 +42,15 @@ taken_in_range setup replica act.Restart message within some = cc
 
 -- A message that an entry takes after a history of a run.
 module _ (setup : Setup) (history : List Entry) (entry : Entry) (message : Message) (sound : Sound setup history) (agree : LoansAgree setup history)
-    (shares : (replica : ℕ) → KeepsShares setup replica (mine history replica)) (lawful : IsLawful setup history entry) (takes : taken_by entry ≡ Some message) where
+    (shares : (replica : ℕ) → KeepsShares setup replica (part_of history replica)) (lawful : IsLawful setup history entry) (takes : taken_by entry ≡ Some message) where
   abbrev taker : ℕ
   taker = entry.replica
 
   abbrev its_part : List Entry
-  its_part = mine history entry.replica
+  its_part = part_of history entry.replica
 
-  was_sent : (P : Message → Type 0) → All P (sent_in (mine history message.from)) → P message
-  was_sent P all = All-contains P (sent_in (mine history message.from)) message all (taken_was_sent history entry.act message lawful.sent takes)
+  was_sent : (P : Message → Type 0) → All P (sent_in (part_of history message.from)) → P message
+  was_sent P all = All-contains P (sent_in (part_of history message.from)) message all (taken_was_sent history entry.act message lawful.sent takes)
 
   sent : IsSoundMessage history message.from message
   sent = was_sent (IsSoundMessage history message.from) (sound.sent message.from)
@@ -72,7 +72,7 @@ module _ (setup : Setup) (history : List Entry) (entry : Entry) (message : Messa
   returned : (conit : ℕ) → slice_index message.returned conit ≤ lent setup taker its_part message.from conit
   returned conit =
       let tells = (was_sent (TellsOfLoans setup history message.from) (agree.sent message.from)).returned conit in
-      let told : slice_index message.returned conit ≤ _ = subst (λ to. slice_index message.returned conit ≤ returned_to (mine history message.from) to conit) addressed tells in
+      let told : slice_index message.returned conit ≤ _ = subst (λ to. slice_index message.returned conit ≤ returned_to (part_of history message.from) to conit) addressed tells in
       omega (arith, told, ((shares message.from).each taker conit lawful.due.in_range.replica other_sender).covered, agree.lent message.from taker conit)
 
   -- The writes that it adds of an origin.
@@ -101,8 +101,8 @@ module _ (setup : Setup) (history : List Entry) (entry : Entry) (message : Messa
         let cover = cover_of taker its_part 0 origin in
         let vouches = Sound-cover setup history sound taker origin 0 (omega arith) in
         let IsAfter = λ (write : Write). cover.count ≤ write.index → (cover.stamp < write.stamp) × (cover.moment ≤ write.moment) in
-        let of_told : All IsAfter told = IsPrefix-All IsAfter told (drop (told_first message origin) (own (mine history origin))) (sent.told origin).writes
-        (All-drop IsAfter (told_first message origin) (own (mine history origin)) vouches.later) in
+        let of_told : All IsAfter told = IsPrefix-All IsAfter told (drop (told_first message origin) (own (part_of history origin))) (sent.told origin).writes
+        (All-drop IsAfter (told_first message origin) (own (part_of history origin)) vouches.later) in
         let after = (All-drop IsAfter lacked told of_told k d inside) (omega (arith, Sound-count setup history sound taker origin 0, past_log k d inside)) in
         lt_of_le_of_lt (point-le setup taker its_part origin within) after.0
 
@@ -133,15 +133,15 @@ FitsIfTaken-from setup replica part (act.Back owner conit amount) fits = tt
 FitsIfTaken-from setup replica part act.Restart fits = tt
 
 -- Each part of a run is one that can be.
-pub IsPart-from : (setup : Setup) → ((history : List Entry) → IsRun setup history → (replica : ℕ) → KeepsShares setup replica (mine history replica)) → (history : List Entry) → IsRun setup history → (replica : ℕ) → IsPart setup replica (mine history replica)
+pub IsPart-from : (setup : Setup) → ((history : List Entry) → IsRun setup history → (replica : ℕ) → KeepsShares setup replica (part_of history replica)) → (history : List Entry) → IsRun setup history → (replica : ℕ) → IsPart setup replica (part_of history replica)
 IsPart-from setup shares =
-    over_runs setup (λ history. (replica : ℕ) → IsPart setup replica (mine history replica)) (λ replica. EachAfter-nil (MayFollow setup replica))
+    over_runs setup (λ history. (replica : ℕ) → IsPart setup replica (part_of history replica)) (λ replica. EachAfter-nil (MayFollow setup replica))
     (λ before entry run lawful parts.
-    mine-push_cases before entry (IsPart setup)
-    (EachAfter-push (MayFollow setup entry.replica) (mine before entry.replica) entry (parts entry.replica) (
+    part_of-push_cases before entry (IsPart setup)
+    (EachAfter-push (MayFollow setup entry.replica) (part_of before entry.replica) entry (parts entry.replica) (
       refl,
       lawful.due,
-      FitsIfTaken-from setup entry.replica (mine before entry.replica) entry.act (λ message takes.
+      FitsIfTaken-from setup entry.replica (part_of before entry.replica) entry.act (λ message takes.
           Fits-taken setup before entry message (Sound-run setup before run) (LoansAgree-run setup before run) (shares before run) lawful takes),
     ))
     parts)

@@ -2,18 +2,18 @@
 use Rattle.std.proofs.Common.{◌≡◌, ℕ, ◌+◌, ◌-◌, ◌<◌, ◌≤◌, ◌==◌, ◌&&◌, Bool, true, false, cond, List, [], ◌∷◌, ◌++◌, map, sum, sum_by, All, slice_index, refl, sym, ap, ◌∙◌, subst, ⊎_elim, arith}
 use Rattle.std.proofs.lemmas.Bool.{cases_eq, ne_eqb}
 use Rattle.std.proofs.lemmas.List.Sums.{sum-map, sum_by-le-sum_by}
-use Rattle.run_model.specs.Config.{Setup, IsSetup, alpha_of, loans_of, loan_of}
-use Rattle.run_model.specs.Histories.{mine, peers_of}
+use Rattle.tact_base.specs.Setup.{Setup, IsSetup, alpha_of, loans_of, loan_of, peers_of}
+use Rattle.run_model.specs.Histories.{part_of}
 use Rattle.run_model.specs.Loans.{lent, returned_known, out, home, lent_by_act}
 use Rattle.run_model.specs.Runs.{IsDue, IsActDue, IsLawful, IsRun}
 use Rattle.run_model.specs.declared.entry.Act.{Act}
 use Rattle.run_model.specs.declared.entry.Act.TheVariants as act
 use Rattle.run_model.specs.declared.entry.Entry.{Entry}
 use Rattle.run_model.specs.declared.entry.Message.{Message}
-use Rattle.run_model.proofs.ConfigLemmas.{HasCounts-from_IsSetup, HasRow-from_IsSetup, length-loans_of}
-use Rattle.run_model.proofs.PartLemmas.{mine-push_cases}
+use Rattle.tact_base.proofs.SetupLemmas.{HasCounts-from_IsSetup, HasRow-from_IsSetup, length-loans_of}
+use Rattle.run_model.proofs.PartLemmas.{part_of-push_cases}
 use Rattle.run_model.proofs.RunInduction.{over_runs}
-use Rattle.run_promises.proofs.PeerSums.{sum_by-plus, at_one, at_one-peers, reads-peers}
+use Rattle.tact_base.proofs.PeerSums.{sum_by-plus, at_one, at_one-peers, reads-peers}
 use Rattle.run_promises.proofs.LoanSteps.{lent-push, most_told-rises}
 
 -- all that an owner has out on a conit
@@ -78,7 +78,7 @@ all_out-push setup replica part entry conit =
 
 -- within its alpha, for each owner and conit
 abbrev pub KeepsHome : Setup → List Entry → Type 0
-KeepsHome setup history = (owner conit : ℕ) → owner < setup.replicas → conit < setup.conits → all_out setup owner (mine history owner) conit ≤ alpha_of setup owner conit
+KeepsHome setup history = (owner conit : ℕ) → owner < setup.replicas → conit < setup.conits → all_out setup owner (part_of history owner) conit ≤ alpha_of setup owner conit
 
 KeepsHome-nil : (setup : Setup) → IsSetup setup → KeepsHome setup []
 KeepsHome-nil setup good owner conit owner_in conit_in =
@@ -88,11 +88,11 @@ KeepsHome-nil setup good owner conit owner_in conit_in =
     let each = sum_by-le-sum_by (λ peer. out setup owner [] peer conit) (λ peer. loan_of setup owner conit peer) (peers_of setup owner) (λ peer. omega arith) in
     omega (arith, row.total, opening, each, sum-map (λ peer. out setup owner [] peer conit) (peers_of setup owner))
 
-KeepsHome-push : (setup : Setup) (history : List Entry) (entry : Entry) → IsDue setup (mine history entry.replica) entry → KeepsHome setup history → KeepsHome setup (history ++ entry ∷ [])
+KeepsHome-push : (setup : Setup) (history : List Entry) (entry : Entry) → IsDue setup (part_of history entry.replica) entry → KeepsHome setup history → KeepsHome setup (history ++ entry ∷ [])
 KeepsHome-push setup history entry due keeps owner conit owner_in conit_in =
-    mine-push_cases history entry (λ r part. r < setup.replicas → all_out setup r part conit ≤ alpha_of setup r conit)
+    part_of-push_cases history entry (λ r part. r < setup.replicas → all_out setup r part conit ≤ alpha_of setup r conit)
     (λ within.
-    let part = mine history entry.replica in
+    let part = part_of history entry.replica in
     omega (arith, all_out-push setup entry.replica part entry conit, lends-within setup entry.replica part entry.moment conit (keeps entry.replica conit within conit_in) entry.act due.act))
     (λ r within. keeps r conit within conit_in) owner owner_in
 

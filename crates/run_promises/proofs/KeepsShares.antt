@@ -7,9 +7,8 @@ use Rattle.tact_base.specs.Sums.{above_zero, below_zero, plus_sum, minus_sum}
 use Rattle.tact_base.specs.declared.conit_list.Weight.{Weight}
 use Rattle.tact_base.specs.declared.write.Op.{Op}
 use Rattle.tact_base.specs.declared.write.Write.{Write}
-use Rattle.run_model.specs.Config.{Setup}
-use Rattle.run_model.specs.Histories.{peers_of}
-use Rattle.run_model.specs.Kept.{have, clock}
+use Rattle.tact_base.specs.Setup.{Setup, peers_of}
+use Rattle.run_model.specs.Taking.{have, clock}
 use Rattle.run_model.specs.Loans.{returned_by_act, lent_known, returned, share, free}
 use Rattle.run_model.specs.Missing.{missing_plus, missing_minus, greater_missing, granted_on, used_on, granted_by, used_by, reserved}
 use Rattle.run_model.specs.OwnWrites.{asked_write, done_as, accepted_as, accepted_by}
@@ -24,7 +23,7 @@ use Rattle.run_model.specs.declared.entry.Act.{Act}
 use Rattle.run_model.specs.declared.entry.Act.TheVariants as act
 use Rattle.run_model.specs.declared.entry.Entry.{Entry}
 use Rattle.run_model.proofs.PartLemmas.{accepted_in}
-use Rattle.run_promises.proofs.SharesSums.{weights_on-one, above_zero-le, below_zero-le, one_or_none-le}
+use Rattle.tact_base.proofs.FilterSums.{weights_on-one, above_zero-le, below_zero-le, one_or_none-le}
 use Rattle.run_promises.proofs.SharesWrites.{lent_known-le-push, missing-le-push, Refuses, peers_refuse, weights_refuse, amount_fits, missing_plus_fits, missing_minus_fits}
 
 -- what requests were granted on a conit in all, and what was released or spent of it

@@ -1,6 +1,4 @@
 pub mod Peers
-pub mod SharesSums
-pub mod PeerSums
 pub mod LoanSteps
 pub mod LoansAgree
 pub mod KeepsHome

@@ -5,12 +5,12 @@ use Rattle.std.proofs.lemmas.Bool.{cases_eq, eq-eqb, ne_eqb}
 use Rattle.std.proofs.lemmas.List.{map-append}
 use Rattle.std.proofs.lemmas.List.Elements.{filter-append}
 use Rattle.std.proofs.lemmas.List.Sums.{sum_by_push}
-use Rattle.run_model.specs.Config.{Setup, loan_of}
-use Rattle.run_model.specs.Histories.{mine, taken_in, taken_from, greatest}
+use Rattle.tact_base.specs.Setup.{Setup, loan_of}
+use Rattle.run_model.specs.Histories.{part_of, taken_in, taken_from, greatest}
 use Rattle.run_model.specs.Loans.{lent, returned, lent_by_act, returned_by_act, lent_known, returned_known}
 use Rattle.run_model.specs.declared.entry.Entry.{Entry}
 use Rattle.run_model.specs.declared.entry.Message.{Message}
-use Rattle.run_model.proofs.PartLemmas.{taken_by, taken_in-push_none, taken_in-push_some, greatest-append, mine-push_cases}
+use Rattle.run_model.proofs.PartLemmas.{taken_by, taken_in-push_none, taken_in-push_some, greatest-append, part_of-push_cases}
 
 -- the greatest number that a peer told
 abbrev pub most_told : (Message → ℕ) → List Entry → ℕ → ℕ
@@ -65,12 +65,12 @@ module _ (part : List Entry) (entry : Entry) where
 
 -- One more entry of a history: what is lent and returned doesn't fall.
 module _ (history : List Entry) (entry : Entry) where
-  pub lent-rises : (setup : Setup) (owner holder conit : ℕ) → lent setup owner (mine history owner) holder conit ≤ lent setup owner (mine (history ++ entry ∷ []) owner) holder conit
+  pub lent-rises : (setup : Setup) (owner holder conit : ℕ) → lent setup owner (part_of history owner) holder conit ≤ lent setup owner (part_of (history ++ entry ∷ []) owner) holder conit
   lent-rises setup owner holder conit =
-      mine-push_cases history entry (λ r part. lent setup r (mine history r) holder conit ≤ lent setup r part holder conit)
-      (omega (arith, lent-push (mine history entry.replica) entry setup entry.replica holder conit)) (λ r. omega arith) owner
+      part_of-push_cases history entry (λ r part. lent setup r (part_of history r) holder conit ≤ lent setup r part holder conit)
+      (omega (arith, lent-push (part_of history entry.replica) entry setup entry.replica holder conit)) (λ r. omega arith) owner
 
-  pub returned-rises : (holder owner conit : ℕ) → returned (mine history holder) owner conit ≤ returned (mine (history ++ entry ∷ []) holder) owner conit
+  pub returned-rises : (holder owner conit : ℕ) → returned (part_of history holder) owner conit ≤ returned (part_of (history ++ entry ∷ []) holder) owner conit
   returned-rises holder owner conit =
-      mine-push_cases history entry (λ r part. returned (mine history r) owner conit ≤ returned part owner conit)
-      (omega (arith, returned-push (mine history entry.replica) entry owner conit)) (λ r. omega arith) holder
+      part_of-push_cases history entry (λ r part. returned (part_of history r) owner conit ≤ returned part owner conit)
+      (omega (arith, returned-push (part_of history entry.replica) entry owner conit)) (λ r. omega arith) holder

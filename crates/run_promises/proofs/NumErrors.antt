@@ -11,10 +11,10 @@ use Rattle.tact_base.proofs.OrderSums.{net_sum-in_order}
 use Rattle.tact_base.proofs.SumsLemmas.{net_sum-append, net_sum-parts}
 use Rattle.tact_base.specs.Sums.{net_sum, plus_sum, minus_sum}
 use Rattle.tact_base.specs.declared.write.Write.{Write}
-use Rattle.run_model.specs.Config.{Setup}
-use Rattle.run_model.specs.Histories.{mine, replicas_of, IsPrefix}
+use Rattle.tact_base.specs.Setup.{Setup, replicas_of}
+use Rattle.run_model.specs.Histories.{part_of, IsPrefix}
 use Rattle.run_model.specs.OwnWrites.{own}
-use Rattle.run_model.specs.Kept.{log_of, have}
+use Rattle.run_model.specs.Taking.{log_of, have}
 use Rattle.run_model.specs.Loans.{share, out}
 use Rattle.run_model.specs.Order.{value}
 use Rattle.run_model.specs.Promises.{IsWithin}
@@ -26,7 +26,7 @@ use Rattle.run_model.proofs.Accepted.{log_of-same}
 use Rattle.run_model.proofs.Sound.{Sound}
 use Rattle.run_model.proofs.SoundViews.{Sound-log}
 use Rattle.run_promises.proofs.LoansAgree.{LoansAgree}
-use Rattle.run_promises.proofs.PeerSums.{sum_by-each-le}
+use Rattle.tact_base.proofs.PeerSums.{sum_by-each-le}
 
 -- the size of a net sum is at most the greater of the two sums
 net_sum-size : (writes : List Write) (conit most : ℕ) → plus_sum writes conit ≤ most → minus_sum writes conit ≤ most → unsigned_abs (net_sum writes conit) ≤ most
@@ -54,10 +54,10 @@ module _ (whole front rest : ℕ → List Write) (goes_on : (i : ℕ) → whole 
 -- A sound history.
 module _ (setup : Setup) (history : List Entry) (sound : Sound setup history) where
   -- what an origin accepted is what a replica has of it, and then what it hasn't seen
-  pub own-is_log_and_unseen : (replica origin : ℕ) → own (mine history origin) ≡ log_of replica (mine history replica) origin ++ unseen history origin replica
+  pub own-is_log_and_unseen : (replica origin : ℕ) → own (part_of history origin) ≡ log_of replica (part_of history replica) origin ++ unseen history origin replica
   own-is_log_and_unseen replica origin =
-      let log = log_of replica (mine history replica) origin in
-      let whole = own (mine history origin) in
+      let log = log_of replica (part_of history replica) origin in
+      let whole = own (part_of history origin) in
       let indices = (sound.own origin).indices in
       let prefix = Sound-log setup history sound replica origin in
       let rest = prefix.0 in
@@ -82,8 +82,8 @@ module _ (setup : Setup) (history : List Entry) (sound : Sound setup history) wh
   own_unseen : (replica : ℕ) → unseen history replica replica ≡ []
   own_unseen replica =
       let is = own-is_log_and_unseen replica replica in
-      let same : length (log_of replica (mine history replica) replica) ≡ length (own (mine history replica)) = ap length (log_of-same replica (mine history replica)) in
-      none (unseen history replica replica) (omega (arith, same, ap length is, length-append (log_of replica (mine history replica) replica) (unseen history replica replica)))
+      let same : length (log_of replica (part_of history replica) replica) ≡ length (own (part_of history replica)) = ap length (log_of-same replica (part_of history replica)) in
+      none (unseen history replica replica) (omega (arith, same, ap length is, length-append (log_of replica (part_of history replica) replica) (unseen history replica replica)))
     where
       none : (writes : List Write) → length writes ≡ 0 → writes ≡ []
       none [] size = refl
@@ -92,7 +92,7 @@ module _ (setup : Setup) (history : List Entry) (sound : Sound setup history) wh
   -- what others accepted unseen is within what is out at them
   module _ (agree : LoansAgree setup history) (within : IsWithin setup history) (replica conit : ℕ) (replica_in : replica < setup.replicas) (conit_in : conit < setup.conits) where
     abbrev out_at : ℕ → ℕ
-    out_at holder = cond (holder == replica) 0 (out setup replica (mine history replica) holder conit)
+    out_at holder = cond (holder == replica) 0 (out setup replica (part_of history replica) holder conit)
 
     unseen_within : (origin : ℕ) → origin < setup.replicas → unsigned_abs (net_sum (unseen history origin replica) conit) ≤ out_at origin
     unseen_within origin origin_in = ⊎_elim
@@ -102,20 +102,20 @@ module _ (setup : Setup) (history : List Entry) (sound : Sound setup history) wh
         let size : unsigned_abs (net_sum (unseen history origin replica) conit) ≡ 0 = ap unsigned_abs none in
         omega (arith, size))
         (λ (other : origin ≡ replica → ⊥).
-        let at : out_at origin ≡ out setup replica (mine history replica) origin conit = ap (λ yes. cond yes 0 (out setup replica (mine history replica) origin conit)) (ne_eqb origin replica other) in
+        let at : out_at origin ≡ out setup replica (part_of history replica) origin conit = ap (λ yes. cond yes 0 (out setup replica (part_of history replica) origin conit)) (ne_eqb origin replica other) in
         let bound = within origin replica conit origin_in replica_in (λ turned. other (sym turned)) conit_in in
-        let lent : share setup origin (mine history origin) replica conit ≤ out setup replica (mine history replica) origin conit =
+        let lent : share setup origin (part_of history origin) replica conit ≤ out setup replica (part_of history replica) origin conit =
         omega (arith, agree.lent origin replica conit, agree.returned replica origin conit) in
         net_sum-size (unseen history origin replica) conit (out_at origin) (omega (arith, at, bound.plus, lent)) (omega (arith, at, bound.minus, lent)))
         (cases_eq origin replica)
 
     -- The value is off by no more than what is out.
-    pub num_error-within : num_error setup history replica conit ≤ sum (outs_of setup replica (mine history replica) conit)
+    pub num_error-within : num_error setup history replica conit ≤ sum (outs_of setup replica (part_of history replica) conit)
     num_error-within =
-        let logs = log_of replica (mine history replica) in
-        let whole = λ (origin : ℕ). own (mine history origin) in
+        let logs = log_of replica (part_of history replica) in
+        let whole = λ (origin : ℕ). own (part_of history origin) in
         let differs = net_sum-differs whole logs (λ origin. unseen history origin replica) (own-is_log_and_unseen replica) conit out_at (replicas_of setup)
         (All-range (λ origin. unsigned_abs (net_sum (unseen history origin replica) conit) ≤ out_at origin) 0 setup.replicas (λ origin low high. unseen_within origin (omega arith))) in
-        let value_is : value setup replica (mine history replica) conit ≡ net_sum (flat_map logs (replicas_of setup)) conit = net_sum-in_order (flat_map logs (replicas_of setup)) conit in
-        let total : sum (outs_of setup replica (mine history replica) conit) ≡ sum_by out_at (replicas_of setup) = sum-map out_at (replicas_of setup) in
+        let value_is : value setup replica (part_of history replica) conit ≡ net_sum (flat_map logs (replicas_of setup)) conit = net_sum-in_order (flat_map logs (replicas_of setup)) conit in
+        let total : sum (outs_of setup replica (part_of history replica) conit) ≡ sum_by out_at (replicas_of setup) = sum-map out_at (replicas_of setup) in
         rw (value_is, total) differs

@@ -6,17 +6,18 @@ use Rattle.std.proofs.lemmas.List.{length_push, length-append, length-drop, drop
 use Rattle.std.proofs.lemmas.List.Elements.{All-nil, All-push, All-append, All-weaker, All-filter, All-drop, filter_passes}
 use Rattle.std.proofs.lemmas.List.FromFn.{get_or-range_with_len}
 use Rattle.std.proofs.lemmas.Option.{same_Some}
-use Rattle.tact_base.proofs.KeepingLemmas.{log_after-le, log_after-cases, cover_after-cases}
+use Rattle.tact_base.proofs.LogsLemmas.{log_after-le, log_after-cases}
+use Rattle.tact_base.proofs.CoversLemmas.{cover_after-cases}
 use Rattle.tact_base.proofs.ListLemmas.{from_right}
 use Rattle.tact_base.specs.Covers.{no_cover, cover_after}
 use Rattle.tact_base.specs.Logs.{log_after}
 use Rattle.tact_base.specs.declared.limits.TheConstants.{MOMENT_MAX, STAMP_MAX, HISTORY_MAX}
 use Rattle.tact_base.specs.declared.write.Cover.{Cover}
 use Rattle.tact_base.specs.declared.write.Write.{Write}
-use Rattle.run_model.specs.Config.{Setup}
+use Rattle.tact_base.specs.Setup.{Setup}
 use Rattle.run_model.specs.Histories.{last_moment, taken_by_act}
 use Rattle.run_model.specs.OwnWrites.{own}
-use Rattle.run_model.specs.Kept.{Keeping, keeping, keeping_after, told_have, told_cover, told_first, told_writes, log_of, have, clock}
+use Rattle.run_model.specs.Taking.{OriginState, origin_state, after_taking, told_have, told_cover, told_first, told_writes, log_of, have, clock}
 use Rattle.run_model.specs.Order.{point}
 use Rattle.run_model.specs.Ranges.{IsWriteInRange, IsMessageInRange, IsEntryInRange}
 use Rattle.run_model.specs.Runs.{IsDue, Fits, FitsIfTaken, MayFollow, IsPart}
@@ -25,14 +26,14 @@ use Rattle.run_model.specs.declared.entry.Act.TheVariants as act
 use Rattle.run_model.specs.declared.entry.Entry.{Entry}
 use Rattle.run_model.specs.declared.entry.Message.{Message}
 use Rattle.run_model.proofs.PrefixLemmas.{IsPrefix-append, EachAfter-prefix, EachAfter-last}
-use Rattle.run_model.proofs.PartLemmas.{accepted_in, taken_by, own-push_none, own-push_some, keeping-push_none, keeping-push_some, last_moment-push}
+use Rattle.run_model.proofs.PartLemmas.{accepted_in, taken_by, own-push_none, own-push_some, origin_state-push_none, origin_state-push_some, last_moment-push}
 use Rattle.run_model.proofs.Accepted.{log_of-other, accepted_is_next}
 use Rattle.run_model.proofs.ClockLemmas.{clock-le-push, told-le-clock}
 use Rattle.run_model.proofs.ClockBound.{clock-push-within}
 use Rattle.run_model.proofs.EntriesInRange.{IsAskedInRange, acted_is_asked}
-use Rattle.run_model.proofs.Sound.{IsInOrder}
-use Rattle.run_model.proofs.SoundOwn.{IsInOrder-push}
-use Rattle.run_model.proofs.SoundRuns.{IsInOrder-nil}
+use Rattle.run_model.proofs.Sound.{IsNumbered}
+use Rattle.run_model.proofs.SoundOwn.{IsNumbered-push}
+use Rattle.run_model.proofs.SoundRuns.{IsNumbered-nil}
 use Rattle.run_promises.proofs.Fitting.{taken_in_range}
 
 -- a log of an origin, at a replica with this clock
@@ -51,14 +52,14 @@ pub record IsSoundCover (clock has : ℕ) (cover : Cover) : Type 0 where
 
 -- a part whose logs and covers are so
 pub record PartSound (setup : Setup) (replica : ℕ) (part : List Entry) : Type 0 where
-  pub in_order : IsInOrder replica part
+  pub in_order : IsNumbered replica part
   pub asked : All (IsAskedInRange setup) (own part)
   pub clock_most : clock part ≤ STAMP_MAX
   pub last_most : last_moment part ≤ MOMENT_MAX
   pub few : length part ≤ HISTORY_MAX
   pub entries : All (IsEntryInRange setup) part
-  pub logs : (origin : ℕ) → origin < setup.replicas → (origin ≡ replica → ⊥) → IsSoundLog setup (clock part) origin (keeping part origin).log
-  pub covers : (origin : ℕ) → origin < setup.replicas → (origin ≡ replica → ⊥) → IsSoundCover (clock part) (length (keeping part origin).log) (keeping part origin).cover
+  pub logs : (origin : ℕ) → origin < setup.replicas → (origin ≡ replica → ⊥) → IsSoundLog setup (clock part) origin (origin_state part origin).log
+  pub covers : (origin : ℕ) → origin < setup.replicas → (origin ≡ replica → ⊥) → IsSoundCover (clock part) (length (origin_state part origin).log) (origin_state part origin).cover
 
 -- a log goes on being so while the clock rises
 IsSoundLog-rises : (setup : Setup) (low high origin : ℕ) (log : List Write) → low ≤ high → IsSoundLog setup low origin log → IsSoundLog setup high origin log
@@ -109,8 +110,8 @@ module _ (setup : Setup) (part : List Entry) (entry : Entry) (sound : PartSound 
 
   -- What is kept of another origin.
   module _ (origin : ℕ) (within : origin < setup.replicas) (other : origin ≡ entry.replica → ⊥) where
-    abbrev kept : Keeping
-    kept = keeping part origin
+    abbrev kept : OriginState
+    kept = origin_state part origin
 
     log_before : IsSoundLog setup (clock longer) origin kept.log
     log_before = IsSoundLog-rises setup (clock part) (clock longer) origin kept.log (clock-le-push part entry) (sound.logs origin within other)
@@ -185,21 +186,21 @@ module _ (setup : Setup) (part : List Entry) (entry : Entry) (sound : PartSound 
           (λ fits. record { count = fits; stamp = told-le-clock part entry message takes origin; moment = (in_range.told origin within).moment })
           (record { count = le_trans before.count (log_after-le kept.log (told_first message origin) told); stamp = le_trans before.stamp (clock-le-push part entry); moment = before.moment })
 
-    kept_log : (taken : Option Message) → taken_by entry ≡ taken → IsSoundLog setup (clock longer) origin (keeping longer origin).log
-    kept_log None none = subst (λ (k : Keeping). IsSoundLog setup (clock longer) origin k.log) (sym (keeping-push_none part entry origin none)) log_before
-    kept_log (Some message) some = subst (λ (k : Keeping). IsSoundLog setup (clock longer) origin k.log) (sym (keeping-push_some part entry origin message some)) (log_after_take message some)
+    kept_log : (taken : Option Message) → taken_by entry ≡ taken → IsSoundLog setup (clock longer) origin (origin_state longer origin).log
+    kept_log None none = subst (λ (k : OriginState). IsSoundLog setup (clock longer) origin k.log) (sym (origin_state-push_none part entry origin none)) log_before
+    kept_log (Some message) some = subst (λ (k : OriginState). IsSoundLog setup (clock longer) origin k.log) (sym (origin_state-push_some part entry origin message some)) (log_after_take message some)
 
-    kept_cover : (taken : Option Message) → taken_by entry ≡ taken → IsSoundCover (clock longer) (length (keeping longer origin).log) (keeping longer origin).cover
+    kept_cover : (taken : Option Message) → taken_by entry ≡ taken → IsSoundCover (clock longer) (length (origin_state longer origin).log) (origin_state longer origin).cover
     kept_cover None none =
         let before = sound.covers origin within other in
-        subst (λ (k : Keeping). IsSoundCover (clock longer) (length k.log) k.cover) (sym (keeping-push_none part entry origin none))
+        subst (λ (k : OriginState). IsSoundCover (clock longer) (length k.log) k.cover) (sym (origin_state-push_none part entry origin none))
         (record { count = before.count; stamp = le_trans before.stamp (clock-le-push part entry); moment = before.moment })
     kept_cover (Some message) some =
-        subst (λ (k : Keeping). IsSoundCover (clock longer) (length k.log) k.cover) (sym (keeping-push_some part entry origin message some)) (cover_after_take message some)
+        subst (λ (k : OriginState). IsSoundCover (clock longer) (length k.log) k.cover) (sym (origin_state-push_some part entry origin message some)) (cover_after_take message some)
 
   PartSound-push : PartSound setup entry.replica longer
   PartSound-push = record {
-    in_order = IsInOrder-push setup part entry due sound.in_order;
+    in_order = IsNumbered-push setup part entry due sound.in_order;
     asked = asked_more (accepted_in entry) refl;
     clock_most = clock_within;
     last_most = omega (arith, last_moment-push part entry, due.in_range.moment);
@@ -211,7 +212,7 @@ module _ (setup : Setup) (part : List Entry) (entry : Entry) (sound : PartSound 
 
 PartSound-nil : (setup : Setup) (replica : ℕ) → PartSound setup replica []
 PartSound-nil setup replica = record {
-  in_order = IsInOrder-nil replica;
+  in_order = IsNumbered-nil replica;
   asked = All-nil (IsAskedInRange setup);
   clock_most = omega arith;
   last_most = omega arith;

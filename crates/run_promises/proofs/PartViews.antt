@@ -4,12 +4,13 @@ use Rattle.std.proofs.lemmas.Bool.{cases_eq}
 use Rattle.tact_base.specs.declared.limits.TheConstants.{MOMENT_MAX, STAMP_MAX, HISTORY_MAX}
 use Rattle.tact_base.specs.declared.write.Cover.{Cover}
 use Rattle.tact_base.specs.declared.write.Write.{Write}
-use Rattle.run_model.specs.Config.{Setup}
+use Rattle.tact_base.specs.Setup.{Setup}
 use Rattle.run_model.specs.OwnWrites.{own}
-use Rattle.run_model.specs.Kept.{keeping, log_of, have, clock, cover_of}
+use Rattle.run_model.specs.Taking.{origin_state, log_of, have, clock, cover_of}
 use Rattle.run_model.specs.Ranges.{IsWriteInRange}
 use Rattle.run_model.specs.declared.entry.Entry.{Entry}
-use Rattle.run_model.proofs.PartLemmas.{accepted_in, length-filter_map}
+use Rattle.run_model.proofs.PartLemmas.{accepted_in}
+use Rattle.tact_base.proofs.ListLemmas.{length-filter_map}
 use Rattle.run_model.proofs.Accepted.{log_of-same, log_of-other}
 use Rattle.run_model.proofs.SoundViews.{own_cover, cover_of-same, cover_of-other}
 use Rattle.run_promises.proofs.PartSound.{IsSoundLog, IsSoundCover, PartSound}

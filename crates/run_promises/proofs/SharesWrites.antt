@@ -10,17 +10,20 @@ use Rattle.std.proofs.lemmas.Option.{same_Some}
 use Rattle.tact_base.proofs.ElementLemmas.{Contains-filter}
 use Rattle.tact_base.proofs.SumsLemmas.{weights_on-append}
 use Rattle.tact_base.specs.ConitList.{IsConitList}
-use Rattle.tact_base.specs.Shares.{Fitting, heavy, held, short, fits, fitting}
+use Rattle.tact_base.proofs.SharesLemmas.{fit_of-Fits}
+use Rattle.tact_base.specs.Shares.{fit_of}
 use Rattle.tact_base.specs.Sums.{above_zero, below_zero, on_conit, weights_on}
 use Rattle.tact_base.specs.declared.conit_list.Weight.{Weight}
+use Rattle.tact_base.specs.declared.fit.Fit.{Fit}
+use Rattle.tact_base.specs.declared.fit.Fit.TheVariants as fit
 use Rattle.tact_base.specs.declared.write.Write.{Write}
-use Rattle.run_model.specs.Config.{Setup, loan_of}
-use Rattle.run_model.specs.Histories.{peers_of, replicas_of, taken_from, taken_in, greatest}
-use Rattle.run_model.specs.Kept.{known, told_have}
+use Rattle.tact_base.specs.Setup.{Setup, loan_of, peers_of, replicas_of}
+use Rattle.run_model.specs.Histories.{taken_from, taken_in, greatest}
+use Rattle.run_model.specs.Taking.{known, told_have}
 use Rattle.run_model.specs.Loans.{share, lent_known}
 use Rattle.run_model.specs.Missing.{maybe_missed, missing_plus, missing_minus, reserved, granted_on}
 use Rattle.run_model.specs.OwnWrites.{own, done_as}
-use Rattle.run_model.specs.Replies.{first_some, refusal_by, refusal, weight_refusal, missing_of_sign}
+use Rattle.run_model.specs.Replies.{first_some, refused_as, refusal, weight_refusal, missing_of_sign}
 use Rattle.run_model.specs.declared.call.Reply.{Reply}
 use Rattle.run_model.specs.declared.call.Request.TheVariants as request
 use Rattle.run_model.specs.declared.entry.Entry.{Entry}
@@ -29,7 +32,7 @@ use Rattle.run_model.proofs.PartLemmas.{accepted_in, taken_by, greatest-append, 
 use Rattle.run_model.proofs.Accepted.{first_some-each}
 use Rattle.run_promises.proofs.Peers.{All-from_peers}
 use Rattle.run_promises.proofs.LoanSteps.{most_told-rises}
-use Rattle.run_promises.proofs.SharesSums.{weights_on-filter-le, weights_on-filter-le_all, once_on_conit}
+use Rattle.tact_base.proofs.FilterSums.{weights_on-filter-le, weights_on-filter-le_all, once_on_conit}
 
 -- One more entry of a part.
 module _ (part : List Entry) (entry : Entry) where
@@ -68,22 +71,14 @@ first_some-none {A} f (item ∷ items) none = go (f item) refl none (first_some-
     go None is none rest = All-cons (λ item. f item ≡ None) item items is (rest none)
     go (Some given) is none rest = cc
 
--- an amount that fits a share fits it with all that is beside it
-pub fitting-fits : (share reserved missing amount : ℕ) → fitting share reserved missing amount ≡ fits → missing + reserved + amount ≤ share
-fitting-fits share reserved missing amount = go (nat_lt share amount) (nat_lt share (reserved + amount)) (nat_lt share (missing + reserved + amount)) refl
-  where
-    go : (one two three : Bool) → nat_lt share (missing + reserved + amount) ≡ three → cond one heavy (cond two held (cond three short fits)) ≡ fits → missing + reserved + amount ≤ share
-    go true two three is fit = cc
-    go false true three is fit = cc
-    go false false true is fit = cc
-    go false false false is fit = ltb-false share (missing + reserved + amount) is
-
 -- where no refusal is given the amount fits
-refusal_by-none : (conit peer share reserved missing amount : ℕ) (fit : Fitting) → refusal_by conit peer share reserved missing amount fit ≡ None → fit ≡ fits
-refusal_by-none conit peer share reserved missing amount heavy none = cc
-refusal_by-none conit peer share reserved missing amount held none = cc
-refusal_by-none conit peer share reserved missing amount short none = cc
-refusal_by-none conit peer share reserved missing amount fits none = refl
+refused_as-none : (conit : ℕ) (answer : Fit)
+    → refused_as conit answer ≡ None
+    → answer ≡ fit.Fits
+refused_as-none conit fit.Fits none = refl
+refused_as-none conit (fit.TooHeavy peer weight share) none = cc
+refused_as-none conit (fit.WaitHeld peer reserved weight share) none = cc
+refused_as-none conit (fit.WaitShare peer missing reserved weight share) none = cc
 
 -- a refusal accepts no write and grants nothing
 pub record Refuses (given : Reply) : Type 0 where
@@ -91,23 +86,25 @@ pub record Refuses (given : Reply) : Type 0 where
   pub grants : (conit at amount : ℕ) → granted_on conit (request.Reserve at amount) given ≡ 0
 
 -- so are the replies that say why an amount doesn't fit
-refusal_by-refuses : (conit peer share reserved missing amount : ℕ) (fit : Fitting) (given : Reply) → refusal_by conit peer share reserved missing amount fit ≡ Some given → Refuses given
-refusal_by-refuses conit peer share reserved missing amount heavy given is = subst Refuses (same_Some _ given is) (record { accepts = refl; grants = λ conit at amount. refl })
-refusal_by-refuses conit peer share reserved missing amount held given is = subst Refuses (same_Some _ given is) (record { accepts = refl; grants = λ conit at amount. refl })
-refusal_by-refuses conit peer share reserved missing amount short given is = subst Refuses (same_Some _ given is) (record { accepts = refl; grants = λ conit at amount. refl })
-refusal_by-refuses conit peer share reserved missing amount fits given is = cc
+refused_as-refuses : (conit : ℕ) (answer : Fit) (given : Reply)
+    → refused_as conit answer ≡ Some given
+    → Refuses given
+refused_as-refuses conit fit.Fits given is = cc
+refused_as-refuses conit (fit.TooHeavy peer weight share) given is = subst Refuses (same_Some _ given is) (record { accepts = refl; grants = λ conit at amount. refl })
+refused_as-refuses conit (fit.WaitHeld peer reserved weight share) given is = subst Refuses (same_Some _ given is) (record { accepts = refl; grants = λ conit at amount. refl })
+refused_as-refuses conit (fit.WaitShare peer missing reserved weight share) given is = subst Refuses (same_Some _ given is) (record { accepts = refl; grants = λ conit at amount. refl })
 
 -- What a replica answers at a part.
 module _ (setup : Setup) (replica : ℕ) (part : List Entry) where
   -- an amount that a peer doesn't refuse fits, and what it gets otherwise is a refusal
   refusal_fits : (conit peer amount missing : ℕ) → refusal setup replica part conit peer amount missing ≡ None → missing + reserved part conit + amount ≤ share setup replica part peer conit
   refusal_fits conit peer amount missing none =
-      fitting-fits (share setup replica part peer conit) (reserved part conit) missing amount
-      (refusal_by-none conit peer (share setup replica part peer conit) (reserved part conit) missing amount (fitting (share setup replica part peer conit) (reserved part conit) missing amount) none)
+      fit_of-Fits peer (share setup replica part peer conit) (reserved part conit) missing amount
+      (refused_as-none conit (fit_of peer (share setup replica part peer conit) (reserved part conit) missing amount) none)
 
   refusal_refuses : (conit peer amount missing : ℕ) (given : Reply) → refusal setup replica part conit peer amount missing ≡ Some given → Refuses given
   refusal_refuses conit peer amount missing =
-      refusal_by-refuses conit peer (share setup replica part peer conit) (reserved part conit) missing amount (fitting (share setup replica part peer conit) (reserved part conit) missing amount)
+      refused_as-refuses conit (fit_of peer (share setup replica part peer conit) (reserved part conit) missing amount)
 
   -- the first reply of the peers to an amount, or to the weights of a write, is a refusal
   pub peers_refuse : (conit amount : ℕ) (missing : ℕ → ℕ) (given : Reply) → first_some (λ peer. refusal setup replica part conit peer amount (missing peer)) (peers_of setup replica) ≡ Some given → Refuses given

@@ -1,7 +1,7 @@
 //! What is true of every run. Each function states it by its clauses, for all histories, and does nothing.
 ghost use Rattle.std.specs.Prelude.{ℕ, suc, List};
-ghost use Rattle.run_model.specs.Config.{Setup, IsSetup};
-ghost use Rattle.run_model.specs.Histories.{mine};
+ghost use Rattle.tact_base.specs.Setup.{Setup, IsSetup};
+ghost use Rattle.run_model.specs.Histories.{part_of};
 ghost use Rattle.run_model.specs.Promises.{IsKept};
 ghost use Rattle.run_model.specs.Runs.{IsPart, IsRun};
 ghost use Rattle.run_model.specs.declared.entry.Entry.{Entry};
@@ -16,5 +16,5 @@ pub fn runs_keep_their_promises()
 /// What a replica does in a run is a part that can be: each of its entries is due after those before it,
 /// and each message that it takes fits there.
 pub fn each_part_can_be()
-    ensures { (setup : Setup) (history : List Entry) (replica : ℕ) → IsRun setup history → IsPart setup replica (mine history replica) }
+    ensures { (setup : Setup) (history : List Entry) (replica : ℕ) → IsRun setup history → IsPart setup replica (part_of history replica) }
 {}

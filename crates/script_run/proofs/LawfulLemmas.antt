@@ -4,8 +4,8 @@ use Rattle.std.specs.List.{slice_get}
 use Rattle.std.proofs.lemmas.List.{append-nil, length_push, length-replicate, get_or-replicate}
 use Rattle.std.proofs.lemmas.List.Sums.{fold_push}
 use Rattle.tact_base.specs.declared.limits.TheConstants.{HISTORY_MAX}
-use Rattle.run_model.specs.Config.{Setup, IsSetup}
-use Rattle.run_model.specs.Histories.{mine, sent_in}
+use Rattle.tact_base.specs.Setup.{Setup, IsSetup}
+use Rattle.run_model.specs.Histories.{part_of, sent_in}
 use Rattle.run_model.specs.Runs.{IsLawful, IsRun}
 use Rattle.run_model.specs.ScriptRuns.{Played, not_played, takes_one, after_line, played_by, history_of}
 use Rattle.run_model.specs.declared.entry.Entry.{Entry}
@@ -29,7 +29,7 @@ taking-one-most played replica (Some message) = pushed-most played.history _
 pub after_line-most : (setup : Setup) (played : Played) (l : Line) → NamesOnly setup.replicas l → length (after_line setup played l).history ≤ length played.history + 1
 after_line-most setup played (line.Write replica client op weights) names = pushed-most played.history _
 after_line-most setup played (line.Send from to firsts) names = pushed-most played.history _
-after_line-most setup played (line.Take replica from number) names = taking-one-most played replica (slice_get (sent_in (mine played.history from)) number)
+after_line-most setup played (line.Take replica from number) names = taking-one-most played replica (slice_get (sent_in (part_of played.history from)) number)
 after_line-most setup played (line.Show replica) names = omega arith
 after_line-most setup played other names = absurd names
 

@@ -5,8 +5,8 @@ use Rattle.std.specs.Prelude.{IfSome}
 use Rattle.std.proofs.lemmas.List.{append-nil}
 use Rattle.std.proofs.lemmas.List.Elements.{All-filter}
 use Rattle.std.proofs.lemmas.List.Sums.{fold_push}
-use Rattle.run_model.specs.Config.{Setup}
-use Rattle.run_model.specs.Histories.{mine, sent_in}
+use Rattle.tact_base.specs.Setup.{Setup}
+use Rattle.run_model.specs.Histories.{part_of, sent_in}
 use Rattle.run_model.specs.ScriptRuns.{Played, not_played, takes_one, after_line, played_by, history_of, text_after, lines_text, play_text}
 use Rattle.run_model.specs.declared.status.Status.{Status}
 use Rattle.run_model.specs.declared.status.Status.TheVariants as status
@@ -21,7 +21,7 @@ use Rattle.run_model.proofs.PartLemmas.{length-mine}
 use Rattle.script_run.specs.Forms.{NamesOnly, setup_of}
 use Rattle.script_run.specs.Playing.{IsPlayOf, Writes, WritesText}
 use Rattle.script_run.specs.Scripts.{FitsAfter, IsScript, script_of}
-use Rattle.script_run.specs.Seats.{MovesNoLoan, HasNoLoans}
+use Rattle.run_model.specs.Loans.{MovesNoLoan, HasNoLoans}
 use Rattle.script_run.specs.Worlds.{IsEarly, Plays, Steps}
 use Rattle.script_run.specs.declared.world.World.{World}
 use Rattle.script_run.proofs.LawfulLemmas.{IsPlayedBy, script_setup, script_is_played, script_runs}
@@ -55,7 +55,7 @@ taking_is_quiet played replica (Some message) quiet = no_loans_more played.histo
 line_is_quiet : (setup : Setup) (played : Played) (l : Line) → NamesOnly setup.replicas l → HasNoLoans played.history → HasNoLoans (after_line setup played l).history
 line_is_quiet setup played (line.Write replica client op weights) names quiet = no_loans_more played.history _ quiet tt
 line_is_quiet setup played (line.Send from to firsts) names quiet = no_loans_more played.history _ quiet tt
-line_is_quiet setup played (line.Take replica from number) names quiet = taking_is_quiet played replica (slice_get (sent_in (mine played.history from)) number) quiet
+line_is_quiet setup played (line.Take replica from number) names quiet = taking_is_quiet played replica (slice_get (sent_in (part_of played.history from)) number) quiet
 line_is_quiet setup played (line.Show replica) names quiet = quiet
 line_is_quiet setup played other names quiet = absurd names
 

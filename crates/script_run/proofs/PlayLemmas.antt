@@ -4,8 +4,8 @@ use Rattle.std.proofs.lemmas.Bool.{cases_eq}
 use Rattle.std.proofs.lemmas.List.{append-nil, length_push, get_or_push, get_or_append_left, nil_from_length}
 use Rattle.tact_base.specs.declared.conit_list.Weight.{Weight}
 use Rattle.tact_base.specs.declared.write.Op.{Op}
-use Rattle.run_model.specs.Config.{Setup}
-use Rattle.run_model.specs.Histories.{mine, sent_in, sent_by_act, moment_at, calls_in}
+use Rattle.tact_base.specs.Setup.{Setup}
+use Rattle.run_model.specs.Histories.{part_of, sent_in, sent_by_act, moment_at, calls_in}
 use Rattle.run_model.specs.Messages.{message_of}
 use Rattle.run_model.specs.Replies.{reply_of}
 use Rattle.run_model.specs.ScriptRuns.{Played, not_played, takes_one, after_line, text_after, entries_text, line_comment, act_comments, show_text}
@@ -17,7 +17,7 @@ use Rattle.run_model.specs.declared.entry.Entry.{Entry}
 use Rattle.run_model.specs.declared.entry.Message.{Message}
 use Rattle.run_model.specs.declared.script_line.Line.{Line}
 use Rattle.run_model.specs.declared.script_line.Line.TheVariants as line
-use Rattle.run_model.proofs.PartLemmas.{sent_by, mine-push_same, mine-push_other, sent_in-push_none, sent_in-push_some}
+use Rattle.run_model.proofs.PartLemmas.{sent_by, part_of-push_same, part_of-push_other, sent_in-push_none, sent_in-push_some}
 use Rattle.script_run.specs.Seats.{SeatStands, HasRoom, StandsWith, one_more, with_entry}
 use Rattle.script_run.specs.Shown.{seat_text}
 use Rattle.script_run.specs.Worlds.{StandsFor, Plays, IsEarly, GoesOn, Steps, IsWriteDue, IsSendDue, IsTakeDue, with_act}
@@ -36,32 +36,32 @@ module _ (old new : World) (r : ℕ) (did : Act) (history : List Entry) (before 
   within : (k : ℕ) → k < new.config.replicas → k < old.config.replicas
   within k in_new = omega (arith, in_new, ap (λ (s : Setup). s.replicas) same)
 
-  pub seats_go_on : (seat : Seat) → new.seats.items ≡ set old.seats.items r seat → r < length old.seats.items → SeatStands r (mine history r ++ entry ∷ []) seat
-      → (k : ℕ) (d : Seat) → k < new.config.replicas → SeatStands k (mine further k) (get_or new.seats.items k d)
+  pub seats_go_on : (seat : Seat) → new.seats.items ≡ set old.seats.items r seat → r < length old.seats.items → SeatStands r (part_of history r ++ entry ∷ []) seat
+      → (k : ℕ) (d : Seat) → k < new.config.replicas → SeatStands k (part_of further k) (get_or new.seats.items k d)
   seats_go_on seat is r_in here k d k_in = ⊎_elim
       (λ (r_is : r ≡ k).
       let found : get_or new.seats.items r d ≡ seat = ap (λ (seats : List Seat). get_or seats r d) is ∙ get_or-set_same old.seats.items r seat d r_in in
-      let there : SeatStands r (mine further r) (get_or new.seats.items r d) =
-      subst (λ (part : List Entry). SeatStands r part (get_or new.seats.items r d)) (sym (mine-push_same history entry r refl))
-      (subst (SeatStands r (mine history r ++ entry ∷ [])) (sym found) here) in
-      subst (λ (j : ℕ). SeatStands j (mine further j) (get_or new.seats.items j d)) r_is there)
+      let there : SeatStands r (part_of further r) (get_or new.seats.items r d) =
+      subst (λ (part : List Entry). SeatStands r part (get_or new.seats.items r d)) (sym (part_of-push_same history entry r refl))
+      (subst (SeatStands r (part_of history r ++ entry ∷ [])) (sym found) here) in
+      subst (λ (j : ℕ). SeatStands j (part_of further j) (get_or new.seats.items j d)) r_is there)
       (λ (differ : r ≡ k → ⊥).
       let found : get_or new.seats.items k d ≡ get_or old.seats.items k d =
       ap (λ (seats : List Seat). get_or seats k d) is ∙ get_or-set_other old.seats.items r k seat d (λ k_is. differ (sym k_is)) in
-      subst (λ (part : List Entry). SeatStands k part (get_or new.seats.items k d)) (sym (mine-push_other history entry k differ))
-      (subst (SeatStands k (mine history k)) (sym found) (before.seats k d (within k k_in))))
+      subst (λ (part : List Entry). SeatStands k part (get_or new.seats.items k d)) (sym (part_of-push_other history entry k differ))
+      (subst (SeatStands k (part_of history k)) (sym found) (before.seats k d (within k k_in))))
       (cases_eq r k)
 
-  pub sent_stays : new.sent.items ≡ old.sent.items → sent_by entry ≡ None → (k : ℕ) → k < new.config.replicas → get_or new.sent.items k [] ≡ sent_in (mine further k)
+  pub sent_stays : new.sent.items ≡ old.sent.items → sent_by entry ≡ None → (k : ℕ) → k < new.config.replicas → get_or new.sent.items k [] ≡ sent_in (part_of further k)
   sent_stays is none k k_in =
-      let kept : get_or new.sent.items k [] ≡ sent_in (mine history k) = ap (λ (sent : List (List Message)). get_or sent k []) is ∙ before.sent k (within k k_in) in
+      let kept : get_or new.sent.items k [] ≡ sent_in (part_of history k) = ap (λ (sent : List (List Message)). get_or sent k []) is ∙ before.sent k (within k k_in) in
       ⊎_elim
-      (λ (r_is : r ≡ k). kept ∙ sym (ap sent_in (mine-push_same history entry k r_is) ∙ sent_in-push_none (mine history k) entry none))
-      (λ (differ : r ≡ k → ⊥). kept ∙ sym (ap sent_in (mine-push_other history entry k differ)))
+      (λ (r_is : r ≡ k). kept ∙ sym (ap sent_in (part_of-push_same history entry k r_is) ∙ sent_in-push_none (part_of history k) entry none))
+      (λ (differ : r ≡ k → ⊥). kept ∙ sym (ap sent_in (part_of-push_other history entry k differ)))
       (cases_eq r k)
 
   pub sent_grows : (message : Message) → new.sent.items ≡ set old.sent.items r (get_or old.sent.items r [] ++ message ∷ []) → sent_by entry ≡ Some message → r < length old.sent.items
-      → (k : ℕ) → k < new.config.replicas → get_or new.sent.items k [] ≡ sent_in (mine further k)
+      → (k : ℕ) → k < new.config.replicas → get_or new.sent.items k [] ≡ sent_in (part_of further k)
   sent_grows message is some r_in k k_in =
       let list : List Message = get_or old.sent.items r [] ++ message ∷ [] in
       ⊎_elim
@@ -69,11 +69,11 @@ module _ (old new : World) (r : ℕ) (did : Act) (history : List Entry) (before 
       let here : get_or new.sent.items r [] ≡ list = ap (λ (sent : List (List Message)). get_or sent r []) is ∙ get_or-set_same old.sent.items r list [] r_in in
       ap (λ (j : ℕ). get_or new.sent.items j []) (sym r_is) ∙ here
       ∙ ap (λ (front : List Message). front ++ message ∷ []) (ap (λ (j : ℕ). get_or old.sent.items j []) r_is ∙ before.sent k (within k k_in))
-      ∙ sym (ap sent_in (mine-push_same history entry k r_is) ∙ sent_in-push_some (mine history k) entry message some))
+      ∙ sym (ap sent_in (part_of-push_same history entry k r_is) ∙ sent_in-push_some (part_of history k) entry message some))
       (λ (differ : r ≡ k → ⊥).
       ap (λ (sent : List (List Message)). get_or sent k []) is ∙ get_or-set_other old.sent.items r k list [] (λ k_is. differ (sym k_is))
       ∙ before.sent k (within k k_in)
-      ∙ sym (ap sent_in (mine-push_other history entry k differ)))
+      ∙ sym (ap sent_in (part_of-push_other history entry k differ)))
       (cases_eq r k)
 
 -- what is left past all of a list
@@ -116,7 +116,7 @@ module _ (old mid new : World) (text text' : List ℕ) (r : ℕ) (did : Act) (co
       ∙ one_entry_text setup played.history one none))
 
 -- what is due at moment 0 where the last moment is 0
-moment_is : (played : Played) (r : ℕ) → played.handed ≡ 0 → IsEarly played.history → moment_at (mine played.history r) played.handed ≡ 0
+moment_is : (played : Played) (r : ℕ) → played.handed ≡ 0 → IsEarly played.history → moment_at (part_of played.history r) played.handed ≡ 0
 moment_is played r handed early = omega (arith, handed, early.moments r)
 
 -- The acts of a line that writes, of one that sends and of one that takes, and their steps.
@@ -131,7 +131,7 @@ module _ (old mid new : World) (text text' : List ℕ) (r : ℕ) (did : Act) (co
   pub write_steps : (client : ℕ) (weights : List Weight) (op : Op) → weights ≡ [] → GoesOn old mid r did (IsWriteDue r client weights op) → Steps old new (line.Write r client op weights) text text'
   write_steps client weights op none goes played handed early plays =
       let on = goes played.history early plays.stands in
-      let part = mine played.history r in
+      let part = part_of played.history r in
       let moment = moment_is played r handed early in
       let due : did ≡ act.Call client (calls_in part client) (request.Write weights op) (reply_of old.config r part (moment_at part played.handed) (request.Write weights op)) =
       subst (λ (ws : List Weight). did ≡ act.Call client (calls_in part client) (request.Write ws op) (reply_of old.config r part (moment_at part played.handed) (request.Write ws op)))
@@ -147,7 +147,7 @@ module _ (old mid new : World) (text text' : List ℕ) (r : ℕ) (did : Act) (co
   pub send_steps : (to : ℕ) (firsts : List ℕ) → GoesOn old mid r did (IsSendDue old.config r to firsts) → Steps old new (line.Send r to firsts) text text'
   send_steps to firsts goes played handed early plays =
       let on = goes played.history early plays.stands in
-      let part = mine played.history r in
+      let part = part_of played.history r in
       let moment = moment_is played r handed early in
       let due : did ≡ act.Send (message_of old.config r part (moment_at part played.handed) to firsts) =
       on.0 ∙ ap (λ (t : ℕ). act.Send (message_of old.config r part t to firsts)) (sym moment) in
@@ -190,20 +190,20 @@ stands_own r seat part here = let place : seat.replica ≡ r = here.replica_is i
 
 -- A replica of a world, and the world after it went on.
 module _ (old new : World) (history : List Entry) (before : StandsFor old history) (r : ℕ) (r_in : r < old.config.replicas) (seat : Seat) (is : seat ≡ get_or old.seats.items r seat) where
-  pub seat_stands : SeatStands r (mine history r) seat
-  seat_stands = subst (SeatStands r (mine history r)) (sym is) (before.seats r seat r_in)
+  pub seat_stands : SeatStands r (part_of history r) seat
+  seat_stands = subst (SeatStands r (part_of history r)) (sym is) (before.seats r seat r_in)
 
   pub goes_on_quiet : (seat' : Seat) (did : Act) → IsEarly history → StandsWith seat seat' 0 did → new.config ≡ old.config → length old.seats.items ≡ old.config.replicas
       → new.seats.items ≡ set old.seats.items r seat' → new.sent.items ≡ old.sent.items → sent_by_act did ≡ None → StandsFor new (with_act history r did)
   goes_on_quiet seat' did early goes config sized seats sent none = record {
-    seats = seats_go_on old new r did history before config seat' seats (omega (arith, r_in, sized)) (stands_as r seat seat' (mine history r) did seat_stands (early.room r) goes);
+    seats = seats_go_on old new r did history before config seat' seats (omega (arith, r_in, sized)) (stands_as r seat seat' (part_of history r) did seat_stands (early.room r) goes);
     sent = sent_stays old new r did history before config sent none;
   }
 
   pub goes_on_sending : (seat' : Seat) (message : Message) → IsEarly history → StandsWith seat seat' 0 (act.Send message) → new.config ≡ old.config → length old.seats.items ≡ old.config.replicas → length old.sent.items ≡ old.config.replicas
       → new.seats.items ≡ set old.seats.items r seat' → new.sent.items ≡ set old.sent.items r (get_or old.sent.items r [] ++ message ∷ []) → StandsFor new (with_act history r (act.Send message))
   goes_on_sending seat' message early goes config sized lists seats sent = record {
-    seats = seats_go_on old new r (act.Send message) history before config seat' seats (omega (arith, r_in, sized)) (stands_as r seat seat' (mine history r) (act.Send message) seat_stands (early.room r) goes);
+    seats = seats_go_on old new r (act.Send message) history before config seat' seats (omega (arith, r_in, sized)) (stands_as r seat seat' (part_of history r) (act.Send message) seat_stands (early.room r) goes);
     sent = sent_grows old new r (act.Send message) history before config message sent refl (omega (arith, r_in, lists));
   }
 
@@ -211,7 +211,7 @@ module _ (old new : World) (history : List Entry) (before : StandsFor old histor
   pub shows_seat : old.config.replicas ≡ seat.replicas → seat_text seat ≡ show_text old.config history r
   shows_seat size =
       let place : seat.replica ≡ r = seat_stands.replica_is in
-      let own : SeatStands seat.replica (mine history seat.replica) seat = subst (λ (k : ℕ). SeatStands k (mine history k) seat) (sym place) seat_stands in
+      let own : SeatStands seat.replica (part_of history seat.replica) seat = subst (λ (k : ℕ). SeatStands k (part_of history k) seat) (sym place) seat_stands in
       seat_text-show_text old.config history seat size own.logs own.covers own.clock ∙ ap (show_text old.config history) place
 
 -- a world in which nothing happened stands for nothing

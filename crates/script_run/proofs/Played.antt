@@ -9,8 +9,8 @@ use Rattle.std.proofs.lemmas.List.Elements.{All-nil, All-contains}
 use Rattle.tact_base.specs.declared.limits.TheConstants.{CLIENTS, HISTORY_MAX}
 use Rattle.tact_base.specs.declared.conit_list.Weight.{Weight}
 use Rattle.tact_base.specs.declared.write.Op.{Op}
-use Rattle.run_model.specs.Config.{Setup, IsSetup}
-use Rattle.run_model.specs.Histories.{mine, last_moment, moment_at, sent_in, calls_in}
+use Rattle.tact_base.specs.Setup.{Setup, IsSetup}
+use Rattle.run_model.specs.Histories.{part_of, last_moment, moment_at, sent_in, calls_in}
 use Rattle.run_model.specs.Messages.{message_of}
 use Rattle.run_model.specs.Ranges.{IsOpInRange, IsWeightInRange, AreWeightsInRange, IsMessageInRange, IsActInRange}
 use Rattle.run_model.specs.Replies.{reply_of}
@@ -22,7 +22,7 @@ use Rattle.run_model.specs.declared.entry.Act.TheVariants as act
 use Rattle.run_model.specs.declared.entry.Entry.{Entry}
 use Rattle.run_model.specs.declared.entry.Message.{Message}
 use Rattle.run_model.proofs.PrefixLemmas.{EachAfter-push}
-use Rattle.run_model.proofs.PartLemmas.{sent_by, mine-push_same, mine-push_other, mine-push_cases, sent_in-push_none, sent_in-push_some, last_moment-push, length-mine}
+use Rattle.run_model.proofs.PartLemmas.{sent_by, part_of-push_same, part_of-push_other, part_of-push_cases, sent_in-push_none, sent_in-push_some, last_moment-push, length-mine}
 use Rattle.run_model.proofs.ClockBound.{clock-run}
 use Rattle.run_model.proofs.EntriesInRange.{sent_in_range}
 use Rattle.run_model.proofs.Firsts.{message_again}
@@ -41,14 +41,14 @@ receiver_of message = message.to
 pub record IsPlayed (setup : Setup) (sent : List (List ℕ)) (played : Played) : Type 0 where
   pub run : IsRun setup played.history
   pub handed : played.handed ≡ 0
-  pub moments : (replica : ℕ) → last_moment (mine played.history replica) ≡ 0
+  pub moments : (replica : ℕ) → last_moment (part_of played.history replica) ≡ 0
   pub size : length sent ≡ setup.replicas
-  pub receivers : (from : ℕ) → from < setup.replicas → map receiver_of (sent_in (mine played.history from)) ≡ get_or sent from []
+  pub receivers : (from : ℕ) → from < setup.replicas → map receiver_of (sent_in (part_of played.history from)) ≡ get_or sent from []
 
 -- the entry of a replica, with what it does where it stands
 abbrev pub entry_of : Played → ℕ → (List Entry → ℕ → Act) → Entry
 entry_of played replica does =
-    let part = mine played.history replica in
+    let part = part_of played.history replica in
     let moment = moment_at part played.handed in
     record { replica = replica; moment = moment; act = does part moment }
 
@@ -70,7 +70,7 @@ takes_it message part moment = act.Take message
 -- What lines have made, and a replica that goes on.
 module _ (setup : Setup) (good : IsSetup setup) (sent : List (List ℕ)) (played : Played) (is : IsPlayed setup sent played) (room : length played.history < HISTORY_MAX) (replica : ℕ) (replica_in : replica < setup.replicas) where
   abbrev part : List Entry
-  part = mine played.history replica
+  part = part_of played.history replica
 
   now : moment_at part played.handed ≡ 0
   now = omega (arith, is.handed, is.moments replica)
@@ -108,16 +108,16 @@ module _ (setup : Setup) (good : IsSetup setup) (sent : List (List ℕ)) (played
     sent = tt;
   }
 
-  pub take_is_lawful : (message : Message) → IsMessageInRange setup message → message.to ≡ replica → Contains (sent_in (mine played.history message.from)) message → IsLawful setup played.history (entry_of played replica (takes_it message))
+  pub take_is_lawful : (message : Message) → IsMessageInRange setup message → message.to ≡ replica → Contains (sent_in (part_of played.history message.from)) message → IsLawful setup played.history (entry_of played replica (takes_it message))
   take_is_lawful message in_range to was_sent = record {
     due = due (takes_it message) (in_range, to) to;
     sent = was_sent;
   }
 
   -- after a lawful entry that sends nothing, and after one that sends
-  moments_after : (does : List Entry → ℕ → Act) → (other : ℕ) → last_moment (mine (played.history ++ entry_of played replica does ∷ []) other) ≡ 0
+  moments_after : (does : List Entry → ℕ → Act) → (other : ℕ) → last_moment (part_of (played.history ++ entry_of played replica does ∷ []) other) ≡ 0
   moments_after does =
-      mine-push_cases played.history (entry_of played replica does) (λ other part. last_moment part ≡ 0)
+      part_of-push_cases played.history (entry_of played replica does) (λ other part. last_moment part ≡ 0)
       (last_moment-push part (entry_of played replica does) ∙ now) is.moments
 
   pub played_quiet : (does : List Entry → ℕ → Act) → sent_by (entry_of played replica does) ≡ None → IsLawful setup played.history (entry_of played replica does) → IsPlayed setup sent (with_entry played (entry_of played replica does))
@@ -127,7 +127,7 @@ module _ (setup : Setup) (good : IsSetup setup) (sent : List (List ℕ)) (played
     moments = moments_after does;
     size = is.size;
     receivers =
-        mine-push_cases played.history (entry_of played replica does) (λ other part. other < setup.replicas → map receiver_of (sent_in part) ≡ get_or sent other [])
+        part_of-push_cases played.history (entry_of played replica does) (λ other part. other < setup.replicas → map receiver_of (sent_in part) ≡ get_or sent other [])
         (λ within. ap (map receiver_of) (sent_in-push_none part (entry_of played replica does) none) ∙ is.receivers replica within)
         is.receivers;
   }
@@ -143,17 +143,17 @@ module _ (setup : Setup) (good : IsSetup setup) (sent : List (List ℕ)) (played
     abbrev tos : List ℕ
     tos = get_or sent replica [] ++ message.to ∷ []
 
-    here : map receiver_of (sent_in (mine further replica)) ≡ get_or (set sent replica tos) replica []
+    here : map receiver_of (sent_in (part_of further replica)) ≡ get_or (set sent replica tos) replica []
     here =
-        ap (λ part. map receiver_of (sent_in part)) (mine-push_same played.history entry replica refl)
+        ap (λ part. map receiver_of (sent_in part)) (part_of-push_same played.history entry replica refl)
         ∙ ap (map receiver_of) (sent_in-push_some part entry message some)
         ∙ map_push receiver_of (sent_in part) message
         ∙ ap (λ (before : List ℕ). before ++ message.to ∷ []) (is.receivers replica replica_in)
         ∙ sym (get_or-set_same sent replica tos [] (omega (arith, is.size, replica_in)))
 
-    there : (other : ℕ) → other < setup.replicas → (replica ≡ other → ⊥) → map receiver_of (sent_in (mine further other)) ≡ get_or (set sent replica tos) other []
+    there : (other : ℕ) → other < setup.replicas → (replica ≡ other → ⊥) → map receiver_of (sent_in (part_of further other)) ≡ get_or (set sent replica tos) other []
     there other within differ =
-        ap (λ part. map receiver_of (sent_in part)) (mine-push_other played.history entry other differ)
+        ap (λ part. map receiver_of (sent_in part)) (part_of-push_other played.history entry other differ)
         ∙ is.receivers other within
         ∙ sym (get_or-set_other sent replica other tos [] (λ same. differ (sym same)))
 
@@ -164,22 +164,22 @@ module _ (setup : Setup) (good : IsSetup setup) (sent : List (List ℕ)) (played
       moments = moments_after does;
       size = length-set sent replica tos ∙ is.size;
       receivers = λ other within. ⊎_elim
-          (λ (same : replica ≡ other). subst (λ r. map receiver_of (sent_in (mine further r)) ≡ get_or (set sent replica tos) r []) same here)
+          (λ (same : replica ≡ other). subst (λ r. map receiver_of (sent_in (part_of further r)) ≡ get_or (set sent replica tos) r []) same here)
           (λ (differ : replica ≡ other → ⊥). there other within differ)
           (cases_eq replica other);
     }
 
 -- The message that a `take` names was sent to its replica by the one that it names.
 pub record IsNamed (setup : Setup) (history : List Entry) (replica from number : ℕ) (message : Message) : Type 0 where
-  pub found : slice_get (sent_in (mine history from)) number ≡ Some message
+  pub found : slice_get (sent_in (part_of history from)) number ≡ Some message
   pub receiver : message.to ≡ replica
   pub sender : message.from ≡ from
   pub in_range : IsMessageInRange setup message
-  pub was_sent : Contains (sent_in (mine history message.from)) message
+  pub was_sent : Contains (sent_in (part_of history message.from)) message
 
 module _ (setup : Setup) (sent : List (List ℕ)) (played : Played) (is : IsPlayed setup sent played) (replica from number : ℕ) (from_in : from < setup.replicas) where
   abbrev list : List Message
-  list = sent_in (mine played.history from)
+  list = sent_in (part_of played.history from)
 
   named_is : (message : Message) → slice_get list number ≡ Some message → message.to ≡ replica → IsNamed setup played.history replica from number message
   named_is message found to =
@@ -190,7 +190,7 @@ module _ (setup : Setup) (sent : List (List ℕ)) (played : Played) (is : IsPlay
         receiver = to;
         sender = sender;
         in_range = All-contains (IsMessageInRange setup) list message (sent_in_range setup played.history is.run from) contains;
-        was_sent = subst (λ f. Contains (sent_in (mine played.history f)) message) (sym sender) contains;
+        was_sent = subst (λ f. Contains (sent_in (part_of played.history f)) message) (sym sender) contains;
       }
 
   pub named_message : is_sent sent from number replica ≡ true → (message : Message) × IsNamed setup played.history replica from number message

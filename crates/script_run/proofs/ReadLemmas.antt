@@ -5,11 +5,12 @@ use Rattle.std.proofs.lemmas.List.Elements.{All-nil, All-push}
 use Rattle.tact_base.specs.declared.write.Cover.{Cover}
 use Rattle.tact_base.specs.declared.write.Write.{Write}
 use Rattle.run_model.specs.Histories.{moment_at}
-use Rattle.run_model.specs.Kept.{log_of, have, cover_of}
+use Rattle.run_model.specs.Taking.{log_of, have, cover_of}
 use Rattle.run_model.specs.declared.entry.Entry.{Entry}
 use Rattle.run_model.proofs.Accepted.{log_of-same}
 use Rattle.run_model.proofs.SoundViews.{cover_of-same, cover_of-other}
-use Rattle.script_run.specs.Seats.{State, StateStands, MovesNoLoan, HasNoLoans, log_at, cover_at, cover_told}
+use Rattle.run_model.specs.Loans.{MovesNoLoan, HasNoLoans}
+use Rattle.script_run.specs.Seats.{State, StateStands, log_at, cover_at, cover_told}
 
 -- a cover of these numbers
 abbrev own_at : ℕ → ℕ → ℕ → Cover

@@ -7,7 +7,7 @@ use Rattle.std.specs.Prelude.{replicate, slice_get}
 use Rattle.std.specs.Option.{option_map_or}
 use Rattle.run_model.specs.declared.script_line.Line.{Line}
 use Rattle.run_model.specs.declared.script_line.Line.TheVariants as line
-use Rattle.run_model.specs.Config.{Setup}
+use Rattle.tact_base.specs.Setup.{Setup}
 use Rattle.script_run.specs.Forms.{sent_after, sent_by, setup_of, NamesOnly}
 use Rattle.script_run.specs.Scripts.{FitsAfter, AreLines, IsScript, IsAddressed}
 use Rattle.script_run.specs.Worlds.{IsWorld, Stands, TakesThere, MayStep, sent_counts, counts_after}

@@ -10,13 +10,13 @@ use Rattle.tact_base.specs.declared.write.Op.{Op}
 use Rattle.tact_base.specs.declared.write.Write.{Write}
 use Rattle.run_model.specs.Histories.{sent_in, taken_in, sent_by_act, is_call_of, calls_in, greatest}
 use Rattle.run_model.specs.OwnWrites.{own}
-use Rattle.run_model.specs.Kept.{Keeping, keeping, keeping_after, told_have, log_of, clock}
+use Rattle.run_model.specs.Taking.{OriginState, origin_state, after_taking, told_have, log_of, clock}
 use Rattle.run_model.specs.declared.call.Request.TheVariants as request
 use Rattle.run_model.specs.declared.call.Reply.TheVariants as reply
 use Rattle.run_model.specs.declared.entry.Act.TheVariants as act
 use Rattle.run_model.specs.declared.entry.Entry.{Entry}
 use Rattle.run_model.specs.declared.entry.Message.{Message}
-use Rattle.run_model.proofs.PartLemmas.{accepted_in, taken_by, greatest-append, own-push_none, own-push_some, sent_in-push_none, sent_in-push_some, taken_in-push_none, taken_in-push_some, keeping-push_none, keeping-push_some, known-push_none, known-push_from, known-push_other, calls_in-push, last_moment-push}
+use Rattle.run_model.proofs.PartLemmas.{accepted_in, taken_by, greatest-append, own-push_none, own-push_some, sent_in-push_none, sent_in-push_some, taken_in-push_none, taken_in-push_some, origin_state-push_none, origin_state-push_some, known-push_none, known-push_from, known-push_other, calls_in-push, last_moment-push}
 use Rattle.run_model.proofs.ClockLemmas.{clock-push_none, clock-accepted, clock-taken}
 use Rattle.run_model.proofs.Accepted.{log_of-same, log_of-other}
 use Rattle.script_run.specs.Seats.{State, StateStands, HasRoom, log_at, known_at, kept_at, kept_after, one_more, with_entry}
@@ -47,8 +47,8 @@ module _ (replica : ℕ) (part : List Entry) (state : State) (stands : StateStan
         replica_is = stands.replica_is;
         logs = λ origin within.
             stands.logs origin within
-            ∙ sym (ap₂ (λ (writes : List Write) (kept : Keeping). cond (origin == replica) writes kept.log) (own-push_none part entry refl) (keeping-push_none part entry origin refl));
-        covers = λ origin within other. stands.covers origin within other ∙ sym (ap (λ (kept : Keeping). kept.cover) (keeping-push_none part entry origin refl));
+            ∙ sym (ap₂ (λ (writes : List Write) (kept : OriginState). cond (origin == replica) writes kept.log) (own-push_none part entry refl) (origin_state-push_none part entry origin refl));
+        covers = λ origin within other. stands.covers origin within other ∙ sym (ap (λ (kept : OriginState). kept.cover) (origin_state-push_none part entry origin refl));
         known = λ peer origin peer_in origin_in. stands.known peer origin peer_in origin_in ∙ sym (known-push_none part entry peer origin refl);
         clock = stands.clock ∙ sym (clock-push_none part entry refl refl);
         calls = λ client within. omega (arith, stands.calls client within, calls_in-push part entry client);
@@ -86,7 +86,7 @@ module _ (replica : ℕ) (part : List Entry) (state : State) (stands : StateStan
         (λ (other : origin ≡ replica → ⊥).
         get_or-set_other state.logs replica origin (log_at state replica ++ write ∷ []) [] other
         ∙ stands.logs origin within ∙ log_of-other replica part origin other
-        ∙ sym (log_of-other replica (part ++ accepted ∷ []) origin other ∙ ap (λ (kept : Keeping). kept.log) (keeping-push_none part accepted origin refl)))
+        ∙ sym (log_of-other replica (part ++ accepted ∷ []) origin other ∙ ap (λ (kept : OriginState). kept.log) (origin_state-push_none part accepted origin refl)))
         (cases_eq origin replica)
 
     accepted_calls : HasRoom part → client < 8 → length state.calls ≡ 8 → (other : ℕ) → other < 8 → get_or accepting.calls other 0 ≡ calls_in (part ++ accepted ∷ []) other
@@ -112,7 +112,7 @@ module _ (replica : ℕ) (part : List Entry) (state : State) (stands : StateStan
     stands_accepted room among sized calls_sized of_client = record {
       replica_is = stands.replica_is;
       logs = accepted_logs among sized;
-      covers = λ origin within other. stands.covers origin within other ∙ sym (ap (λ (kept : Keeping). kept.cover) (keeping-push_none part accepted origin refl));
+      covers = λ origin within other. stands.covers origin within other ∙ sym (ap (λ (kept : OriginState). kept.cover) (origin_state-push_none part accepted origin refl));
       known = λ peer origin peer_in origin_in. stands.known peer origin peer_in origin_in ∙ sym (known-push_none part accepted peer origin refl);
       clock = omega (arith, stands.clock, room.clock, clock-accepted part accepted write refl refl);
       calls = accepted_calls room of_client calls_sized;
@@ -125,27 +125,27 @@ module _ (replica : ℕ) (part : List Entry) (state : State) (stands : StateStan
     abbrev taken : Entry
     taken = record { replica = replica; moment = moment; act = act.Take message }
 
-    kept_other : (origin : ℕ) → origin < state.replicas → (origin ≡ replica → ⊥) → kept_at after origin ≡ keeping (part ++ taken ∷ []) origin
+    kept_other : (origin : ℕ) → origin < state.replicas → (origin ≡ replica → ⊥) → kept_at after origin ≡ origin_state (part ++ taken ∷ []) origin
     kept_other origin within other =
         let test : (origin == state.replica) ≡ false = ne_eqb origin state.replica (λ same. other (same ∙ stands.replica_is)) in
-        let was : kept_at state origin ≡ keeping part origin =
-        ap₂ (λ (log : List Write) (cover : Cover). let k : Keeping = record { log = log; cover = cover } in k) (stands.logs origin within ∙ log_of-other replica part origin other) (stands.covers origin within other) in
+        let was : kept_at state origin ≡ origin_state part origin =
+        ap₂ (λ (log : List Write) (cover : Cover). let k : OriginState = record { log = log; cover = cover } in k) (stands.logs origin within ∙ log_of-other replica part origin other) (stands.covers origin within other) in
         kept origin within
-        ∙ ap (λ yes. cond yes (kept_at state origin) (keeping_after origin (kept_at state origin) message)) test
-        ∙ ap (λ (k : Keeping). keeping_after origin k message) was
-        ∙ sym (keeping-push_some part taken origin message refl)
+        ∙ ap (λ yes. cond yes (kept_at state origin) (after_taking origin (kept_at state origin) message)) test
+        ∙ ap (λ (k : OriginState). after_taking origin k message) was
+        ∙ sym (origin_state-push_some part taken origin message refl)
 
     taken_logs : (origin : ℕ) → origin < state.replicas → log_at after origin ≡ log_of replica (part ++ taken ∷ []) origin
     taken_logs origin within = ⊎_elim
         (λ (same : origin ≡ replica).
         let test : (origin == state.replica) ≡ true = eq-eqb origin state.replica (same ∙ sym stands.replica_is) in
         let own_kept : kept_at after origin ≡ kept_at state origin =
-        kept origin within ∙ ap (λ yes. cond yes (kept_at state origin) (keeping_after origin (kept_at state origin) message)) test in
-        ap (λ (k : Keeping). k.log) own_kept ∙ stands.logs origin within
+        kept origin within ∙ ap (λ yes. cond yes (kept_at state origin) (after_taking origin (kept_at state origin) message)) test in
+        ap (λ (k : OriginState). k.log) own_kept ∙ stands.logs origin within
         ∙ ap (λ (o : ℕ). log_of replica part o) same ∙ log_of-same replica part
         ∙ sym (ap (λ (o : ℕ). log_of replica (part ++ taken ∷ []) o) same ∙ log_of-same replica (part ++ taken ∷ []) ∙ own-push_none part taken refl))
         (λ (other : origin ≡ replica → ⊥).
-        ap (λ (k : Keeping). k.log) (kept_other origin within other) ∙ sym (log_of-other replica (part ++ taken ∷ []) origin other))
+        ap (λ (k : OriginState). k.log) (kept_other origin within other) ∙ sym (log_of-other replica (part ++ taken ∷ []) origin other))
         (cases_eq origin replica)
 
     pub stands_taken : after.replica ≡ state.replica → after.replicas ≡ state.replicas
@@ -158,7 +158,7 @@ module _ (replica : ℕ) (part : List Entry) (state : State) (stands : StateStan
     stands_taken same_replica same_replicas learned others from rises same_calls same_sends is_last = record {
       replica_is = same_replica ∙ stands.replica_is;
       logs = λ origin within. taken_logs origin (omega (arith, within, same_replicas));
-      covers = λ origin within other. ap (λ (k : Keeping). k.cover) (kept_other origin (omega (arith, within, same_replicas)) other);
+      covers = λ origin within other. ap (λ (k : OriginState). k.cover) (kept_other origin (omega (arith, within, same_replicas)) other);
       known = λ peer origin peer_in origin_in.
           let peer_within : peer < state.replicas = omega (arith, peer_in, same_replicas) in
           let origin_within : origin < state.replicas = omega (arith, origin_in, same_replicas) in

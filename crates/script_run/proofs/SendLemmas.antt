@@ -5,21 +5,20 @@ use Rattle.std.proofs.lemmas.Bool.{eq-eqb, ne_eqb}
 use Rattle.std.proofs.lemmas.List.Elements.{All-head, All-tail}
 use Rattle.std.proofs.lemmas.List.Sums.{sum_by-cons}
 use Rattle.std.proofs.lemmas.List.FromFn.{length-map-range_with_len}
-use Rattle.tact_base.proofs.ListLemmas.{All-range, flat_map_agree, get_or-map_range}
+use Rattle.tact_base.proofs.ListLemmas.{All-range, flat_map_agree, get_or-map_range, map_range_agree}
 use Rattle.tact_base.specs.declared.limits.TheConstants.{MESSAGE_WRITES}
 use Rattle.tact_base.specs.declared.write.Cover.{Cover}
 use Rattle.tact_base.specs.declared.write.Write.{Write}
-use Rattle.run_model.specs.Config.{Setup, loan_of}
-use Rattle.run_model.specs.Histories.{replicas_of}
-use Rattle.run_model.specs.Kept.{log_of, have, cover_of}
-use Rattle.run_model.specs.Loans.{lent_by_act, returned_by_act, lent, returned}
+use Rattle.tact_base.specs.Setup.{Setup, loan_of, replicas_of}
+use Rattle.run_model.specs.Taking.{log_of, have, cover_of}
+use Rattle.run_model.specs.Loans.{lent_by_act, returned_by_act, lent, returned, MovesNoLoan, HasNoLoans}
 use Rattle.run_model.specs.Messages.{first_for, writes_for, message_of}
 use Rattle.run_model.specs.declared.entry.Act.{Act}
 use Rattle.run_model.specs.declared.entry.Act.TheVariants as act
 use Rattle.run_model.specs.declared.entry.Entry.{Entry}
 use Rattle.run_model.specs.declared.entry.Message.{Message}
-use Rattle.script_run.specs.Seats.{State, StateStands, MovesNoLoan, HasNoLoans, IsFor, log_at, known_at, cover_told, first_told, origins_of, next_message}
-use Rattle.script_run.proofs.Ranges.{flat_map_range_more}
+use Rattle.script_run.specs.Seats.{State, StateStands, IsFor, log_at, known_at, cover_told, first_told, origins_of, next_message}
+use Rattle.run_model.proofs.SentMessages.{lent_opening, returned_nothing, same_message}
 use Rattle.script_run.proofs.ReadLemmas.{stands_have, stands_cover}
 
 pub first_told-same : (state : State) (to : ℕ) (given : List ℕ) (origin : ℕ) → origin ≡ to → first_told state to given origin ≡ length (log_at state origin)
@@ -29,32 +28,6 @@ first_told-same state to given origin same =
 pub first_told-other : (state : State) (to : ℕ) (given : List ℕ) (origin : ℕ) → (origin ≡ to → ⊥) → first_told state to given origin ≡ min (length (log_at state origin)) (max (get_or given origin 0) (known_at state to origin))
 first_told-other state to given origin other =
     ap (λ yes. cond yes (length (log_at state origin)) (min (length (log_at state origin)) (max (get_or given origin 0) (known_at state to origin)))) (ne_eqb origin to other)
-
--- the first few of two lists, and of one more origin
-take-append : {A : Type 0} (m : ℕ) (xs ys : List A) → take m (xs ++ ys) ≡ take m xs ++ take (m - length (take m xs)) ys
-take-append zero xs ys = refl
-take-append (suc m) [] ys = let e : suc m - 0 ≡ suc m = omega arith in ap (λ n. take n ys) (sym e)
-take-append (suc m) (x ∷ xs) ys =
-    let e : suc m - suc (length (take m xs)) ≡ m - length (take m xs) = omega arith in
-    ap (λ (rest : List _). x ∷ rest) (take-append m xs ys ∙ ap (λ n. take m xs ++ take n ys) (sym e))
-
-pub writes_more : (of_origin : ℕ → List Write) (n room : ℕ) (before after : List Write) → before ≡ take 64 (flat_map of_origin (range_with_len 0 n)) → room ≡ 64 - length before
-    → after ≡ before ++ take room (of_origin n) → after ≡ take 64 (flat_map of_origin (range_with_len 0 (n + 1)))
-writes_more of_origin n room before after was left grew =
-    grew
-    ∙ ap (λ (k : ℕ). before ++ take k (of_origin n)) left
-    ∙ ap (λ (ws : List Write). ws ++ take (64 - length ws) (of_origin n)) was
-    ∙ sym (take-append 64 (flat_map of_origin (range_with_len 0 n)) (of_origin n))
-    ∙ ap (take 64) (sym (flat_map_range_more of_origin n))
-
--- two functions that agree below a bound
-map_agree : {A : Type 0} (f g : ℕ → A) (xs : List ℕ) → All (λ n. f n ≡ g n) xs → map f xs ≡ map g xs
-map_agree f g [] all = refl
-map_agree f g (x ∷ xs) all =
-    rw (All-head (λ n. f n ≡ g n) x xs all, map_agree f g xs (All-tail (λ n. f n ≡ g n) x xs all)) refl
-
-map_range_agree : {A : Type 0} (f g : ℕ → A) (len : ℕ) → ((n : ℕ) → n < len → f n ≡ g n) → map f (range_with_len 0 len) ≡ map g (range_with_len 0 len)
-map_range_agree f g len agree = map_agree f g (range_with_len 0 len) (All-range (λ n. f n ≡ g n) 0 len (λ n low high. agree n (omega (arith, high))))
 
 -- its writes, by the firsts of its message
 pub writes_told : (state : State) (to : ℕ) (given : List ℕ)
@@ -73,41 +46,6 @@ next_is_for setup state moment to given among = record {
   covers = length-map-range_with_len (cover_told state moment) 0 state.replicas;
   firsts = length-map-range_with_len (first_told state to given) 0 state.replicas;
 }
-
--- a part without loans lent and gave back nothing
-lends_nothing : (done : Act) (holder conit : ℕ) → MovesNoLoan done → lent_by_act holder conit done ≡ 0
-lends_nothing (act.Lend to at amount) holder conit none = absurd none
-lends_nothing other holder conit none = refl
-
-returns_nothing : (done : Act) (owner conit : ℕ) → MovesNoLoan done → returned_by_act owner conit done ≡ 0
-returns_nothing (act.Back to at amount) owner conit none = absurd none
-returns_nothing other owner conit none = refl
-
-sum_of_none : {A : Type 0} (f : A → ℕ) (xs : List A) → All (λ x. f x ≡ 0) xs → sum_by f xs ≡ 0
-sum_of_none f [] all = refl
-sum_of_none f (x ∷ xs) all =
-    omega (arith, sum_by-cons f x xs, All-head (λ x. f x ≡ 0) x xs all, sum_of_none f xs (All-tail (λ x. f x ≡ 0) x xs all))
-
-lent_opening : (setup : Setup) (replica : ℕ) (part : List Entry) (holder conit : ℕ) → HasNoLoans part → lent setup replica part holder conit ≡ loan_of setup replica conit holder
-lent_opening setup replica part holder conit none =
-    omega (arith, sum_of_none (λ (entry : Entry). lent_by_act holder conit entry.act) part (λ k d within. lends_nothing (get_or part k d).act holder conit (none k d within)))
-
-returned_nothing : (part : List Entry) (owner conit : ℕ) → HasNoLoans part → returned part owner conit ≡ 0
-returned_nothing part owner conit none =
-    sum_of_none (λ (entry : Entry). returned_by_act owner conit entry.act) part (λ k d within. returns_nothing (get_or part k d).act owner conit (none k d within))
-
--- messages of the same parts
-abbrev pub told_by : ℕ → ℕ → ℕ → List ℕ → List Cover → List ℕ → List Write → List ℕ → List ℕ → Message
-told_by from to number haves covers firsts writes lent returned = record { from = from; to = to; number = number; haves = haves; covers = covers; firsts = firsts; writes = writes; lent = lent; returned = returned }
-
-pub same_message : (from from' to number number' : ℕ) (haves haves' : List ℕ) (covers covers' : List Cover) (firsts firsts' : List ℕ) (writes writes' : List Write) (lent lent' returned returned' : List ℕ)
-    → from ≡ from' → number ≡ number' → haves ≡ haves' → covers ≡ covers' → firsts ≡ firsts' → writes ≡ writes' → lent ≡ lent' → returned ≡ returned'
-    → told_by from to number haves covers firsts writes lent returned ≡ told_by from' to number' haves' covers' firsts' writes' lent' returned'
-same_message from from' to number number' haves haves' covers covers' firsts firsts' writes writes' lent lent' returned returned' a b c d e f g h =
-    ap₂ (λ x y. told_by x to y haves covers firsts writes lent returned) a b
-    ∙ ap₂ (λ x y. told_by from' to number' x y firsts writes lent returned) c d
-    ∙ ap₂ (λ x y. told_by from' to number' haves' covers' x y lent returned) e f
-    ∙ ap₂ (λ x y. told_by from' to number' haves' covers' firsts' writes' x y) g h
 
 -- where it stands for a part, it sends the message that is due after it
 module _ (setup : Setup) (replica : ℕ) (part : List Entry) (state : State) (stands : StateStands replica part state) (size : setup.replicas ≡ state.replicas) where

@@ -25,7 +25,7 @@ use Rattle.run_model.specs.Text.{spaced}
 use Rattle.script_run.specs.Shown.{stamp_at, writes_tokens, place_of, place_cmp, place_before, later_place, later_to}
 use Rattle.script_run.specs.declared.seat.Seat.{Seat}
 use Rattle.script_run.specs.declared.show.Place.{Place}
-use Rattle.script_run.proofs.Ranges.{map_more, flat_map_range_more}
+use Rattle.tact_base.proofs.RangeLists.{map_more, flat_map_range_more}
 
 -- one more number
 pub fold_map_more : {B : Type 0} (h : B → ℕ → B) (b : B) (f : ℕ → ℕ) (n : ℕ)
@@ -194,10 +194,10 @@ last_committed_place point writes =
 -- the stamp of a cover that a replica has, and of its own
 pub cover_stamp : (seat : Seat) (origin : ℕ) (own other : Cover) → own.stamp ≡ seat.clock → other ≡ get_or seat.covers.items origin no_cover
     → (if origin == seat.replica then own else other).stamp ≡ stamp_at seat origin
-cover_stamp seat origin own other mine kept = go (origin == seat.replica)
+cover_stamp seat origin own other part_of kept = go (origin == seat.replica)
   where
     go : (is : Bool) → (if is then own else other).stamp ≡ (if is then seat.clock else (get_or seat.covers.items origin no_cover).stamp)
-    go true = mine
+    go true = part_of
     go false = ap (λ (cover : Cover). cover.stamp) kept
 
 pub own_stamp : (seat : Seat) → stamp_at seat seat.replica ≡ seat.clock

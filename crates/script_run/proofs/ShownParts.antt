@@ -7,9 +7,9 @@ use Rattle.tact_base.specs.Covers.{no_cover, least_of}
 use Rattle.tact_base.specs.declared.write.Cover.{Cover}
 use Rattle.tact_base.specs.declared.write.Write.{Write}
 use Rattle.tact_base.proofs.ListLemmas.{All-range, flat_map_agree}
-use Rattle.run_model.specs.Config.{Setup}
-use Rattle.run_model.specs.Histories.{mine}
-use Rattle.run_model.specs.Kept.{keeping, log_of, cover_of, clock}
+use Rattle.tact_base.specs.Setup.{Setup}
+use Rattle.run_model.specs.Histories.{part_of}
+use Rattle.run_model.specs.Taking.{origin_state, log_of, cover_of, clock}
 use Rattle.run_model.specs.OwnWrites.{own}
 use Rattle.run_model.specs.ScriptRuns.{comment, show_text}
 use Rattle.run_model.specs.declared.entry.Entry.{Entry}
@@ -29,14 +29,14 @@ map_itself (x ∷ xs) = ap (λ rest. x ∷ rest) (map_itself xs)
 -- A replica whose logs, covers and clock are those of a part.
 module _ (seat : Seat) (part : List Entry)
     (logs : (origin : ℕ) → origin < seat.replicas → get_or seat.logs.items origin [] ≡ log_of seat.replica part origin)
-    (covers : (origin : ℕ) → origin < seat.replicas → origin ≢ seat.replica → get_or seat.covers.items origin no_cover ≡ (keeping part origin).cover)
+    (covers : (origin : ℕ) → origin < seat.replicas → origin ≢ seat.replica → get_or seat.covers.items origin no_cover ≡ (origin_state part origin).cover)
     (clock_is : seat.clock ≡ clock part) where
   stamps : (origin : ℕ) → origin < seat.replicas → stamp_at seat origin ≡ (cover_of seat.replica part 0 origin).stamp
   stamps origin within = go (origin == seat.replica) refl
     where
       go : (is : Bool) → (origin == seat.replica) ≡ is
           → (if is then seat.clock else (get_or seat.covers.items origin no_cover).stamp)
-          ≡ (if is then record { count = length (own part); stamp = clock part; moment = 0 } else (keeping part origin).cover).stamp
+          ≡ (if is then record { count = length (own part); stamp = clock part; moment = 0 } else (origin_state part origin).cover).stamp
       go true is = clock_is
       go false is =
           ap (λ (cover : Cover). cover.stamp)
@@ -75,13 +75,13 @@ text_same replica h h' c c' p p' w w' hs cs ps ws =
 
 -- Such a replica is shown as the meaning of a script has it.
 pub seat_text-show_text : (setup : Setup) (history : List Entry) (seat : Seat) → setup.replicas ≡ seat.replicas
-    → ((origin : ℕ) → origin < seat.replicas → get_or seat.logs.items origin [] ≡ log_of seat.replica (mine history seat.replica) origin)
-    → ((origin : ℕ) → origin < seat.replicas → origin ≢ seat.replica → get_or seat.covers.items origin no_cover ≡ (keeping (mine history seat.replica) origin).cover)
-    → seat.clock ≡ clock (mine history seat.replica)
+    → ((origin : ℕ) → origin < seat.replicas → get_or seat.logs.items origin [] ≡ log_of seat.replica (part_of history seat.replica) origin)
+    → ((origin : ℕ) → origin < seat.replicas → origin ≢ seat.replica → get_or seat.covers.items origin no_cover ≡ (origin_state (part_of history seat.replica) origin).cover)
+    → seat.clock ≡ clock (part_of history seat.replica)
     → seat_text seat ≡ show_text setup history seat.replica
 unfolding shown_text text_of writes_tokens
 seat_text-show_text setup history seat same logs covers clock_is =
-    let part = mine history seat.replica in
+    let part = part_of history seat.replica in
     rw same
     (text_same seat.replica _ _ _ _ _ _ _ _ (haves_same seat part logs covers clock_is) clock_is
     (ap least_of (points_same seat part logs covers clock_is)) (writes_same seat part logs covers clock_is))

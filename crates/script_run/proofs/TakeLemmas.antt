@@ -5,7 +5,7 @@ use Rattle.std.proofs.lemmas.List.{append-nil, append_assoc, drop_all, drop-appe
 use Rattle.std.proofs.lemmas.List.Elements.{filter_more}
 use Rattle.std.proofs.lemmas.Nat.{mul-add-lt, same_from_place}
 use Rattle.tact_base.specs.declared.write.Write.{Write}
-use Rattle.run_model.specs.Kept.{told_have}
+use Rattle.run_model.specs.Taking.{told_have}
 use Rattle.run_model.specs.declared.entry.Message.{Message}
 use Rattle.script_run.specs.declared.seat.Seat.{Seat}
 use Rattle.script_run.specs.Seats.{State, log_at, known_at}

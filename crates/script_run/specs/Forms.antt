@@ -3,7 +3,7 @@ use Rattle.std.specs.Prelude.{◌≡◌, ◌≢◌, ℕ, ◌-◌, ◌*◌, ◌^�
 use Rattle.std.specs.List.{flat_map, range_with_len}
 use Rattle.std.specs.Option.{option_map_or}
 use Rattle.tact_base.specs.declared.limits.TheConstants.{REPLICAS_MIN, REPLICAS_MAX, CONITS_MAX, CLIENTS, ALPHA_MAX, AMOUNT_MAX}
-use Rattle.run_model.specs.Config.{Setup, setup, config_fault}
+use Rattle.tact_base.specs.Setup.{Setup, setup, config_fault}
 use Rattle.run_model.specs.Ranges.{IsOpInRange}
 use Rattle.run_model.specs.declared.script_line.Line.{Line}
 use Rattle.run_model.specs.declared.script_line.Line.TheVariants as line

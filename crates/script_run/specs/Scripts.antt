@@ -10,7 +10,7 @@ use Rattle.script_run.specs.declared.script.ScriptFault.TheVariants as faults
 use Rattle.script_run.specs.Cutting.{raw_lines, tokens}
 use Rattle.script_run.specs.Fields.{◌>>=◌, Tokens}
 use Rattle.script_run.specs.Forms.{first_at, later_at, of_whole, is_sent, sent_by, setup_of, opening, NamesOnly}
-use Rattle.run_model.specs.Config.{IsSetup}
+use Rattle.tact_base.specs.Setup.{IsSetup}
 use Rattle.run_model.specs.declared.script_line.Line.TheVariants as line
 use Rattle.script_run.specs.declared.reader.Reader.{Reader}
 

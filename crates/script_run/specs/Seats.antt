@@ -5,9 +5,9 @@ use Rattle.tact_base.specs.Covers.{no_cover}
 use Rattle.tact_base.specs.declared.limits.TheConstants.{MESSAGE_WRITES, STAMP_MAX}
 use Rattle.tact_base.specs.declared.write.Cover.{Cover}
 use Rattle.tact_base.specs.declared.write.Write.{Write}
-use Rattle.run_model.specs.Config.{Setup, loan_of}
-use Rattle.run_model.specs.Histories.{conits_of, sent_in, calls_in, last_moment}
-use Rattle.run_model.specs.Kept.{Keeping, keeping, keeping_after, log_of, clock, known}
+use Rattle.tact_base.specs.Setup.{Setup, loan_of, conits_of}
+use Rattle.run_model.specs.Histories.{sent_in, calls_in, last_moment}
+use Rattle.run_model.specs.Taking.{OriginState, origin_state, after_taking, log_of, clock, known}
 use Rattle.run_model.specs.declared.entry.Act.{Act}
 use Rattle.run_model.specs.declared.entry.Act.TheVariants as act
 use Rattle.run_model.specs.declared.entry.Entry.{Entry}
@@ -75,7 +75,7 @@ known_at state peer origin = slice_index state.known (peer * state.replicas + or
 pub record StateStands (replica : ℕ) (part : List Entry) (state : State) : Type 0 where
   pub replica_is : state.replica ≡ replica
   pub logs : (origin : ℕ) → origin < state.replicas → log_at state origin ≡ log_of replica part origin
-  pub covers : (origin : ℕ) → origin < state.replicas → origin ≢ replica → cover_at state origin ≡ (keeping part origin).cover
+  pub covers : (origin : ℕ) → origin < state.replicas → origin ≢ replica → cover_at state origin ≡ (origin_state part origin).cover
   pub known : (peer origin : ℕ) → peer < state.replicas → origin < state.replicas → known_at state peer origin ≡ known part peer origin
   pub clock : state.clock ≡ clock part
   pub calls : (client : ℕ) → client < 8 → slice_index state.calls client ≡ calls_in part client
@@ -90,15 +90,6 @@ SeatStands replica part seat = StateStands replica part (state_of seat)
 pub record HasRoom (part : List Entry) : Type 0 where
   pub clock : clock part < STAMP_MAX
   pub entries : length part < STAMP_MAX
-
--- a part in which nothing was lent or given back
-abbrev pub MovesNoLoan : Act → Type 0
-MovesNoLoan (act.Lend to conit amount) = ⊥
-MovesNoLoan (act.Back owner conit amount) = ⊥
-MovesNoLoan other = Unit {0}
-
-abbrev pub HasNoLoans : List Entry → Type 0
-HasNoLoans part = All (λ entry. MovesNoLoan entry.act) part
 
 -- one more, at most the greatest u64
 abbrev pub one_more : ℕ → ℕ
@@ -134,11 +125,11 @@ next_message setup state moment to given = record {
 }
 
 -- what it keeps of an origin, and the same after a message, which leaves its own writes alone
-abbrev pub kept_at : State → ℕ → Keeping
+abbrev pub kept_at : State → ℕ → OriginState
 kept_at state origin = record { log = log_at state origin; cover = cover_at state origin }
 
-abbrev pub kept_after : State → Message → ℕ → Keeping
-kept_after state message origin = if origin == state.replica then kept_at state origin else keeping_after origin (kept_at state origin) message
+abbrev pub kept_after : State → Message → ℕ → OriginState
+kept_after state message origin = if origin == state.replica then kept_at state origin else after_taking origin (kept_at state origin) message
 
 -- the part of a replica with one more entry
 abbrev pub with_entry : ℕ → List Entry → ℕ → Act → List Entry

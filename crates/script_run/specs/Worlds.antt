@@ -5,8 +5,8 @@ use Rattle.run_model.specs.declared.script_line.Line.TheVariants as line
 use Rattle.tact_base.specs.declared.conit_list.Weight.{Weight}
 use Rattle.tact_base.specs.declared.limits.TheConstants.{STAMP_MAX}
 use Rattle.tact_base.specs.declared.write.Op.{Op}
-use Rattle.run_model.specs.Config.{Setup}
-use Rattle.run_model.specs.Histories.{mine, sent_in, calls_in, last_moment}
+use Rattle.tact_base.specs.Setup.{Setup}
+use Rattle.run_model.specs.Histories.{part_of, sent_in, calls_in, last_moment}
 use Rattle.run_model.specs.Messages.{message_of}
 use Rattle.run_model.specs.Replies.{done}
 use Rattle.run_model.specs.ScriptRuns.{Played, after_line, text_after}
@@ -16,7 +16,8 @@ use Rattle.run_model.specs.declared.entry.Act.TheVariants as act
 use Rattle.run_model.specs.declared.entry.Entry.{Entry}
 use Rattle.run_model.specs.declared.entry.Message.{Message}
 use Rattle.script_run.specs.Forms.{NamesOnly, setup_of, sent_by}
-use Rattle.script_run.specs.Seats.{AreSeats, AreSent, SeatStands, HasRoom, HasNoLoans}
+use Rattle.run_model.specs.Loans.{HasNoLoans}
+use Rattle.script_run.specs.Seats.{AreSeats, AreSent, SeatStands, HasRoom}
 use Rattle.script_run.specs.declared.seat.Seat.{Seat}
 use Rattle.script_run.specs.declared.world.World.{World}
 
@@ -51,8 +52,8 @@ pub record Stands (world : World) (lines : List Line) : Type 0 where
 
 -- each replica stands for its part of a history, and the messages that each sent are kept
 pub record StandsFor (world : World) (history : List Entry) : Type 0 where
-  pub seats : (k : ℕ) (d : Seat) → k < world.config.replicas → SeatStands k (mine history k) (slice_index_or world.seats.items k d)
-  pub sent : (k : ℕ) → k < world.config.replicas → slice_index_or world.sent.items k [] ≡ sent_in (mine history k)
+  pub seats : (k : ℕ) (d : Seat) → k < world.config.replicas → SeatStands k (part_of history k) (slice_index_or world.seats.items k d)
+  pub sent : (k : ℕ) → k < world.config.replicas → slice_index_or world.sent.items k [] ≡ sent_in (part_of history k)
 
 -- and the entries are counted
 pub record Plays (world : World) (played : Played) : Type 0 where
@@ -62,23 +63,23 @@ pub record Plays (world : World) (played : Played) : Type 0 where
 -- a history in which all happens at moment 0, within the limits and without loans
 pub record IsEarly (history : List Entry) : Type 0 where
   pub few : length history < STAMP_MAX
-  pub moments : (k : ℕ) → last_moment (mine history k) ≡ 0
-  pub room : (k : ℕ) → HasRoom (mine history k)
-  pub loans : (k : ℕ) → HasNoLoans (mine history k)
+  pub moments : (k : ℕ) → last_moment (part_of history k) ≡ 0
+  pub room : (k : ℕ) → HasRoom (part_of history k)
+  pub loans : (k : ℕ) → HasNoLoans (part_of history k)
 
 -- the act of a replica that is due where its part is so far: a write without weights, a sending, the taking of a sent message
 abbrev pub write_due : ℕ → ℕ → List Weight → Op → List Entry → Act
 write_due replica client weights op part = act.Call client (calls_in part client) (request.Write weights op) (done replica part)
 
 abbrev pub IsWriteDue : ℕ → ℕ → List Weight → Op → List Entry → Act → Type 0
-IsWriteDue replica client weights op history did = did ≡ write_due replica client weights op (mine history replica)
+IsWriteDue replica client weights op history did = did ≡ write_due replica client weights op (part_of history replica)
 
 abbrev pub IsSendDue : Setup → ℕ → ℕ → List ℕ → List Entry → Act → Type 0
-IsSendDue setup from to firsts history did = did ≡ act.Send (message_of setup from (mine history from) 0 to firsts)
+IsSendDue setup from to firsts history did = did ≡ act.Send (message_of setup from (part_of history from) 0 to firsts)
 
 abbrev pub IsTakeDue : ℕ → ℕ → List Entry → Act → Type 0
 IsTakeDue from number history did =
-    (message : Message) × (slice_get (sent_in (mine history from)) number ≡ Some message) × (did ≡ act.Take message)
+    (message : Message) × (slice_get (sent_in (part_of history from)) number ≡ Some message) × (did ≡ act.Take message)
 
 -- a history with one more entry at moment 0
 abbrev pub with_act : List Entry → ℕ → Act → List Entry

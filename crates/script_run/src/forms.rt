@@ -1,7 +1,7 @@
 //! The forms of a script's lines. Each reader is given what is left of the line after its first word.
 ghost use Rattle.std.specs.Prelude.{◌≡◌, ◌<◌, ◌≤◌, [], ◌∷◌, ◌++◌, ◌==◌, false, length, OnOk, IfOk, Ok, Err, replicate, if◌then◌else◌};
 ghost use Rattle.std.specs.List.{flat_map, range_with_len};
-ghost use Rattle.run_model.specs.Config.{IsSetup};
+ghost use Rattle.tact_base.specs.Setup.{IsSetup};
 ghost use Rattle.script_run.specs.Scripts.{IsScript};
 ghost use Rattle.run_model.specs.declared.status.LineKind.TheVariants.{LoansOver};
 ghost use Rattle.script_run.specs.Cutting.{tokens};
@@ -60,7 +60,7 @@ fn push_rows(
     Ok(())
 }
 
-#[tactic(auto, using(crate::proofs::Ranges::flat_map_range_more))]
+#[tactic(auto, using(tact_base::proofs::RangeLists::flat_map_range_more))]
 fn opening_loans(alloc: Global, replicas: u32, conits: u32, loan: u64) -> Result<Numbers, NoMemory>
     ensures { IfOk result (λ list. list ≡ opening_loans replicas conits loan) }
 {

@@ -2,7 +2,7 @@
 ghost use Rattle.std.specs.Prelude.{◌≡◌, ◌*◌, ◌+◌, ◌<◌, ◌≤◌, max, List, [], ◌∷◌, ◌++◌, length, map, take, drop, vec_len, slice_index, slice_set, IfOk, OnOk, OnErr};
 ghost use Rattle.tact_base.specs.Covers.{cover_after};
 ghost use Rattle.run_model.specs.Histories.{greatest, calls_in};
-ghost use Rattle.run_model.specs.Kept.{have, clock};
+ghost use Rattle.run_model.specs.Taking.{have, clock};
 ghost use Rattle.run_model.specs.declared.call.Request.TheVariants as request;
 ghost use Rattle.run_model.specs.declared.call.Reply.TheVariants as reply;
 ghost use Rattle.run_model.specs.declared.entry.Act.TheVariants as act;
@@ -40,7 +40,7 @@ pub(crate) struct Seat {
 }
 
 impl Seat {
-    ghost use Rattle.script_run.specs.Seats.{state_of, log_at, SeatStands};
+    ghost use Rattle.script_run.specs.Seats.{state_of, log_at, SeatStands, SameSize, cover_at, known_at, cover_told, one_more, HasRoom, StandsWith};
 
     /// A replica that has done nothing.
     pub(crate) fn new(alloc: Global, replica: u32, replicas: u32) -> Result<Self, NoMemory>
@@ -83,7 +83,6 @@ impl Seat {
 }
 
 impl Seat {
-    ghost use Rattle.script_run.specs.Seats.{SameSize, state_of, log_at, cover_at, known_at, cover_told, one_more, SeatStands, HasRoom, StandsWith};
 
     /// Its number.
     pub(crate) fn replica(&self) -> u32

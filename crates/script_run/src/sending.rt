@@ -1,12 +1,12 @@
 //! The message that a replica sends.
 ghost use Rattle.std.specs.Prelude.{◌≡◌, ◌<◌, ◌≤◌, List, take, drop, length, map, vec_len, slice_index, IfOk, OnOk, OnErr};
 ghost use Rattle.std.specs.List.{flat_map, range_with_len};
-ghost use Rattle.run_model.specs.Config.{loan_of};
-ghost use Rattle.run_model.specs.Histories.{conits_of};
+ghost use Rattle.tact_base.specs.Setup.{loan_of, conits_of};
 ghost use Rattle.run_model.specs.Messages.{message_of};
 ghost use Rattle.run_model.specs.declared.entry.Act.TheVariants as act;
 ghost use Rattle.run_model.specs.declared.entry.Entry.{Entry};
-ghost use Rattle.script_run.specs.Seats.{SameSize, IsFor, state_of, log_at, cover_told, first_told, origins_of, next_message, SeatStands, HasNoLoans, StandsWith};
+ghost use Rattle.run_model.specs.Loans.{HasNoLoans};
+ghost use Rattle.script_run.specs.Seats.{SameSize, IsFor, state_of, log_at, cover_told, first_told, origins_of, next_message, SeatStands, StandsWith};
 
 use crate::seat::Seat;
 use run_model::{Config, Message};

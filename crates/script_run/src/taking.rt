@@ -1,7 +1,7 @@
 //! What a taken message changes.
 ghost use Rattle.std.specs.Prelude.{◌≡◌, ◌≢◌, ℕ, ◌<◌, ◌≤◌, max, length, vec_len, slice_set, OnOk};
 ghost use Rattle.tact_base.specs.Logs.{log_after};
-ghost use Rattle.run_model.specs.Kept.{keeping_after, told_first, told_have, told_writes};
+ghost use Rattle.run_model.specs.Taking.{after_taking, told_first, told_have, told_writes};
 ghost use Rattle.run_model.specs.declared.entry.Act.TheVariants as act;
 ghost use Rattle.script_run.specs.Seats.{SameSize, IsFor, state_of, log_at, known_at, kept_at, kept_after, StandsWith};
 
@@ -44,7 +44,7 @@ impl Seat {
         requires origin { origin < self.old.replicas }
         ensures same { SameSize self.old self.new }
         ensures only { OnOk result (state_of self.new ≡ record (state_of self.old) { logs = self.new.logs.items; covers = self.new.covers.items }) }
-        ensures kept { OnOk result (kept_at (state_of self.new) origin ≡ keeping_after origin (kept_at (state_of self.old) origin) message.now) }
+        ensures kept { OnOk result (kept_at (state_of self.new) origin ≡ after_taking origin (kept_at (state_of self.old) origin) message.now) }
         ensures others { OnOk result ((other : ℕ) → other ≢ origin → kept_at (state_of self.new) other ≡ kept_at (state_of self.old) other) }
     {
         self.take_writes(message, origin)?;

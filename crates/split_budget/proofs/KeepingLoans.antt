@@ -8,7 +8,7 @@ use Rattle.split_budget.specs.Budgets.{BudgetState, budget_of, IsPeer, place_in,
 use Rattle.split_budget.specs.Kept.{KeepsPeer, KeepsBudgets}
 use Rattle.split_budget.proofs.Places.{place_of-replica, place_of-conit, get_or-set_cases, get_or-set_grows}
 use Rattle.split_budget.proofs.Peers.{at_others, at_others-le, at_others-peer, sum-peers, sum_below-le, sum_below-one}
-use Rattle.split_budget.proofs.Keeping.{place_in-within}
+use Rattle.split_budget.proofs.OriginState.{place_in-within}
 
 -- A holder gave back more.
 module _ (s : BudgetState) (keeps : KeepsBudgets s) (holder conit told : ℕ) (is_holder : IsPeer s holder) (conit_in : conit < s.conits) (less : told ≤ lent_to s holder conit) where

@@ -3,6 +3,6 @@ pub mod Parts
 pub mod Peers
 pub mod Refusals
 pub mod Openings
-pub mod Keeping
+pub mod OriginState
 pub mod KeepingLoans
 pub mod KeepingWrites

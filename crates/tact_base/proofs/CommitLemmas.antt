@@ -9,7 +9,7 @@ use Rattle.tact_base.specs.declared.write.Write.{Write}
 use Rattle.tact_base.proofs.CompareLemmas.{AreApart, before_order, before_upto, stamp-le_not_before}
 use Rattle.tact_base.proofs.ElementLemmas.{Contains-filter, Contains-from_filter, passes_in_filter, filter-filter}
 use Rattle.tact_base.proofs.ListLemmas.{filter_all, filter_none}
-use Rattle.tact_base.proofs.OrderLemmas.{Apart, with_write_first, with_write_behind, IsOrdered, IsOrdered-in_order, IsOrdered-from_sorted, IsSorted-in_order, in_order_same}
+use Rattle.tact_base.proofs.OrderLemmas.{Apart, with_write_first, with_write_behind, IsSortedByPlace, IsSortedByPlace-in_order, IsSortedByPlace-from_sorted, IsSorted-in_order, in_order_same}
 
 -- a filter of a list that begins with what a write goes behind
 filter_behind : (write first : Write) (rest after : List Write) → comes_before write first ≡ false → (kept kept_first : Bool) → after ≡ (if kept then with_write write rest else rest)
@@ -20,7 +20,7 @@ filter_behind write first rest after behind false true is = ap (λ (l : List Wri
 filter_behind write first rest after behind false false is = is
 
 -- a filter of an ordered list with one more write
-pub filter-with_write : (p : Write → Bool) (write : Write) (writes : List Write) → IsOrdered writes
+pub filter-with_write : (p : Write → Bool) (write : Write) (writes : List Write) → IsSortedByPlace writes
     → filter p (with_write write writes) ≡ (if p write then with_write write (filter p writes) else filter p writes)
 filter-with_write p write [] ordered = refl
 filter-with_write p write (first ∷ rest) ordered = go (filter-with_write p write rest ordered.1) (comes_before write first) refl
@@ -39,7 +39,7 @@ filter-with_write p write (first ∷ rest) ordered = go (filter-with_write p wri
 pub filter-in_order : (p : Write → Bool) (writes : List Write) → filter p (in_order writes) ≡ in_order (filter p writes)
 filter-in_order p [] = refl
 filter-in_order p (write ∷ writes) =
-    filter-with_write p write (in_order writes) (IsOrdered-in_order writes)
+    filter-with_write p write (in_order writes) (IsSortedByPlace-in_order writes)
     ∙ (ap (λ (l : List Write). if p write then with_write write l else l) (filter-in_order p writes) ∙ go (p write))
   where
     go : (kept : Bool) → (if kept then with_write write (in_order (filter p writes)) else in_order (filter p writes)) ≡ in_order (if kept then write ∷ filter p writes else filter p writes)
@@ -81,7 +81,7 @@ after_not_upto stamp point =
     ⊎_elim (λ (lt : point < stamp). rw (lt-ltb point stamp lt, lt-leb stamp point lt)) (λ (le : stamp ≤ point). rw (le-ltb point stamp le, le-leb stamp point le)) (cases_lt point stamp)
 
 -- where the first of ordered writes is past the point, all are
-none_committed : (point : ℕ) (write : Write) (writes : List Write) → IsOrdered (write ∷ writes) → point < write.stamp
+none_committed : (point : ℕ) (write : Write) (writes : List Write) → IsSortedByPlace (write ∷ writes) → point < write.stamp
     → committed_to point (write ∷ writes) ++ tentative_past point (write ∷ writes) ≡ write ∷ writes
 none_committed point write writes ordered after =
     let past : All (λ later. point < later.stamp) (write ∷ writes) =
@@ -97,7 +97,7 @@ none_committed point write writes ordered after =
     ap₂ (λ (front rest : List Write). front ++ rest) none all
 
 -- of ordered writes the committed ones are a front, and the tentative ones are the rest
-committed_front : (point : ℕ) (writes : List Write) → IsOrdered writes → committed_to point writes ++ tentative_past point writes ≡ writes
+committed_front : (point : ℕ) (writes : List Write) → IsSortedByPlace writes → committed_to point writes ++ tentative_past point writes ≡ writes
 committed_front point [] ordered = refl
 committed_front point (write ∷ writes) ordered =
     ⊎_elim (λ (after : point < write.stamp). none_committed point write writes ordered after)
@@ -105,7 +105,7 @@ committed_front point (write ∷ writes) ordered =
     (cases_lt point write.stamp)
 
 pub committed_to-tentative_past : (point : ℕ) (writes : List Write) → IsSorted write_cmp writes → committed_to point writes ++ tentative_past point writes ≡ writes
-committed_to-tentative_past point writes sorted = committed_front point writes (IsOrdered-from_sorted writes sorted)
+committed_to-tentative_past point writes sorted = committed_front point writes (IsSortedByPlace-from_sorted writes sorted)
 
 -- what is committed at a point is committed at a later one
 pub committed_to-committed_to : (point later : ℕ) (writes : List Write) → point ≤ later → committed_to point (committed_to later writes) ≡ committed_to point writes

@@ -1,7 +1,6 @@
 pub mod NumbersLemmas
 pub mod TokenLemmas
 pub mod ListLemmas
-pub mod KeepingLemmas
 pub mod ElementLemmas
 pub mod CompareLemmas
 pub mod OrderLemmas
@@ -11,3 +10,8 @@ pub mod SumsLemmas
 pub mod OrderSums
 pub mod CoversLemmas
 pub mod LogsLemmas
+pub mod SetupLemmas
+pub mod RangeLists
+pub mod FilterSums
+pub mod PeerSums
+pub mod SharesLemmas

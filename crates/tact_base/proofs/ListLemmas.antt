@@ -1,11 +1,11 @@
 -- General facts about lists: induction from the right, parts of joined lists, and filters and joins over ranges.
-use Rattle.std.proofs.Common.{◌≡◌, ℕ, zero, suc, ◌+◌, ◌<◌, ◌≤◌, ◌≢◌, Bool, true, false, List, [], ◌∷◌, ◌++◌, length, get_or, map, fold, filter, flat_map, All, refl, ap, ◌∙◌, subst, ⊎_elim, zero-add, arith}
-use Rattle.std.specs.List.{range_with_len}
+use Rattle.std.proofs.Common.{◌≡◌, ℕ, zero, suc, ◌+◌, ◌-◌, ◌<◌, ◌≤◌, ◌≢◌, Bool, true, false, List, [], ◌∷◌, ◌++◌, length, get_or, take, map, fold, filter, flat_map, sum_by, All, Option, Some, None, refl, ap, ◌∙◌, subst, ⊎_elim, zero-add, arith}
+use Rattle.std.specs.List.{range_with_len, filter_map, cons_option}
 use Rattle.std.proofs.lemmas.Bool.{cases_eq}
-use Rattle.std.proofs.lemmas.List.{append_assoc, append-nil, length-append, get_or_append_left, get_or-append-add, get_or-map, get_or_past, length-map}
+use Rattle.std.proofs.lemmas.List.{append_assoc, append-nil, length-append, get_or_append_left, get_or-append-add, get_or-map, get_or_past, length-map, length-take}
 use Rattle.std.proofs.lemmas.List.FromFn.{get_or-range_with_len, length-range_with_len, get_or-map-range_with_len, length-map-range_with_len}
 use Rattle.std.proofs.lemmas.List.Elements.{All-nil, All-cons, All-head, All-tail, All-append, filter-append}
-use Rattle.std.proofs.lemmas.List.Sums.{fold-append}
+use Rattle.std.proofs.lemmas.List.Sums.{fold-append, sum_by-cons}
 
 -- Induction on a list from the right.
 module _ {A : Type 0} (P : List A → Type 0) (start : P []) (more : (xs : List A) (x : A) → P xs → P (xs ++ x ∷ [])) where
@@ -105,3 +105,55 @@ get_or-map_range f len at d within = get_or-map-range_with_len f 0 len at at d w
 
 pub get_or-map_range_past : {A : Type 0} (f : ℕ → A) (len at : ℕ) (d : A) → len ≤ at → get_or (map f (range_with_len 0 len)) at d ≡ d
 get_or-map_range_past f len at d past = get_or_past (map f (range_with_len 0 len)) at d (omega (arith, length-map-range_with_len f 0 len))
+
+-- the first few of joined lists, where the second is taken by what the first leaves
+pub take-append : {A : Type 0} (n : ℕ) (xs ys : List A)
+    → take n (xs ++ ys) ≡ take n xs ++ take (n - length xs) ys
+take-append zero xs ys = let none : 0 - length xs ≡ 0 = omega arith in rw none refl
+take-append (suc n) [] ys = let all : suc n - 0 ≡ suc n = omega arith in rw all refl
+take-append (suc n) (x ∷ xs) ys =
+    let less : suc n - suc (length xs) ≡ n - length xs = omega arith in
+    rw less (ap (λ rest. x ∷ rest) (take-append n xs ys))
+
+-- and where what the first leaves is told by how much was taken of it
+pub take-append-taken : {A : Type 0} (n : ℕ) (xs ys : List A)
+    → take n (xs ++ ys) ≡ take n xs ++ take (n - length (take n xs)) ys
+take-append-taken n xs ys =
+    let left : n - length xs ≡ n - length (take n xs) = omega (arith, length-take n xs) in
+    take-append n xs ys ∙ ap (λ k. take n xs ++ take k ys) left
+
+-- two functions that agree at each element map to the same list
+pub map_agree : {X A : Type 0} (f g : X → A) (xs : List X)
+    → All (λ x. f x ≡ g x) xs
+    → map f xs ≡ map g xs
+map_agree f g [] all = refl
+map_agree f g (x ∷ xs) all =
+    rw (All-head (λ x. f x ≡ g x) x xs all, map_agree f g xs (All-tail (λ x. f x ≡ g x) x xs all)) refl
+
+-- and so do two that agree below a bound
+pub map_range_agree : {A : Type 0} (f g : ℕ → A) (len : ℕ)
+    → ((n : ℕ) → n < len → f n ≡ g n)
+    → map f (range_with_len 0 len) ≡ map g (range_with_len 0 len)
+map_range_agree f g len agree =
+    map_agree f g (range_with_len 0 len)
+    (All-range (λ n. f n ≡ g n) 0 len (λ n low high. agree n (omega (arith, high))))
+
+-- a sum of nothing at each element
+pub sum_of_none : {A : Type 0} (f : A → ℕ) (xs : List A)
+    → All (λ x. f x ≡ 0) xs
+    → sum_by f xs ≡ 0
+sum_of_none f [] all = refl
+sum_of_none f (x ∷ xs) all =
+    omega (arith, sum_by-cons f x xs, All-head (λ x. f x ≡ 0) x xs all, sum_of_none f xs (All-tail (λ x. f x ≡ 0) x xs all))
+
+-- what a filter gives is no longer than the list
+pub length-filter_map : {X Y : Type 0} (f : X → Option Y) (xs : List X)
+    → length (filter_map f xs) ≤ length xs
+length-filter_map f [] = omega arith
+length-filter_map {X} {Y} f (x ∷ xs) = go (f x) (length-filter_map f xs)
+  where
+    go : (here : Option Y)
+        → length (filter_map f xs) ≤ length xs
+        → length (cons_option here (filter_map f xs)) ≤ suc (length xs)
+    go None few = omega (arith, few)
+    go (Some y) few = omega (arith, few)

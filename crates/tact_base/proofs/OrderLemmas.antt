@@ -106,15 +106,15 @@ pub All-in_order : (P : Write → Type 0) (writes : List Write) → All P writes
 All-in_order P writes = All-permutation P writes (in_order writes) (IsPermutation-in_order writes)
 
 -- by recursion: no later write comes before an earlier one
-abbrev pub IsOrdered : List Write → Type 0
-IsOrdered [] = Unit {0}
-IsOrdered (write ∷ writes) = All (λ later. comes_before later write ≡ false) writes × IsOrdered writes
+abbrev pub IsSortedByPlace : List Write → Type 0
+IsSortedByPlace [] = Unit {0}
+IsSortedByPlace (write ∷ writes) = All (λ later. comes_before later write ≡ false) writes × IsSortedByPlace writes
 
-pub IsOrdered-with_write : (write : Write) (writes : List Write) → IsOrdered writes → IsOrdered (with_write write writes)
-IsOrdered-with_write write [] ordered = (All-nil (λ later. comes_before later write ≡ false), tt)
-IsOrdered-with_write write (first ∷ rest) ordered = go (IsOrdered-with_write write rest ordered.1) (comes_before write first) refl
+pub IsSortedByPlace-with_write : (write : Write) (writes : List Write) → IsSortedByPlace writes → IsSortedByPlace (with_write write writes)
+IsSortedByPlace-with_write write [] ordered = (All-nil (λ later. comes_before later write ≡ false), tt)
+IsSortedByPlace-with_write write (first ∷ rest) ordered = go (IsSortedByPlace-with_write write rest ordered.1) (comes_before write first) refl
   where
-    go : IsOrdered (with_write write rest) → (is : Bool) → comes_before write first ≡ is → IsOrdered (if is then write ∷ first ∷ rest else first ∷ with_write write rest)
+    go : IsSortedByPlace (with_write write rest) → (is : Bool) → comes_before write first ≡ is → IsSortedByPlace (if is then write ∷ first ∷ rest else first ∷ with_write write rest)
     go rest_ordered true is =
         let later = before_one_way write first is in (
           All-cons (λ later. comes_before later write ≡ false) first rest later
@@ -127,27 +127,27 @@ IsOrdered-with_write write (first ∷ rest) ordered = go (IsOrdered-with_write w
       rest_ordered,
     )
 
-pub IsOrdered-in_order : (writes : List Write) → IsOrdered (in_order writes)
-IsOrdered-in_order [] = tt
-IsOrdered-in_order (write ∷ writes) = IsOrdered-with_write write (in_order writes) (IsOrdered-in_order writes)
+pub IsSortedByPlace-in_order : (writes : List Write) → IsSortedByPlace (in_order writes)
+IsSortedByPlace-in_order [] = tt
+IsSortedByPlace-in_order (write ∷ writes) = IsSortedByPlace-with_write write (in_order writes) (IsSortedByPlace-in_order writes)
 
 -- the same as std says it
-pub IsSorted-from_ordered : (writes : List Write) → IsOrdered writes → IsSorted write_cmp writes
+pub IsSorted-from_ordered : (writes : List Write) → IsSortedByPlace writes → IsSorted write_cmp writes
 IsSorted-from_ordered [] ordered k d low within = absurd (omega arith)
 IsSorted-from_ordered (write ∷ []) ordered k d low within = absurd (omega arith)
 IsSorted-from_ordered (write ∷ next ∷ rest) ordered zero d low within = All-head (λ later. comes_before later write ≡ false) next rest ordered.0
 IsSorted-from_ordered (write ∷ next ∷ rest) ordered (suc k) d low within = rw suc-add (IsSorted-from_ordered (next ∷ rest) ordered.1 k d (omega arith) (omega arith))
 
-pub IsOrdered-from_sorted : (writes : List Write) → IsSorted write_cmp writes → IsOrdered writes
-IsOrdered-from_sorted [] sorted = tt
-IsOrdered-from_sorted (write ∷ writes) sorted = (
+pub IsSortedByPlace-from_sorted : (writes : List Write) → IsSorted write_cmp writes → IsSortedByPlace writes
+IsSortedByPlace-from_sorted [] sorted = tt
+IsSortedByPlace-from_sorted (write ∷ writes) sorted = (
   λ k d within. sorted_far comes_before before_order (write ∷ writes) sorted 0 (suc k) d (omega arith) (omega arith),
-  IsOrdered-from_sorted writes (λ k d low within. rw suc-add at (sorted (suc k) d (omega arith) (omega arith))),
+  IsSortedByPlace-from_sorted writes (λ k d low within. rw suc-add at (sorted (suc k) d (omega arith) (omega arith))),
 )
 
 -- the writes in order are sorted
 pub IsSorted-in_order : (writes : List Write) → IsSorted write_cmp (in_order writes)
-IsSorted-in_order writes = IsSorted-from_ordered (in_order writes) (IsOrdered-in_order writes)
+IsSorted-in_order writes = IsSorted-from_ordered (in_order writes) (IsSortedByPlace-in_order writes)
 
 -- by recursion: each write comes before all later ones
 abbrev pub IsRising : List Write → Type 0

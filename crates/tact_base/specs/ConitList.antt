@@ -3,6 +3,7 @@ use Rattle.std.specs.Prelude.{◌≡◌, ℕ, Bool, nat_le, nat_lt, not, if◌th
 use Rattle.std.specs.List.{zip}
 use Rattle.std.specs.Option.{option_map, option_or}
 use Rattle.tact_base.specs.declared.conit_list.ListFault.{ListFault}
+use Rattle.tact_base.specs.declared.limits.TheConstants.{LIST_MAX}
 use Rattle.tact_base.specs.declared.conit_list.ListFault.TheVariants.{TooMany, Unordered, Range}
 
 module _ {T : Type 0} (conit : T → ℕ) (in_limits : T → Bool) where
@@ -17,7 +18,7 @@ module _ {T : Type 0} (conit : T → ℕ) (in_limits : T → Bool) where
   -- the refusal of a list, if it is refused
   abbrev pub list_fault : List T → Option ListFault
   list_fault items =
-      if nat_lt 4 (length items) then Some TooMany
+      if nat_lt LIST_MAX (length items) then Some TooMany
       else option_or (option_map Unordered (first_unordered items)) (option_map Range (first_out_of_limits items))
 
   -- a list that isn't refused

@@ -1,3 +1,4 @@
+pub mod Setup
 pub mod ConitList
 pub mod Numbers
 pub mod Sums
@@ -6,5 +7,6 @@ pub mod Images
 pub mod Logs
 pub mod Covers
 pub mod Shares
+pub mod Counts
 pub mod Admission
 pub mod Roomy

@@ -2,10 +2,20 @@
 use Rattle.std.specs.Prelude.{ℕ, Bool, List, [], ◌∷◌, nat_le, nat_lt, filter, if◌then◌else◌}
 use Rattle.std.specs.declared.cmp.Ordering.{Ordering}
 use Rattle.std.specs.Ordering.{nat_cmp, ordering_then, is_lt}
+use Rattle.tact_base.specs.declared.write.Place.{Place}
 use Rattle.tact_base.specs.declared.write.Write.{Write}
 
+-- how two places compare
+abbrev pub place_cmp : Place → Place → Ordering
+place_cmp a b = ordering_then (nat_cmp a.stamp b.stamp) (ordering_then (nat_cmp a.origin b.origin) (nat_cmp a.index b.index))
+
+-- the place of a write
+abbrev pub write_place : Write → Place
+write_place write = record { stamp = write.stamp; origin = write.origin; index = write.index }
+
+-- how two writes compare: as their places do
 abbrev pub write_cmp : Write → Write → Ordering
-write_cmp a b = ordering_then (nat_cmp a.stamp b.stamp) (ordering_then (nat_cmp a.origin b.origin) (nat_cmp a.index b.index))
+write_cmp a b = place_cmp (write_place a) (write_place b)
 
 -- whether the first write comes before the second
 abbrev pub comes_before : Write → Write → Bool

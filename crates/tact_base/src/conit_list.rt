@@ -92,7 +92,7 @@ pub enum ListFault {
 /// Contracts see it as the list of its items.
 #[derive(Debug, Drop)]
 pub struct ConitList<T: OnConit> {
-    items: Few<T, 4>,
+    items: Few<T, LIST_MAX>,
 }
 
 impl<T: OnConit> Model for ConitList<T> {

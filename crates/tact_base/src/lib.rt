@@ -3,12 +3,15 @@
 #![tactic(auto)]
 
 mod conit_list;
+mod counts;
 mod few;
+mod fit;
 mod items;
 mod laws;
 mod limits;
 mod numbers;
 mod roomy_list;
+mod setup;
 mod slowest;
 mod sums;
 #[cfg(test)]
@@ -17,19 +20,23 @@ mod tokens;
 mod write;
 
 pub use conit_list::{ConitList, ListFault, Need, Needs, OnConit, Weight, Weights};
+pub use counts::first_index;
 pub use few::{Few, Row};
+pub use fit::Fit;
 pub use items::{Bytes, Items, NoMemory, Numbers};
 pub use laws::{
     committed_is_a_front, in_order_forgets_arrival, in_order_sorts, order_is_total,
     order_keeps_sums,
 };
 pub use limits::{
-    ALPHA_MAX, AMOUNT_MAX, CLIENTS, CONITS_MAX, HISTORY_MAX, KEY_MAX, LENT_MAX, LIST_MAX,
-    MESSAGE_WRITES, MOMENT_MAX, REPLICAS_MAX, REPLICAS_MIN, STAMP_MAX, VALUE_MAX, WEIGHT_MAX,
+    ALPHA_MAX, AMOUNT_MAX, CLIENTS, CONITS_MAX, HISTORY_MAX, INPUT_MAX, KEY_MAX, LENT_MAX, LINE_MAX,
+    LIST_MAX, MESSAGE_WRITES, MOMENT_MAX, REPLICAS_MAX, REPLICAS_MIN, SCRIPT_LINES, STAMP_MAX,
+    SUMMED_WRITES, VALUE_MAX, WEIGHT_MAX,
 };
 pub use numbers::{NumberFault, print_number, print_signed, read_number};
 pub use roomy_list::RoomyList;
+pub use setup::ConfigFault;
 pub use slowest::{Slowest, slowest_of};
 pub use sums::sum_on;
 pub use tokens::{TokenFault, whole_number, whole_signed};
-pub use write::{Cover, Covers, Late, Op, Write, WriteList};
+pub use write::{Cover, Covers, Late, Op, Place, Write, WriteList};

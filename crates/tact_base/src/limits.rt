@@ -45,3 +45,15 @@ pub const HISTORY_MAX: u64 = 20_000;
 
 /// The greatest count of writes in one message.
 pub const MESSAGE_WRITES: usize = 64;
+
+/// The greatest count of writes whose weights are added up at once: more than all replicas can accept.
+pub const SUMMED_WRITES: usize = 200_000;
+
+/// The greatest count of bytes of an input.
+pub const INPUT_MAX: u64 = 67_108_864;
+
+/// The greatest count of bytes of a line of text, without its line feed.
+pub const LINE_MAX: usize = 400;
+
+/// The greatest count of lines of a script.
+pub const SCRIPT_LINES: u64 = 10_000;

@@ -1,5 +1,6 @@
 ghost use Rattle.std.specs.Prelude.{◌≡◌, ◌<◌, ◌≤◌, length};
 ghost use Rattle.tact_base.specs.Covers.{slowest, least_stamp};
+ghost use Rattle.tact_base.specs.declared.limits.TheConstants.{REPLICAS_MAX};
 
 use crate::Cover;
 
@@ -15,7 +16,7 @@ pub struct Slowest {
 /// The slowest of 1 to 8 replicas, whose covers these are, by replica. Takes no memory.
 pub fn slowest_of(covers: &[Cover]) -> Slowest
     requires some { 0 < length covers.now }
-    requires few { length covers.now ≤ 8 }
+    requires few { length covers.now ≤ REPLICAS_MAX }
     ensures replica { result.replica ≡ slowest covers.now }
     ensures stamp { result.stamp ≡ least_stamp covers.now }
     ensures within { result.replica < length covers.now }

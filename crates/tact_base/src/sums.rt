@@ -2,7 +2,7 @@ ghost use Rattle.std.specs.Prelude.{◌≡◌, ◌≤◌, ◌*◌, ℕ, length, 
 ghost use Rattle.std.specs.Fn.{FnReturnsAt};
 ghost use Rattle.tact_base.specs.Sums.{weights_on, on_conit};
 ghost use Rattle.tact_base.specs.declared.conit_list.Weight.{Weight};
-ghost use Rattle.tact_base.specs.declared.limits.TheConstants.{WEIGHT_MAX};
+ghost use Rattle.tact_base.specs.declared.limits.TheConstants.{SUMMED_WRITES, WEIGHT_MAX};
 
 use crate::{OnConit, Weight, Weights, Write};
 
@@ -10,7 +10,7 @@ use crate::{OnConit, Weight, Weights, Write};
 /// most 10^6 where the weight is within its limits. Takes no memory.
 pub fn sum_on<F: Fn(&Weight) -> u64>(writes: &[Write], conit: u32, number: F) -> u64
     ghost amount: { Weight → ℕ }
-    requires few { length writes.now ≤ 200000 }
+    requires few { length writes.now ≤ SUMMED_WRITES }
     requires callable { F.IsAlwaysCallable number }
     requires gives { (w : Weight) (r : ℕ) → FnReturnsAt F.Fn number w r → r ≡ amount w }
     requires small { (w : Weight) → ⟦<Weight as OnConit>⟧.in_limits w ≡ true → amount w ≤ WEIGHT_MAX }

@@ -1,4 +1,6 @@
 ghost use Rattle.std.specs.Prelude.{◌≡◌};
+ghost use Rattle.tact_base.specs.Covers.{later_cover};
+ghost use Rattle.tact_base.specs.WriteOrder.{write_place};
 
 use crate::{Items, Weights};
 use std::alloc::AllocError;
@@ -12,6 +14,19 @@ pub struct Cover {
     pub stamp: u64,
     /// The moment of that state.
     pub moment: u64,
+}
+
+impl Cover {
+    /// This cover after a told one: the told one where none of its three numbers is less, else this one.
+    /// Takes no memory.
+    pub fn later(self, told: Cover) -> Cover
+        ensures { result ≡ later_cover self told }
+    {
+        let is_later = self.count <= told.count
+            && self.stamp <= told.stamp
+            && self.moment <= told.moment;
+        if is_later { told } else { self }
+    }
 }
 
 /// What a write does to the values of keys. An absent key has the value 0.
@@ -33,7 +48,7 @@ pub struct Write {
     pub origin: u32,
     /// How many writes its origin had accepted before.
     pub index: u64,
-    /// Its place in the order of all writes, before origin and index.
+    /// Its origin's clock with it: what it is ordered by first.
     pub stamp: u64,
     /// When it was accepted.
     pub moment: u64,
@@ -57,6 +72,31 @@ impl Clone for Write {
             weights: self.weights.clone()?,
             op: self.op,
         })
+    }
+}
+
+/// A place in the order of all writes: by stamp, then origin, then index (Golding's timestamped
+/// anti-entropy, made total). No two writes of a run have the same one.
+#[derive(Clone, Copy, Debug, PartialEq, Eq, PartialOrd, Ord)]
+pub struct Place {
+    /// The stamp of the write that has it.
+    pub stamp: u64,
+    /// Its origin.
+    pub origin: u32,
+    /// Its index.
+    pub index: u64,
+}
+
+impl Write {
+    /// Its place in the order of all writes.
+    pub fn place(&self) -> Place
+        ensures { result ≡ write_place self.now }
+    {
+        Place {
+            stamp: self.stamp,
+            origin: self.origin,
+            index: self.index,
+        }
     }
 }
 

@@ -1,5 +1,5 @@
 use Rattle.std.proofs.Common.{ℕ, [], refl}
-use Rattle.replica_core.proofs.RangeLists.{mapped_more}
+use Rattle.tact_base.proofs.RangeLists.{mapped_more}
 use Rattle.replica_core.proofs.sending.nothing.Goals as goal
 
 pub loop-preserved : goal.loop-preserved

@@ -1,6 +1,6 @@
 use Rattle.std.proofs.Common.{◌≡◌, ◌/◌, ◌%◌, ◌∙◌, sym, arith}
-use Rattle.run_model.specs.Config.{setup}
-use Rattle.run_model.proofs.ConfigLemmas.{HasCounts-from_good, row_in, owner_in_row, row_of, row_of-at_place, none_from_is_some, first_of-drop_none, first_of-drop_at, first_of-drop_all}
+use Rattle.tact_base.specs.Setup.{setup}
+use Rattle.tact_base.proofs.SetupLemmas.{HasCounts-from_good, row_in, owner_in_row, row_of, row_of-at_place, none_from_is_some, first_of-drop_none, first_of-drop_at, first_of-drop_all}
 use Rattle.run_model.proofs.config.first_row_fault.Goals as goal
 
 pub row-loans-requires : goal.row-loans-requires

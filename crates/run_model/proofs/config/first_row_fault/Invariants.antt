@@ -1,6 +1,6 @@
 use Rattle.std.proofs.Common.{◌≡◌, drop}
 use Rattle.std.specs.List.{slice_get, filter_map}
-use Rattle.run_model.specs.Config.{setup, owners_and_conits, row_fault, alpha_of, loans_of, first_row_fault}
+use Rattle.tact_base.specs.Setup.{setup, owners_and_conits, row_fault, alpha_of, loans_of, first_row_fault}
 use Rattle.run_model.proofs.config.first_row_fault.Given as goal
 
 -- the rows that are left have the same first fault as all

@@ -1,6 +1,6 @@
 use Rattle.std.proofs.Common.{◌≡◌, codes, decimal, map, [], ◌∷◌, ◌++◌, rules}
 use Rattle.std.proofs.lemmas.Result.{IfOk-equal}
-use Rattle.run_model.specs.Config.{alpha_of, loans_of}
+use Rattle.tact_base.specs.Setup.{alpha_of, loans_of}
 use Rattle.run_model.specs.Text.{spaced}
 use Rattle.run_model.proofs.TextLemmas.{line_from_parts}
 use Rattle.run_model.proofs.header.print_bound.Goals as goal

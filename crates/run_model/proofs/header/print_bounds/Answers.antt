@@ -1,7 +1,7 @@
 use Rattle.std.proofs.Common.{◌<◌, ◌≤◌, ◌*◌, ◌/◌, ◌%◌, ◌∙◌, ap, ◌++◌, arith}
 use Rattle.std.specs.List.{flat_map}
 use Rattle.run_model.specs.Text.{bound_line}
-use Rattle.run_model.proofs.ConfigLemmas.{flat_map_more_rows, take_all_rows}
+use Rattle.tact_base.proofs.SetupLemmas.{flat_map_more_rows, take_all_rows}
 use Rattle.run_model.proofs.header.print_bounds.Goals as goal
 
 pub loop-place-preserved : goal.loop-place-preserved

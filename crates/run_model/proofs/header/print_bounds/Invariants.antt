@@ -1,6 +1,6 @@
 use Rattle.std.proofs.Common.{◌≡◌, ◌++◌, take}
 use Rattle.std.specs.List.{flat_map}
-use Rattle.run_model.specs.Config.{owners_and_conits}
+use Rattle.tact_base.specs.Setup.{owners_and_conits}
 use Rattle.run_model.specs.Text.{bound_line}
 use Rattle.run_model.proofs.header.print_bounds.Given as goal
 

@@ -1,5 +1,5 @@
 use Rattle.std.proofs.Common.{cond, eqb}
-use Rattle.script_run.proofs.Ranges.{mapped_more}
+use Rattle.tact_base.proofs.RangeLists.{mapped_more}
 use Rattle.script_run.proofs.forms.push_row.Goals as goal
 
 pub loop-holder-preserved : goal.loop-holder-preserved

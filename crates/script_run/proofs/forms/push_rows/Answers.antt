@@ -1,6 +1,6 @@
 use Rattle.std.proofs.Common.{ℕ, List, ◌++◌, ap, sym, ◌∙◌, append_assoc}
 use Rattle.script_run.specs.Forms.{opening_row}
-use Rattle.script_run.proofs.Ranges.{flat_map_range_more}
+use Rattle.tact_base.proofs.RangeLists.{flat_map_range_more}
 use Rattle.script_run.proofs.forms.push_rows.Goals as goal
 
 pub loop-preserved : goal.loop-preserved

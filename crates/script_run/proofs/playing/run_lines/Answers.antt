@@ -2,7 +2,7 @@ use Rattle.std.proofs.Common.{◌≡◌, ◌≤◌, ◌∷◌, ◌++◌, List, l
 use Rattle.std.proofs.lemmas.List.{length-take-le}
 use Rattle.run_model.specs.ScriptRuns.{not_played, played_by, lines_text}
 use Rattle.script_run.specs.Forms.{setup_of}
-use Rattle.script_run.specs.Seats.{HasNoLoans}
+use Rattle.run_model.specs.Loans.{HasNoLoans}
 use Rattle.script_run.proofs.LineLemmas.{setup_same, quiet_next, line_is_done}
 use Rattle.run_model.specs.declared.script_line.Line.{Line}
 use Rattle.script_run.specs.Scripts.{IsScript}

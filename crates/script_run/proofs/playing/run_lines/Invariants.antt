@@ -1,7 +1,7 @@
 use Rattle.std.proofs.Common.{◌≡◌, ◌∷◌, ◌++◌, take, drop}
 use Rattle.run_model.specs.ScriptRuns.{not_played, played_by, lines_text}
 use Rattle.script_run.specs.Forms.{setup_of}
-use Rattle.script_run.specs.Seats.{HasNoLoans}
+use Rattle.run_model.specs.Loans.{HasNoLoans}
 use Rattle.script_run.specs.Scripts.{AreLines, IsScript}
 use Rattle.script_run.specs.Worlds.{Plays, Stands}
 use Rattle.script_run.proofs.playing.run_lines.Given as goal

@@ -1,5 +1,5 @@
 use Rattle.std.proofs.Common.{ℕ, ◌++◌, List, length, ap, ap₂, ◌∙◌}
-use Rattle.run_model.specs.Config.{Setup}
+use Rattle.tact_base.specs.Setup.{Setup}
 use Rattle.run_model.specs.ScriptRuns.{not_played, played_by, lines_text}
 use Rattle.run_model.specs.declared.script_line.Line.{Line}
 use Rattle.run_model.specs.Text.{header_text, end_text}

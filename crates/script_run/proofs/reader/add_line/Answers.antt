@@ -1,5 +1,5 @@
 use Rattle.std.proofs.Common.{ap, sym, ◌∙◌, length}
-use Rattle.run_model.specs.Config.{Setup}
+use Rattle.tact_base.specs.Setup.{Setup}
 use Rattle.script_run.specs.Forms.{sent_after}
 use Rattle.script_run.proofs.ScriptLemmas.{length-sent_by, setup_of_more, sent_by_more, script_more}
 use Rattle.script_run.proofs.reader.add_line.Goals as goal

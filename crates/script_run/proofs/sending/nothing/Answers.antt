@@ -1,5 +1,5 @@
 use Rattle.std.proofs.Common.{ℕ, [], refl}
-use Rattle.script_run.proofs.Ranges.{mapped_more}
+use Rattle.tact_base.proofs.RangeLists.{mapped_more}
 use Rattle.script_run.proofs.sending.nothing.Goals as goal
 
 pub loop-preserved : goal.loop-preserved

@@ -3,7 +3,7 @@ use Rattle.std.proofs.lemmas.List.{length-set}
 use Rattle.tact_base.specs.Covers.{no_cover}
 use Rattle.tact_base.specs.declared.write.Write.{Write}
 use Rattle.replica_core.specs.States.{ReplicaState}
-use Rattle.replica_core.proofs.CoreLemmas.{least_stamp-le}
+use Rattle.tact_base.proofs.CoversLemmas.{least_stamp-le}
 use Rattle.replica_core.proofs.DueEntries.{not_full}
 use Rattle.replica_core.proofs.AdmitLemmas.{admitted_ordered, admitted_placed}
 use Rattle.replica_core.proofs.replica.Replica.accept.Goals as goal

@@ -1,6 +1,6 @@
 use Rattle.std.proofs.Common.{◌≤◌, ℕ, ap, arith}
 use Rattle.tact_base.specs.Covers.{least_stamp}
-use Rattle.replica_core.proofs.CoreLemmas.{least_stamp-raised}
+use Rattle.tact_base.proofs.CoversLemmas.{least_stamp-raised}
 use Rattle.replica_core.proofs.replica.Replica.enter.Goals as goal
 
 pub commit_to-requires : goal.commit_to-requires

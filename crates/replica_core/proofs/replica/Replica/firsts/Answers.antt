@@ -1,6 +1,6 @@
 use Rattle.std.proofs.Common.{[], ◌∙◌, sym, arith}
 use Rattle.replica_core.specs.Sending.{first_told}
-use Rattle.replica_core.proofs.RangeLists.{mapped_more}
+use Rattle.tact_base.proofs.RangeLists.{mapped_more}
 use Rattle.replica_core.proofs.SendLemmas.{first_told-same, first_told-other}
 use Rattle.replica_core.proofs.replica.Replica.firsts.Goals.{then-origin-to+in_ok-push, else-origin-to+in_ok-push-2}
 use Rattle.replica_core.proofs.replica.Replica.firsts.Goals as goal

@@ -1,6 +1,6 @@
 use Rattle.std.proofs.Common.{ℕ, [], length}
 use Rattle.replica_core.specs.States.{log_at}
-use Rattle.replica_core.proofs.RangeLists.{mapped_more}
+use Rattle.tact_base.proofs.RangeLists.{mapped_more}
 use Rattle.replica_core.proofs.replica.Replica.haves.Goals as goal
 
 pub loop-origin-preserved : goal.loop-origin-preserved

@@ -1,7 +1,7 @@
 use Rattle.std.proofs.Common.{ℕ, [], ap, ◌∙◌}
-use Rattle.run_model.specs.Config.{loan_of}
+use Rattle.tact_base.specs.Setup.{loan_of}
 use Rattle.replica_core.specs.States.{ReplicaState}
-use Rattle.replica_core.proofs.RangeLists.{mapped_more}
+use Rattle.tact_base.proofs.RangeLists.{mapped_more}
 use Rattle.replica_core.proofs.replica.Replica.lent.Goals as goal
 
 pub loop-conit-preserved : goal.loop-conit-preserved

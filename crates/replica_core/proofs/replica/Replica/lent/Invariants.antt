@@ -1,6 +1,6 @@
 use Rattle.std.proofs.Common.{◌≡◌, map}
 use Rattle.std.specs.List.{range_with_len}
-use Rattle.run_model.specs.Config.{loan_of}
+use Rattle.tact_base.specs.Setup.{loan_of}
 use Rattle.replica_core.proofs.replica.Replica.lent.Given as goal
 
 abbrev pub invariant-loop-conit : goal.invariant-loop-conit

@@ -1,6 +1,6 @@
 use Rattle.std.proofs.Common.{[]}
 use Rattle.replica_core.specs.Sending.{cover_told}
-use Rattle.replica_core.proofs.RangeLists.{mapped_more}
+use Rattle.tact_base.proofs.RangeLists.{mapped_more}
 use Rattle.replica_core.proofs.replica.Replica.told_covers.Goals as goal
 
 pub loop-origin-preserved : goal.loop-origin-preserved

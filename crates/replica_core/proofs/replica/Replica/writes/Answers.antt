@@ -3,7 +3,7 @@ use Rattle.std.proofs.lemmas.List.{length-take}
 use Rattle.std.specs.List.{range_with_len, flat_map}
 use Rattle.tact_base.specs.declared.write.Write.{Write}
 use Rattle.replica_core.specs.States.{log_at}
-use Rattle.replica_core.proofs.SendLemmas.{writes_more}
+use Rattle.run_model.proofs.SentMessages.{writes_more}
 use Rattle.replica_core.proofs.replica.Replica.writes.Goals as goal
 
 pub overflow_sub-room : goal.overflow_sub-room

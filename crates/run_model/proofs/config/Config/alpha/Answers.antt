@@ -1,6 +1,6 @@
 use Rattle.std.proofs.Common.{arith}
-use Rattle.run_model.specs.Config.{setup}
-use Rattle.run_model.proofs.ConfigLemmas.{HasCounts-from_IsSetup, place_in, places_are_few, HasRow-from_IsSetup}
+use Rattle.tact_base.specs.Setup.{setup}
+use Rattle.tact_base.proofs.SetupLemmas.{HasCounts-from_IsSetup, place_in, places_are_few, HasRow-from_IsSetup}
 use Rattle.run_model.proofs.config.Config.alpha.Goals as goal
 
 pub bounds-items-place : goal.bounds-items-place

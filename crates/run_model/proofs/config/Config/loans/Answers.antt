@@ -1,5 +1,5 @@
-use Rattle.run_model.specs.Config.{setup}
-use Rattle.run_model.proofs.ConfigLemmas.{HasCounts-from_IsSetup, place_in, row_in, length-loans_of, HasRow-from_IsSetup}
+use Rattle.tact_base.specs.Setup.{setup}
+use Rattle.tact_base.proofs.SetupLemmas.{HasCounts-from_IsSetup, place_in, row_in, length-loans_of, HasRow-from_IsSetup}
 use Rattle.run_model.proofs.config.Config.loans.Goals as goal
 
 pub row-requires : goal.row-requires

@@ -1,7 +1,7 @@
 use Rattle.std.proofs.Common.{◌∙◌, sym, refl}
 use Rattle.std.proofs.lemmas.Result.{err_from_is_err_and}
-use Rattle.run_model.specs.Config.{setup}
-use Rattle.run_model.proofs.ConfigLemmas.{config_fault-at_counts, config_fault-at_rows}
+use Rattle.tact_base.specs.Setup.{setup}
+use Rattle.tact_base.proofs.SetupLemmas.{config_fault-at_counts, config_fault-at_rows}
 use Rattle.run_model.proofs.config.Config.new.Goals as goal
 
 pub returns-then-not-are_counts_good : goal.returns-then-not-are_counts_good

@@ -1,4 +1,4 @@
-use Rattle.run_model.proofs.ConfigLemmas.{HasCounts-from_IsSetup}
+use Rattle.tact_base.proofs.SetupLemmas.{HasCounts-from_IsSetup}
 use Rattle.run_model.proofs.config.Config.replicas.Goals as goal
 
 pub returns-clause-low : goal.returns-clause-low

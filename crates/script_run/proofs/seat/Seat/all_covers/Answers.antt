@@ -1,6 +1,6 @@
 use Rattle.std.proofs.Common.{[]}
 use Rattle.script_run.specs.Seats.{state_of, cover_told}
-use Rattle.script_run.proofs.Ranges.{mapped_more}
+use Rattle.tact_base.proofs.RangeLists.{mapped_more}
 use Rattle.script_run.proofs.seat.Seat.all_covers.Goals as goal
 
 pub loop-origin-preserved : goal.loop-origin-preserved

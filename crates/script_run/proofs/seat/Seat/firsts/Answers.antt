@@ -1,6 +1,6 @@
 use Rattle.std.proofs.Common.{[], ◌∙◌, sym, arith}
 use Rattle.script_run.specs.Seats.{state_of, first_told}
-use Rattle.script_run.proofs.Ranges.{mapped_more}
+use Rattle.tact_base.proofs.RangeLists.{mapped_more}
 use Rattle.script_run.proofs.SendLemmas.{first_told-same, first_told-other}
 use Rattle.script_run.proofs.seat.Seat.firsts.Goals.{then-origin-to+in_ok-push, else-origin-to+in_ok-push-2}
 use Rattle.script_run.proofs.seat.Seat.firsts.Goals as goal

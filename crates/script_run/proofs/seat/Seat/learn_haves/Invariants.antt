@@ -1,5 +1,5 @@
 use Rattle.std.proofs.Common.{◌≡◌, ◌≢◌, ℕ, ◌<◌, ◌≤◌, max}
-use Rattle.run_model.specs.Kept.{told_have}
+use Rattle.run_model.specs.Taking.{told_have}
 use Rattle.script_run.specs.Seats.{state_of, known_at}
 use Rattle.script_run.proofs.seat.Seat.learn_haves.Given as goal
 

@@ -1,6 +1,6 @@
 use Rattle.std.proofs.Common.{ℕ, [], ap, ◌∙◌}
-use Rattle.run_model.specs.Config.{loan_of}
-use Rattle.script_run.proofs.Ranges.{mapped_more}
+use Rattle.tact_base.specs.Setup.{loan_of}
+use Rattle.tact_base.proofs.RangeLists.{mapped_more}
 use Rattle.script_run.proofs.seat.Seat.lent.Goals as goal
 
 pub loop-conit-preserved : goal.loop-conit-preserved

@@ -2,7 +2,8 @@ use Rattle.std.proofs.Common.{ℕ, List, ap, ◌∙◌, get_or, length, map, tak
 use Rattle.std.specs.List.{range_with_len}
 use Rattle.std.proofs.lemmas.List.FromFn.{length-map-range_with_len}
 use Rattle.script_run.specs.Seats.{State, state_of, first_told, log_at, origins_of}
-use Rattle.script_run.proofs.SendLemmas.{same_message, writes_told}
+use Rattle.run_model.proofs.SentMessages.{same_message}
+use Rattle.script_run.proofs.SendLemmas.{writes_told}
 use Rattle.script_run.proofs.seat.Seat.next_message.Goals as goal
 
 pub writes-requires : goal.writes-requires

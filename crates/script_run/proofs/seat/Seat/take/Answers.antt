@@ -1,7 +1,7 @@
 use Rattle.std.proofs.Common.{◌≡◌, List, max, map, ap, ◌∙◌, arith}
 use Rattle.tact_base.specs.declared.write.Cover.{Cover}
 use Rattle.run_model.specs.Histories.{greatest}
-use Rattle.run_model.specs.Kept.{told_have}
+use Rattle.run_model.specs.Taking.{told_have}
 use Rattle.script_run.specs.Seats.{State, state_of, kept_at, known_at}
 use Rattle.script_run.proofs.SeatLemmas.{stands_taken}
 use Rattle.script_run.proofs.seat.Seat.take.Goals as goal

@@ -3,7 +3,7 @@ use Rattle.std.proofs.lemmas.List.{length-take}
 use Rattle.std.specs.List.{range_with_len, flat_map}
 use Rattle.tact_base.specs.declared.write.Write.{Write}
 use Rattle.script_run.specs.Seats.{state_of, log_at}
-use Rattle.script_run.proofs.SendLemmas.{writes_more}
+use Rattle.run_model.proofs.SentMessages.{writes_more}
 use Rattle.script_run.proofs.seat.Seat.writes.Goals as goal
 
 pub overflow_sub-room : goal.overflow_sub-room

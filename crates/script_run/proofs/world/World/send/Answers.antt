@@ -2,7 +2,7 @@ use Rattle.std.proofs.Common.{◌≡◌, ℕ, ◌<◌, [], ◌∷◌, ◌++◌, 
 use Rattle.std.proofs.lemmas.List.{length-set}
 use Rattle.run_model.specs.declared.entry.Message.{Message}
 use Rattle.script_run.specs.declared.seat.Seat.{Seat}
-use Rattle.run_model.specs.Histories.{mine}
+use Rattle.run_model.specs.Histories.{part_of}
 use Rattle.run_model.specs.Messages.{message_of}
 use Rattle.run_model.specs.declared.entry.Act.TheVariants as act
 use Rattle.script_run.specs.Seats.{AreSent, IsFor}
@@ -34,10 +34,10 @@ returns-clause-goes c = λ history early before.
     let here = seat_stands world world history before r c.requires.from seat c.index_mut-seat.ensures.value in
     let message = c.in_ok-message.message in
     let same : c.in_ok-kept.kept ≡ message = search rules in
-    let due : message ≡ message_of world.config seat.replica (mine history r) 0 c.args.to c.args.firsts.now =
-    c.in_ok-message.ensures.due (mine history r) (stands_own r seat (mine history r) here) (early.loans r) in
+    let due : message ≡ message_of world.config seat.replica (part_of history r) 0 c.args.to c.args.firsts.now =
+    c.in_ok-message.ensures.due (part_of history r) (stands_own r seat (part_of history r) here) (early.loans r) in
     let sent : c.keep.new.sent.items ≡ set world.sent.items r (get_or world.sent.items r [] ++ message ∷ []) =
     c.in_ok-keep.ensures.kept ∙ ap (λ (m : Message). set world.sent.items r (get_or world.sent.items r [] ++ m ∷ [])) same in (
-      ap act.Send (due ∙ ap (λ (k : ℕ). message_of world.config k (mine history r) 0 c.args.to c.args.firsts.now) here.replica_is),
+      ap act.Send (due ∙ ap (λ (k : ℕ). message_of world.config k (part_of history r) 0 c.args.to c.args.firsts.now) here.replica_is),
       goes_on_sending world _ history before r c.requires.from seat c.index_mut-seat.ensures.value c.send.new.self message early c.in_ok-message.ensures.stands refl c.requires.world.seats.length_is c.requires.world.lists refl sent,
     )

@@ -4,7 +4,7 @@ use Rattle.script_run.specs.declared.seat.Seat.{Seat}
 use Rattle.std.specs.Prelude.{slice_get}
 use Rattle.std.proofs.lemmas.List.{get_or_read}
 use Rattle.std.proofs.lemmas.Option.{slice_get_read}
-use Rattle.run_model.specs.Histories.{mine, sent_in}
+use Rattle.run_model.specs.Histories.{part_of, sent_in}
 use Rattle.script_run.specs.Seats.{IsFor}
 use Rattle.script_run.proofs.WorldLemmas.{counts_at, sent_is_for}
 use Rattle.script_run.proofs.PlayLemmas.{goes_on_quiet}
@@ -38,7 +38,7 @@ returns-clause-goes c = λ history early before.
     let read : message ≡ get_or (get_or world.sent.items c.args.from []) c.args.number message =
     same ∙ c.index-sent-number.is ∙ ap (λ (xs : List Message). get_or xs c.args.number c.index-sent-number.result) (c.items-sent.ensures ∙ list_is)
     ∙ ap (λ (m : Message). get_or (get_or world.sent.items c.args.from []) c.args.number m) (sym same) in
-    let found : slice_get (sent_in (mine history c.args.from)) c.args.number ≡ Some message =
+    let found : slice_get (sent_in (part_of history c.args.from)) c.args.number ≡ Some message =
     subst (λ (xs : List Message). slice_get xs c.args.number ≡ Some message) (before.sent c.args.from c.requires.from)
     (slice_get_read (get_or world.sent.items c.args.from []) (length (get_or world.sent.items c.args.from [])) c.args.number message refl below read) in (
       (message, found, refl),

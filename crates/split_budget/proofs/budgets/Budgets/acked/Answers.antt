@@ -1,7 +1,7 @@
 use Rattle.std.proofs.Common.{◌≡◌, max, get_or, ap, ◌∙◌}
 use Rattle.std.proofs.lemmas.List.{get_or_read}
 use Rattle.split_budget.specs.Inside.{state_of}
-use Rattle.split_budget.proofs.Keeping.{KeepsBudgets-acked}
+use Rattle.split_budget.proofs.OriginState.{KeepsBudgets-acked}
 use Rattle.split_budget.proofs.budgets.Budgets.acked.Goals as goal
 
 pub invariant_of-self : goal.invariant_of-self

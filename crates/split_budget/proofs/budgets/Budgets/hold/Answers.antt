@@ -2,7 +2,7 @@ use Rattle.std.proofs.Common.{◌≡◌, arith}
 use Rattle.std.proofs.lemmas.List.{get_or_read}
 use Rattle.split_budget.specs.Inside.{state_of}
 use Rattle.split_budget.specs.Budgets.{reserved_on}
-use Rattle.split_budget.proofs.Keeping.{held-fits, KeepsBudgets-held}
+use Rattle.split_budget.proofs.OriginState.{held-fits, KeepsBudgets-held}
 use Rattle.split_budget.proofs.budgets.Budgets.hold.Goals as goal
 use Rattle.split_budget.proofs.budgets.Budgets.hold.Goals.{After-index_mut}
 

@@ -1,7 +1,7 @@
 use Rattle.std.proofs.Common.{◌<◌, length}
 use Rattle.std.proofs.lemmas.List.{get_or_read}
 use Rattle.split_budget.specs.Inside.{state_of}
-use Rattle.split_budget.proofs.Keeping.{place_in-within}
+use Rattle.split_budget.proofs.OriginState.{place_in-within}
 use Rattle.split_budget.proofs.KeepingLoans.{KeepsBudgets-lent}
 use Rattle.split_budget.proofs.budgets.Budgets.lend.Goals as goal
 

@@ -2,7 +2,7 @@ use Rattle.std.proofs.Common.{◌≡◌, ◌-◌, min, length, take, drop, get_o
 use Rattle.std.proofs.lemmas.List.{get_or_read}
 use Rattle.split_budget.specs.Inside.{state_of}
 use Rattle.split_budget.specs.Budgets.{maybe_missed}
-use Rattle.split_budget.proofs.Keeping.{read_from_known, missing_plus-fits, missing_minus-fits}
+use Rattle.split_budget.proofs.OriginState.{read_from_known, missing_plus-fits, missing_minus-fits}
 use Rattle.split_budget.proofs.budgets.Budgets.missing.Goals as goal
 use Rattle.split_budget.proofs.budgets.Budgets.missing.Goals.{After-min-known}
 

@@ -1,7 +1,0 @@
-use Rattle.std.proofs.Common.{◌↔◌, drop}
-use Rattle.replica_core.proofs.RangesPlaced.{Placed}
-use Rattle.replica_core.proofs.ranges.told.do_stand_by_origin.Given as goal
-
--- all of them stand by origin exactly where those that are left do, from the last origin on
-abbrev pub invariant-loop-write : goal.invariant-loop-write
-invariant-loop-write l = Placed 0 l.replicas l.writes ↔ Placed l.least l.replicas (drop l.write-index l.writes)

@@ -1,5 +1,0 @@
-use Rattle.std.proofs.Common.{◌≡◌, ◌+◌, sum, take}
-use Rattle.run_model.proofs.config.do_pass.Given as goal
-
-abbrev pub invariant-loop-loan : goal.invariant-loop-loan
-invariant-loop-loan l = l.left + sum (take l.loan-index l.loans) ≡ l.alpha
