@@ -25,7 +25,9 @@ use Rattle.run_model.proofs.SoundRuns.{Sound-run, Sound-prefix, Grows-run}
 use Rattle.run_model.proofs.SoundViews.{Sound-log, Sound-count, Sound-cover}
 
 -- the point is at most the stamp of each cover
-pub point-le : (setup : Setup) (replica : ℕ) (part : List Entry) (origin : ℕ) → origin < setup.replicas → point setup replica part ≤ (cover_of replica part 0 origin).stamp
+pub point-le : (setup : Setup) (replica : ℕ) (part : List Entry) (origin : ℕ)
+    → origin < setup.replicas
+    → point setup replica part ≤ (cover_of replica part 0 origin).stamp
 point-le setup replica part origin within =
     let p = point setup replica part in
     let covers = covers_of setup replica part 0 in
@@ -54,7 +56,11 @@ module _ (setup : Setup) (history : List Entry) (run : IsRun setup history) (fro
       (Sound-cover setup front sound replica origin 0 (omega arith))
 
   -- what the log lacks is above the point
-  pub lacking_is_above : (origin : ℕ) → origin < setup.replicas → (rest : List Write) → own (part_of history origin) ≡ log_of replica part origin ++ rest → All (λ (write : Write). point setup replica part < write.stamp) rest
+  pub lacking_is_above : (origin : ℕ)
+      → origin < setup.replicas
+      → (rest : List Write)
+      → own (part_of history origin) ≡ log_of replica part origin ++ rest
+      → All (λ (write : Write). point setup replica part < write.stamp) rest
   lacking_is_above origin within rest is place d inside =
       let log = log_of replica part origin in
       let at = length log + place in
@@ -67,7 +73,9 @@ module _ (setup : Setup) (history : List Entry) (run : IsRun setup history) (fro
       lt_of_le_of_lt (point-le setup replica part origin within) (later past).0
 
   -- up to the point, the log has what the origin accepts in the whole run
-  pub committed-of_origin : (origin : ℕ) → origin < setup.replicas → committed_to (point setup replica part) (log_of replica part origin) ≡ committed_to (point setup replica part) (own (part_of history origin))
+  pub committed-of_origin : (origin : ℕ)
+      → origin < setup.replicas
+      → committed_to (point setup replica part) (log_of replica part origin) ≡ committed_to (point setup replica part) (own (part_of history origin))
   committed-of_origin origin within =
       let p = point setup replica part in
       let test = λ (write : Write). nat_le write.stamp p in
@@ -94,7 +102,9 @@ module _ (setup : Setup) (history : List Entry) (run : IsRun setup history) (fro
       committed_to-in_order p (flat_map log (replicas_of setup)) ∙ ap in_order same ∙ sym (committed_to-in_order p (flat_map whole (replicas_of setup)))
 
 -- Every run is agreed.
-pub IsAgreed-run : (setup : Setup) (history : List Entry) → IsRun setup history → IsAgreed setup history
+pub IsAgreed-run : (setup : Setup) (history : List Entry)
+    → IsRun setup history
+    → IsAgreed setup history
 IsAgreed-run setup history run first second one other first_prefix second_prefix one_within other_within =
     let all = in_order (all_writes setup history) in
     let p = point setup one (part_of first one) in

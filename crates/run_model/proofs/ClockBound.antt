@@ -47,21 +47,35 @@ within-clock most part below = (
 )
 
 -- one more entry, whose stamps are at most a number
-pub clock-push-within : (most : ℕ) (part : List Entry) (entry : Entry) → clock part ≤ most → ((write : Write) → accepted_in entry ≡ Some write → write.stamp ≤ most) → ((message : Message) → taken_by entry ≡ Some message → (origin : ℕ) → (told_cover message origin).stamp ≤ most)
+pub clock-push-within : (most : ℕ) (part : List Entry) (entry : Entry)
+    → clock part ≤ most
+    → ((write : Write) → accepted_in entry ≡ Some write → write.stamp ≤ most)
+    → ((message : Message) → taken_by entry ≡ Some message → (origin : ℕ) → (told_cover message origin).stamp ≤ most)
     → clock (part ++ entry ∷ []) ≤ most
 clock-push-within most part entry below accepts takes =
     let before = within-clock most part below in
     clock-within most (part ++ entry ∷ []) (owns (accepted_in entry) refl before.0, tolds (taken_by entry) refl before.1)
   where
-    owns : (accepted : Option Write) → accepted_in entry ≡ accepted → All (λ (write : Write). write.stamp ≤ most) (own part) → All (λ (write : Write). write.stamp ≤ most) (own (part ++ entry ∷ []))
+    owns : (accepted : Option Write)
+        → accepted_in entry ≡ accepted
+        → All (λ (write : Write). write.stamp ≤ most) (own part)
+        → All (λ (write : Write). write.stamp ≤ most) (own (part ++ entry ∷ []))
     owns None none all = subst (All (λ (write : Write). write.stamp ≤ most)) (sym (own-push_none part entry none)) all
     owns (Some write) some all = subst (All (λ (write : Write). write.stamp ≤ most)) (sym (own-push_some part entry write some)) (All-push (λ (write : Write). write.stamp ≤ most) (own part) write all (accepts write some))
 
-    tolds : (taken : Option Message) → taken_by entry ≡ taken → All (λ (message : Message). (origin : ℕ) → (told_cover message origin).stamp ≤ most) (taken_in part) → All (λ (message : Message). (origin : ℕ) → (told_cover message origin).stamp ≤ most) (taken_in (part ++ entry ∷ []))
+    tolds : (taken : Option Message)
+        → taken_by entry ≡ taken
+        → All (λ (message : Message). (origin : ℕ) → (told_cover message origin).stamp ≤ most) (taken_in part)
+        → All (λ (message : Message). (origin : ℕ) → (told_cover message origin).stamp ≤ most) (taken_in (part ++ entry ∷ []))
     tolds None none all = subst (All (λ (message : Message). (origin : ℕ) → (told_cover message origin).stamp ≤ most)) (sym (taken_in-push_none part entry none)) all
     tolds (Some message) some all = subst (All (λ (message : Message). (origin : ℕ) → (told_cover message origin).stamp ≤ most)) (sym (taken_in-push_some part entry message some)) (All-push (λ (message : Message). (origin : ℕ) → (told_cover message origin).stamp ≤ most) (taken_in part) message all (takes message some))
 
-clock-step : (setup : Setup) (history : List Entry) (entry : Entry) → Sound setup history → IsLawful setup history entry → ((replica : ℕ) → clock (part_of history replica) ≤ length history) → (replica : ℕ) → clock (part_of (history ++ entry ∷ []) replica) ≤ length (history ++ entry ∷ [])
+clock-step : (setup : Setup) (history : List Entry) (entry : Entry)
+    → Sound setup history
+    → IsLawful setup history entry
+    → ((replica : ℕ) → clock (part_of history replica) ≤ length history)
+    → (replica : ℕ)
+    → clock (part_of (history ++ entry ∷ []) replica) ≤ length (history ++ entry ∷ [])
 clock-step setup history entry sound lawful below =
     let most = length (history ++ entry ∷ []) in
     let more : most ≡ length history + 1 = length_push history entry in
@@ -74,7 +88,10 @@ clock-step setup history entry sound lawful below =
     omega (arith, more, below origin, (sent.told origin).cover.stamp)))
     (λ replica. omega (arith, more, below replica))
 
-pub clock-run : (setup : Setup) (history : List Entry) → IsRun setup history → (replica : ℕ) → clock (part_of history replica) ≤ length history
+pub clock-run : (setup : Setup) (history : List Entry)
+    → IsRun setup history
+    → (replica : ℕ)
+    → clock (part_of history replica) ≤ length history
 clock-run setup =
     over_runs setup (λ history. (replica : ℕ) → clock (part_of history replica) ≤ length history) (λ replica. omega arith)
     (λ before entry run lawful below. clock-step setup before entry (Sound-run setup before run) lawful below)

@@ -24,19 +24,23 @@ abbrev pub taken_stamps : List Entry → List ℕ
 taken_stamps part = map (λ (cover : Cover). cover.stamp) (flat_map (λ (message : Message). message.covers) (taken_in part))
 
 -- the clock is at least both
-pub own-le-clock : (part : List Entry) → All (λ (write : Write). write.stamp ≤ clock part) (own part)
+pub own-le-clock : (part : List Entry)
+    → All (λ (write : Write). write.stamp ≤ clock part) (own part)
 own-le-clock part =
     All-weaker (λ (write : Write). write.stamp ≤ greatest (own_stamps part)) (λ (write : Write). write.stamp ≤ clock part) (λ write below. omega (arith, below)) (own part)
     (All-from_map (λ n. n ≤ greatest (own_stamps part)) (λ (write : Write). write.stamp) (own part) (greatest-is_most (own_stamps part)))
 
 -- a told cover stands in its message, or is the empty one
-told_cover-le : (message : Message) (origin most : ℕ) → All (λ (cover : Cover). cover.stamp ≤ most) message.covers → (told_cover message origin).stamp ≤ most
+told_cover-le : (message : Message) (origin most : ℕ)
+    → All (λ (cover : Cover). cover.stamp ≤ most) message.covers
+    → (told_cover message origin).stamp ≤ most
 told_cover-le message origin most all = ⊎_elim
     (λ (within : origin < length message.covers). all origin no_cover within)
     (λ (past : length message.covers ≤ origin). rw (get_or_past message.covers origin no_cover past) (omega arith))
     (cases_lt origin (length message.covers))
 
-pub taken-le-clock : (part : List Entry) → All (λ (message : Message). (origin : ℕ) → (told_cover message origin).stamp ≤ clock part) (taken_in part)
+pub taken-le-clock : (part : List Entry)
+    → All (λ (message : Message). (origin : ℕ) → (told_cover message origin).stamp ≤ clock part) (taken_in part)
 taken-le-clock part =
     let P = λ (cover : Cover). cover.stamp ≤ greatest (taken_stamps part) in
     let covers = λ (message : Message). message.covers in
@@ -67,20 +71,28 @@ module _ (part : List Entry) (entry : Entry) where
       omega (arith, own_more, taken_more)
 
   -- an entry that accepts and takes nothing leaves it as it was
-  pub clock-push_none : accepted_in entry ≡ None → taken_by entry ≡ None → clock (part ++ entry ∷ []) ≡ clock part
+  pub clock-push_none : accepted_in entry ≡ None
+      → taken_by entry ≡ None
+      → clock (part ++ entry ∷ []) ≡ clock part
   clock-push_none no_write no_message =
       ap₂ (λ writes messages. max (greatest (map (λ (write : Write). write.stamp) writes)) (greatest (map (λ (cover : Cover). cover.stamp) (flat_map (λ (message : Message). message.covers) messages))))
       (own-push_none part entry no_write) (taken_in-push_none part entry no_message)
 
   -- a taken message tells nothing above it
-  pub told-le-clock : (message : Message) → taken_by entry ≡ Some message → (origin : ℕ) → (told_cover message origin).stamp ≤ clock (part ++ entry ∷ [])
+  pub told-le-clock : (message : Message)
+      → taken_by entry ≡ Some message
+      → (origin : ℕ)
+      → (told_cover message origin).stamp ≤ clock (part ++ entry ∷ [])
   told-le-clock message some =
       let P = λ (message : Message). (origin : ℕ) → (told_cover message origin).stamp ≤ clock (part ++ entry ∷ []) in
       All-head P message [] (All-append_right P (taken_in part) (message ∷ []) (subst (All P) (taken_in-push_some part entry message some) (taken-le-clock (part ++ entry ∷ []))))
 
 -- The clock after a write, and after a message.
 module _ (part : List Entry) (entry : Entry) where
-  pub clock-accepted : (write : Write) → accepted_in entry ≡ Some write → taken_by entry ≡ None → clock (part ++ entry ∷ []) ≡ max (clock part) write.stamp
+  pub clock-accepted : (write : Write)
+      → accepted_in entry ≡ Some write
+      → taken_by entry ≡ None
+      → clock (part ++ entry ∷ []) ≡ max (clock part) write.stamp
   clock-accepted write some none =
       let stamp = λ (w : Write). w.stamp in
       let writes : greatest (own_stamps (part ++ entry ∷ [])) ≡ max (greatest (own_stamps part)) (greatest (write.stamp ∷ [])) =
@@ -91,7 +103,9 @@ module _ (part : List Entry) (entry : Entry) where
       ap (λ (ms : List Message). greatest (map (λ (c : Cover). c.stamp) (flat_map (λ (m : Message). m.covers) ms))) (taken_in-push_none part entry none) in
       omega (arith, writes, told)
 
-  pub clock-taken : (message : Message) → accepted_in entry ≡ None → taken_by entry ≡ Some message
+  pub clock-taken : (message : Message)
+      → accepted_in entry ≡ None
+      → taken_by entry ≡ Some message
       → clock (part ++ entry ∷ []) ≡ max (clock part) (greatest (map (λ (cover : Cover). cover.stamp) message.covers))
   clock-taken message none some =
       let stamp = λ (cover : Cover). cover.stamp in

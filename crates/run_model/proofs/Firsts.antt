@@ -1,6 +1,5 @@
 -- The firsts that a message has ask for the same message.
-use Rattle.std.proofs.Common.{◌≡◌, ℕ, ◌<◌, ◌==◌, min, max, Bool, true, false, cond, slice_index, length, List, [], ◌∷◌, take, drop, map, All, refl, ap, ap₂, arith}
-use Rattle.std.proofs.lemmas.List.Elements.{All-head, All-tail}
+use Rattle.std.proofs.Common.{◌≡◌, ℕ, ◌<◌, ◌==◌, min, max, Bool, true, false, cond, slice_index, length, List, take, drop, map, All, refl, ap, ap₂, arith}
 use Rattle.tact_base.proofs.ListLemmas.{All-range, map_agree, flat_map_agree, get_or-map_range}
 use Rattle.tact_base.specs.declared.limits.TheConstants.{MESSAGE_WRITES}
 use Rattle.tact_base.specs.declared.write.Write.{Write}
@@ -16,16 +15,20 @@ module _ (setup : Setup) (replica : ℕ) (part : List Entry) (to : ℕ) (given :
   abbrev firsts : List ℕ
   firsts = map (first_for replica part to given) (replicas_of setup)
 
-  first_again : (origin : ℕ) → origin < setup.replicas → first_for replica part to given origin ≡ first_for replica part to firsts origin
+  first_again : (origin : ℕ)
+      → origin < setup.replicas
+      → first_for replica part to given origin ≡ first_for replica part to firsts origin
   first_again origin within = go (origin == to) (get_or-map_range (first_for replica part to given) setup.replicas origin 0 within)
     where
-      go : (own : Bool) → slice_index firsts origin ≡ cond own (have replica part origin) (min (have replica part origin) (max (slice_index given origin) (known part to origin)))
+      go : (own : Bool)
+          → slice_index firsts origin ≡ cond own (have replica part origin) (min (have replica part origin) (max (slice_index given origin) (known part to origin)))
           → cond own (have replica part origin) (min (have replica part origin) (max (slice_index given origin) (known part to origin)))
           ≡ cond own (have replica part origin) (min (have replica part origin) (max (slice_index firsts origin) (known part to origin)))
       go true is = refl
       go false is = omega (arith, is)
 
-  pub message_again : (at : ℕ) → message_of setup replica part at to given ≡ message_of setup replica part at to firsts
+  pub message_again : (at : ℕ)
+      → message_of setup replica part at to given ≡ message_of setup replica part at to firsts
   message_again at =
       let same : All (λ origin. first_for replica part to given origin ≡ first_for replica part to firsts origin) (replicas_of setup) =
       All-range (λ origin. first_for replica part to given origin ≡ first_for replica part to firsts origin) 0 setup.replicas (λ origin low high. first_again origin (omega (arith, high))) in

@@ -34,10 +34,13 @@ pub record Grows (replica : ℕ) (before after : List Entry) : Type 0 where
   pub have : (origin : ℕ) → have replica before origin ≤ have replica after origin
 
 -- a log that is kept doesn't get shorter
-origin_state-le-push : (part : List Entry) (entry : Entry) (origin : ℕ) → length (origin_state part origin).log ≤ length (origin_state (part ++ entry ∷ []) origin).log
+origin_state-le-push : (part : List Entry) (entry : Entry) (origin : ℕ)
+    → length (origin_state part origin).log ≤ length (origin_state (part ++ entry ∷ []) origin).log
 origin_state-le-push part entry origin = go (taken_by entry) refl
   where
-    go : (taken : Option Message) → taken_by entry ≡ taken → length (origin_state part origin).log ≤ length (origin_state (part ++ entry ∷ []) origin).log
+    go : (taken : Option Message)
+        → taken_by entry ≡ taken
+        → length (origin_state part origin).log ≤ length (origin_state (part ++ entry ∷ []) origin).log
     go None none = le_of_eq (sym (ap (λ (kept : OriginState). length kept.log) (origin_state-push_none part entry origin none)))
     go (Some message) some =
         le_trans (log_after-le (origin_state part origin).log (told_first message origin) (told_writes message origin))
@@ -53,7 +56,10 @@ Grows-refl replica part = record {
   have = λ origin. omega arith;
 }
 
-pub Grows-trans : (replica : ℕ) (one two three : List Entry) → Grows replica one two → Grows replica two three → Grows replica one three
+pub Grows-trans : (replica : ℕ) (one two three : List Entry)
+    → Grows replica one two
+    → Grows replica two three
+    → Grows replica one three
 Grows-trans replica one two three first second = record {
   new = first.new ++ second.new;
   own = second.own ∙ ap (λ writes. writes ++ second.new) first.own ∙ append_assoc (own one) first.new second.new;
@@ -70,18 +76,23 @@ Grows-trans replica one two three first second = record {
 }
 
 module _ (setup : Setup) (part : List Entry) (entry : Entry) (due : IsDue setup part entry) where
-  next_is_later : (write : Write) → IsNext entry.replica part entry.moment write → IsLater part write
+  next_is_later : (write : Write)
+      → IsNext entry.replica part entry.moment write
+      → IsLater part write
   next_is_later write next = record {
     index = le_of_eq (sym next.index);
     stamp = omega (arith, next.stamp);
     moment = omega (arith, next.moment, due.moment);
   }
 
-  new_is_later : (accepted : Option Write) → accepted_in entry ≡ accepted → All (IsLater part) (cons_option accepted [])
+  new_is_later : (accepted : Option Write)
+      → accepted_in entry ≡ accepted
+      → All (IsLater part) (cons_option accepted [])
   new_is_later None none = All-nil (IsLater part)
   new_is_later (Some write) some = All-one (IsLater part) write (next_is_later write (accepted_is_next setup part entry write due some))
 
-  have-le-push : (origin : ℕ) → have entry.replica part origin ≤ have entry.replica (part ++ entry ∷ []) origin
+  have-le-push : (origin : ℕ)
+      → have entry.replica part origin ≤ have entry.replica (part ++ entry ∷ []) origin
   have-le-push origin = ⊎_elim
       (λ (same : origin ≡ entry.replica).
       rw (same, log_of-same entry.replica part, log_of-same entry.replica (part ++ entry ∷ []), own-push part entry)
@@ -102,7 +113,10 @@ module _ (setup : Setup) (part : List Entry) (entry : Entry) (due : IsDue setup 
   }
 
 -- After an entry that is due after the part of its replica, each part has grown, the others by nothing.
-pub Grows-history : (setup : Setup) (history : List Entry) (entry : Entry) → IsDue setup (part_of history entry.replica) entry → (replica : ℕ) → Grows replica (part_of history replica) (part_of (history ++ entry ∷ []) replica)
+pub Grows-history : (setup : Setup) (history : List Entry) (entry : Entry)
+    → IsDue setup (part_of history entry.replica) entry
+    → (replica : ℕ)
+    → Grows replica (part_of history replica) (part_of (history ++ entry ∷ []) replica)
 Grows-history setup history entry due =
     part_of-push_cases history entry (λ replica part. Grows replica (part_of history replica) part) (Grows-push setup (part_of history entry.replica) entry due)
     (λ replica. Grows-refl replica (part_of history replica))

@@ -20,13 +20,18 @@ iff_trans (to, from) (on, back) = (λ p. on (to p), λ r. from (back r))
 abbrev pub from_one : ℕ → List Write → List Write
 from_one origin writes = filter (λ (write : Write). write.origin == origin) writes
 
-pub from_one-here : (origin : ℕ) (write : Write) (writes : List Write) → write.origin ≡ origin → from_one origin (write ∷ writes) ≡ write ∷ from_one origin writes
+pub from_one-here : (origin : ℕ) (write : Write) (writes : List Write)
+    → write.origin ≡ origin
+    → from_one origin (write ∷ writes) ≡ write ∷ from_one origin writes
 from_one-here origin write writes is = rw (eq-eqb write.origin origin is) refl
 
-pub from_one-other : (origin : ℕ) (write : Write) (writes : List Write) → write.origin ≢ origin → from_one origin (write ∷ writes) ≡ from_one origin writes
+pub from_one-other : (origin : ℕ) (write : Write) (writes : List Write)
+    → write.origin ≢ origin
+    → from_one origin (write ∷ writes) ≡ from_one origin writes
 from_one-other origin write writes isnt = rw (ne_eqb write.origin origin isnt) refl
 
-pub from_one-origins : (origin : ℕ) (writes : List Write) → All (λ (write : Write). write.origin ≡ origin) (from_one origin writes)
+pub from_one-origins : (origin : ℕ) (writes : List Write)
+    → All (λ (write : Write). write.origin ≡ origin) (from_one origin writes)
 from_one-origins origin writes =
     All-weaker (λ (write : Write). (write.origin == origin) ≡ true) (λ (write : Write). write.origin ≡ origin) (λ write passes. eqb-true write.origin origin passes) (from_one origin writes)
     (filter_passes (λ (write : Write). write.origin == origin) writes)
@@ -38,7 +43,9 @@ from_one-all origin writes each =
     filter_all (λ (write : Write). write.origin == origin) writes
     (All-weaker (λ (write : Write). write.origin ≡ origin) (λ (write : Write). (write.origin == origin) ≡ true) (λ write is. eq-eqb write.origin origin is) writes each)
 
-pub from_one-none : (origin : ℕ) (writes : List Write) → All (λ (write : Write). write.origin ≢ origin) writes → from_one origin writes ≡ []
+pub from_one-none : (origin : ℕ) (writes : List Write)
+    → All (λ (write : Write). write.origin ≢ origin) writes
+    → from_one origin writes ≡ []
 from_one-none origin writes each =
     filter_none (λ (write : Write). write.origin == origin) writes
     (All-weaker (λ (write : Write). write.origin ≢ origin) (λ (write : Write). (write.origin == origin) ≡ false) (λ write isnt. ne_eqb write.origin origin isnt) writes each)

@@ -1,19 +1,22 @@
 -- Writes that stand by origin, and those of one origin that stand by index.
-use Rattle.std.proofs.Common.{◌≡◌, ◌≢◌, ℕ, zero, suc, ◌+◌, ◌-◌, ◌<◌, ◌≤◌, ◌==◌, true, false, List, [], ◌∷◌, ◌++◌, length, get_or, take, drop, map, filter, flat_map, All, refl, sym, ap, ap₂, ◌∙◌, subst, arith}
+use Rattle.std.proofs.Common.{◌≡◌, ◌≢◌, ℕ, zero, suc, ◌+◌, ◌-◌, ◌<◌, ◌≤◌, ◌==◌, List, [], ◌∷◌, ◌++◌, length, get_or, take, drop, map, filter, flat_map, All, refl, sym, ap, ap₂, ◌∙◌, subst, arith}
 use Rattle.std.specs.List.{range_with_len}
-use Rattle.std.proofs.lemmas.Bool.{eq-eqb, ne_eqb}
 use Rattle.std.proofs.lemmas.List.{append-nil, take_all, length-map, length-drop, get_or-drop, get_or-map, ext_get_or}
 use Rattle.std.proofs.lemmas.List.Elements.{All-weaker, All-take, filter-append}
 use Rattle.std.proofs.lemmas.List.FromFn.{length-range_with_len, get_or-range_with_len}
-use Rattle.tact_base.proofs.ListLemmas.{All-flat_map, All-range, filter_all, filter_none, flat_map_agree, take-append}
+use Rattle.tact_base.proofs.ListLemmas.{All-flat_map, All-range, flat_map_agree, take-append}
 use Rattle.tact_base.specs.declared.write.Write.{Write}
 use Rattle.run_model.specs.Histories.{IsPrefix}
 use Rattle.run_model.proofs.OriginWrites.{from_one, from_one-all, from_one-none}
 use Rattle.run_model.proofs.PrefixLemmas.{IsPrefix-length, IsPrefix-reads}
 
 -- writes of one origin, and then writes of others, stand by origin if those do
-placed-more : (origin start len : ℕ) (ours others : List Write) → origin < start → All (λ (write : Write). write.origin ≡ origin) ours → All (λ (write : Write). write.origin ≢ origin) others
-    → others ≡ flat_map (λ o. from_one o others) (range_with_len start len) → ours ++ others ≡ from_one origin (ours ++ others) ++ flat_map (λ o. from_one o (ours ++ others)) (range_with_len start len)
+placed-more : (origin start len : ℕ) (ours others : List Write)
+    → origin < start
+    → All (λ (write : Write). write.origin ≡ origin) ours
+    → All (λ (write : Write). write.origin ≢ origin) others
+    → others ≡ flat_map (λ o. from_one o others) (range_with_len start len)
+    → ours ++ others ≡ from_one origin (ours ++ others) ++ flat_map (λ o. from_one o (ours ++ others)) (range_with_len start len)
 placed-more origin start len ours others below are arent placed =
     let here : from_one origin (ours ++ others) ≡ ours =
     filter-append (λ (write : Write). write.origin == origin) ours others
@@ -28,13 +31,15 @@ placed-more origin start len ours others below are arent placed =
 
 -- a front of lists of one origin each, joined by origin, stands by origin
 module _ (writes_of : ℕ → List Write) (each : (origin : ℕ) → All (λ (write : Write). write.origin ≡ origin) (writes_of origin)) where
-  joined_from : (start len : ℕ) → All (λ (write : Write). start ≤ write.origin) (flat_map writes_of (range_with_len start len))
+  joined_from : (start len : ℕ)
+      → All (λ (write : Write). start ≤ write.origin) (flat_map writes_of (range_with_len start len))
   joined_from start len =
       All-flat_map (λ (write : Write). start ≤ write.origin) writes_of (range_with_len start len)
       (All-range (λ origin. All (λ (write : Write). start ≤ write.origin) (writes_of origin)) start len
       (λ origin low high. All-weaker (λ (write : Write). write.origin ≡ origin) (λ (write : Write). start ≤ write.origin) (λ write is. omega (arith, is)) (writes_of origin) (each origin)))
 
-  pub front_is_placed : (room start len : ℕ) → take room (flat_map writes_of (range_with_len start len)) ≡ flat_map (λ origin. from_one origin (take room (flat_map writes_of (range_with_len start len)))) (range_with_len start len)
+  pub front_is_placed : (room start len : ℕ)
+      → take room (flat_map writes_of (range_with_len start len)) ≡ flat_map (λ origin. from_one origin (take room (flat_map writes_of (range_with_len start len)))) (range_with_len start len)
   front_is_placed room start zero = take_all room [] (omega arith)
   front_is_placed room start (suc len) =
       let rest = flat_map writes_of (range_with_len (start + 1) len) in
@@ -48,7 +53,9 @@ module _ (writes_of : ℕ → List Write) (each : (origin : ℕ) → All (λ (wr
       (front_is_placed (room - length (writes_of start)) (start + 1) len))
 
 -- a stretch of writes that have their places has the places from its first on
-stretch_from : (d : Write) (whole told : List Write) (first : ℕ) → ((place : ℕ) (d : Write) → place < length whole → (get_or whole place d).index ≡ place) → IsPrefix told (drop first whole)
+stretch_from : (d : Write) (whole told : List Write) (first : ℕ)
+    → ((place : ℕ) (d : Write) → place < length whole → (get_or whole place d).index ≡ place)
+    → IsPrefix told (drop first whole)
     → map (λ (write : Write). write.index) told ≡ range_with_len first (length told)
 stretch_from d whole told first places prefix =
     let index = λ (write : Write). write.index in
@@ -62,7 +69,9 @@ stretch_from d whole told first places prefix =
     ∙ places (first + i) d (omega (arith, inside, few))
     ∙ sym (get_or-range_with_len first (length told) i 0 inside))
 
-pub stretch_has_places : (whole told : List Write) (first : ℕ) → ((place : ℕ) (d : Write) → place < length whole → (get_or whole place d).index ≡ place) → IsPrefix told (drop first whole)
+pub stretch_has_places : (whole told : List Write) (first : ℕ)
+    → ((place : ℕ) (d : Write) → place < length whole → (get_or whole place d).index ≡ place)
+    → IsPrefix told (drop first whole)
     → map (λ (write : Write). write.index) told ≡ range_with_len first (length told)
 stretch_has_places whole [] first places prefix = refl
 stretch_has_places whole (write ∷ told) first places prefix = stretch_from write whole (write ∷ told) first places prefix

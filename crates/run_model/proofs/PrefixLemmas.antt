@@ -7,7 +7,8 @@ use Rattle.tact_base.proofs.ListLemmas.{from_right, All-append_left}
 use Rattle.run_model.specs.Histories.{IsPrefix, EachAfter}
 
 -- a list is empty or has a last element
-pub right_cases : {A : Type 0} (xs : List A) → (xs ≡ []) ⊎ ((front : List A) × (last : A) × (xs ≡ front ++ last ∷ []))
+pub right_cases : {A : Type 0} (xs : List A)
+    → (xs ≡ []) ⊎ ((front : List A) × (last : A) × (xs ≡ front ++ last ∷ []))
 right_cases {A} xs = from_right (λ (xs : List A). (xs ≡ []) ⊎ ((front : List A) × (last : A) × (xs ≡ front ++ last ∷ []))) (inl refl) (λ front last before. inr (front, last, refl)) xs
 
 module _ {A : Type 0} where
@@ -26,7 +27,9 @@ module _ {A : Type 0} where
   pub IsPrefix-take : (n : ℕ) (xs : List A) → IsPrefix (take n xs) xs
   IsPrefix-take n xs = (drop n xs, sym (take-append-drop n xs))
 
-  pub IsPrefix-filter : (p : A → Bool) (xs ys : List A) → IsPrefix xs ys → IsPrefix (filter p xs) (filter p ys)
+  pub IsPrefix-filter : (p : A → Bool) (xs ys : List A)
+      → IsPrefix xs ys
+      → IsPrefix (filter p xs) (filter p ys)
   IsPrefix-filter p xs ys (rest, is) = (filter p rest, ap (filter p) is ∙ filter-append p xs rest)
 
   pub IsPrefix-same : (xs ys : List A) → xs ≡ ys → IsPrefix xs ys
@@ -42,14 +45,21 @@ module _ {A : Type 0} where
   pub IsPrefix-length : (xs ys : List A) → IsPrefix xs ys → length xs ≤ length ys
   IsPrefix-length xs ys (rest, is) = omega (arith, ap length is, length-append xs rest)
 
-  pub IsPrefix-reads : (xs ys : List A) (i : ℕ) (d : A) → IsPrefix xs ys → i < length xs → get_or ys i d ≡ get_or xs i d
+  pub IsPrefix-reads : (xs ys : List A) (i : ℕ) (d : A)
+      → IsPrefix xs ys
+      → i < length xs
+      → get_or ys i d ≡ get_or xs i d
   IsPrefix-reads xs ys i d (rest, is) within = ap (λ l. get_or l i d) is ∙ get_or_append_left xs rest d i within
 
   pub IsPrefix-All : (P : A → Type 0) (xs ys : List A) → IsPrefix xs ys → All P ys → All P xs
   IsPrefix-All P xs ys (rest, is) all = All-append_left P xs rest (subst (All P) is all)
 
   -- what a list has from a place within it on, and then a stretch of the whole from that place on, or from an earlier one
-  pub IsPrefix-stretch : (log told whole : List A) (first : ℕ) → IsPrefix log whole → IsPrefix told (drop first whole) → first ≤ length log → IsPrefix (log ++ drop (length log - first) told) whole
+  pub IsPrefix-stretch : (log told whole : List A) (first : ℕ)
+      → IsPrefix log whole
+      → IsPrefix told (drop first whole)
+      → first ≤ length log
+      → IsPrefix (log ++ drop (length log - first) told) whole
   IsPrefix-stretch log told whole first (rest, is) (more, is_more) within =
       let n : ℕ = length log - first in
       let onward : first + n ≡ length log = omega arith in

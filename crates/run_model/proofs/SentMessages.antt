@@ -1,8 +1,6 @@
 -- Pieces of the message that a replica sends: its writes, origin by origin, and what it tells of loans where none was moved.
-use Rattle.std.proofs.Common.{◌≡◌, ℕ, zero, suc, ◌+◌, ◌-◌, ◌<◌, List, [], ◌∷◌, ◌++◌, length, get_or, take, map, sum_by, flat_map, All, refl, sym, ap, ap₂, ◌∙◌, arith}
+use Rattle.std.proofs.Common.{◌≡◌, ℕ, ◌+◌, ◌-◌, List, ◌++◌, length, get_or, take, flat_map, refl, sym, ap, ap₂, ◌∙◌, arith}
 use Rattle.std.specs.List.{range_with_len}
-use Rattle.std.proofs.lemmas.List.Elements.{All-head, All-tail}
-use Rattle.std.proofs.lemmas.List.Sums.{sum_by-cons}
 use Rattle.tact_base.proofs.ListLemmas.{sum_of_none, take-append-taken}
 use Rattle.tact_base.specs.declared.write.Cover.{Cover}
 use Rattle.tact_base.specs.declared.write.Write.{Write}
@@ -15,8 +13,11 @@ use Rattle.run_model.specs.declared.entry.Message.{Message}
 use Rattle.tact_base.proofs.RangeLists.{flat_map_range_more}
 
 -- the first few of the writes of one more origin
-pub writes_more : (of_origin : ℕ → List Write) (n room : ℕ) (before after : List Write) → before ≡ take 64 (flat_map of_origin (range_with_len 0 n)) → room ≡ 64 - length before
-    → after ≡ before ++ take room (of_origin n) → after ≡ take 64 (flat_map of_origin (range_with_len 0 (n + 1)))
+pub writes_more : (of_origin : ℕ → List Write) (n room : ℕ) (before after : List Write)
+    → before ≡ take 64 (flat_map of_origin (range_with_len 0 n))
+    → room ≡ 64 - length before
+    → after ≡ before ++ take room (of_origin n)
+    → after ≡ take 64 (flat_map of_origin (range_with_len 0 (n + 1)))
 writes_more of_origin n room before after was left grew =
     grew
     ∙ ap (λ (k : ℕ). before ++ take k (of_origin n)) left
@@ -25,28 +26,52 @@ writes_more of_origin n room before after was left grew =
     ∙ ap (take 64) (sym (flat_map_range_more of_origin n))
 
 -- a part without loans lent and gave back nothing
-lends_nothing : (done : Act) (holder conit : ℕ) → MovesNoLoan done → lent_by_act holder conit done ≡ 0
+lends_nothing : (done : Act) (holder conit : ℕ)
+    → MovesNoLoan done
+    → lent_by_act holder conit done ≡ 0
 lends_nothing (act.Lend to at amount) holder conit none = absurd none
 lends_nothing other holder conit none = refl
 
-returns_nothing : (done : Act) (owner conit : ℕ) → MovesNoLoan done → returned_by_act owner conit done ≡ 0
+returns_nothing : (done : Act) (owner conit : ℕ)
+    → MovesNoLoan done
+    → returned_by_act owner conit done ≡ 0
 returns_nothing (act.Back to at amount) owner conit none = absurd none
 returns_nothing other owner conit none = refl
 
-pub lent_opening : (setup : Setup) (replica : ℕ) (part : List Entry) (holder conit : ℕ) → HasNoLoans part → lent setup replica part holder conit ≡ loan_of setup replica conit holder
+pub lent_opening : (setup : Setup) (replica : ℕ) (part : List Entry) (holder conit : ℕ)
+    → HasNoLoans part
+    → lent setup replica part holder conit ≡ loan_of setup replica conit holder
 lent_opening setup replica part holder conit none =
     omega (arith, sum_of_none (λ (entry : Entry). lent_by_act holder conit entry.act) part (λ k d within. lends_nothing (get_or part k d).act holder conit (none k d within)))
 
-pub returned_nothing : (part : List Entry) (owner conit : ℕ) → HasNoLoans part → returned part owner conit ≡ 0
+pub returned_nothing : (part : List Entry) (owner conit : ℕ)
+    → HasNoLoans part
+    → returned part owner conit ≡ 0
 returned_nothing part owner conit none =
     sum_of_none (λ (entry : Entry). returned_by_act owner conit entry.act) part (λ k d within. returns_nothing (get_or part k d).act owner conit (none k d within))
 
 -- messages of the same parts
-abbrev pub told_by : ℕ → ℕ → ℕ → List ℕ → List Cover → List ℕ → List Write → List ℕ → List ℕ → Message
+abbrev pub told_by : ℕ
+    → ℕ
+    → ℕ
+    → List ℕ
+    → List Cover
+    → List ℕ
+    → List Write
+    → List ℕ
+    → List ℕ
+    → Message
 told_by from to number haves covers firsts writes lent returned = record { from = from; to = to; number = number; haves = haves; covers = covers; firsts = firsts; writes = writes; lent = lent; returned = returned }
 
 pub same_message : (from from' to number number' : ℕ) (haves haves' : List ℕ) (covers covers' : List Cover) (firsts firsts' : List ℕ) (writes writes' : List Write) (lent lent' returned returned' : List ℕ)
-    → from ≡ from' → number ≡ number' → haves ≡ haves' → covers ≡ covers' → firsts ≡ firsts' → writes ≡ writes' → lent ≡ lent' → returned ≡ returned'
+    → from ≡ from'
+    → number ≡ number'
+    → haves ≡ haves'
+    → covers ≡ covers'
+    → firsts ≡ firsts'
+    → writes ≡ writes'
+    → lent ≡ lent'
+    → returned ≡ returned'
     → told_by from to number haves covers firsts writes lent returned ≡ told_by from' to number' haves' covers' firsts' writes' lent' returned'
 same_message from from' to number number' haves haves' covers covers' firsts firsts' writes writes' lent lent' returned returned' a b c d e f g h =
     ap₂ (λ x y. told_by x to y haves covers firsts writes lent returned) a b

@@ -12,7 +12,9 @@ use Rattle.run_model.specs.declared.entry.Message.{Message}
 -- writes of one replica stand in order
 pub record AreNumbered (replica : ℕ) (writes : List Write) : Type 0 where
   pub origins : All (λ (write : Write). write.origin ≡ replica) writes
-  pub indices : (place : ℕ) (d : Write) → place < length writes → (get_or writes place d).index ≡ place
+  pub indices : (place : ℕ) (d : Write)
+      → place < length writes
+      → (get_or writes place d).index ≡ place
   pub stamps : AllPairs (λ (one other : Write). one.stamp < other.stamp) writes
   pub moments : AllPairs (λ (one other : Write). one.moment ≤ other.moment) writes
   pub stamps_least : All (λ (write : Write). 1 ≤ write.stamp) writes
@@ -49,7 +51,8 @@ pub record IsSoundTold (message : Message) (origin had : ℕ) (part : List Entry
 -- a message that a replica sent
 pub record IsSoundMessage (history : List Entry) (sender : ℕ) (message : Message) : Type 0 where
   pub from : message.from ≡ sender
-  pub told : (origin : ℕ) → IsSoundTold message origin (have sender (part_of history sender) origin) (part_of history origin)
+  pub told : (origin : ℕ)
+      → IsSoundTold message origin (have sender (part_of history sender) origin) (part_of history origin)
   pub stamps : All (λ (write : Write). write.stamp ≤ (told_cover message sender).stamp) message.writes
 
 -- the number of each message is its place
@@ -61,9 +64,12 @@ pub record Sound (setup : Setup) (history : List Entry) : Type 0 where
   -- own writes are in order
   pub own : (replica : ℕ) → IsNumbered replica (part_of history replica)
   -- logs are beginnings, and covers vouch
-  pub kept : (replica origin : ℕ) → IsSoundKeeping (clock (part_of history replica)) (origin_state (part_of history replica) origin) (part_of history origin)
+  pub kept : (replica origin : ℕ)
+      → IsSoundKeeping (clock (part_of history replica)) (origin_state (part_of history replica) origin) (part_of history origin)
   -- what is known of a peer, the peer has
-  pub known : (replica peer origin : ℕ) → known (part_of history replica) peer origin ≤ have peer (part_of history peer) origin
+  pub known : (replica peer origin : ℕ)
+      → known (part_of history replica) peer origin ≤ have peer (part_of history peer) origin
   -- sent messages tell no more than what is so, and the number of one is its place
-  pub sent : (replica : ℕ) → All (IsSoundMessage history replica) (sent_in (part_of history replica))
+  pub sent : (replica : ℕ)
+      → All (IsSoundMessage history replica) (sent_in (part_of history replica))
   pub numbers : (replica : ℕ) → HaveTheirPlaces (sent_in (part_of history replica))

@@ -18,11 +18,15 @@ use Rattle.run_model.proofs.Growth.{IsLater, Grows}
 use Rattle.run_model.proofs.Sound.{IsNumbered, Vouches, IsSoundKeeping, IsSoundTold}
 
 -- what a part has stands at the beginning of what it goes on to
-pub own-prefix : (replica : ℕ) (before after : List Entry) → Grows replica before after → IsPrefix (own before) (own after)
+pub own-prefix : (replica : ℕ) (before after : List Entry)
+    → Grows replica before after
+    → IsPrefix (own before) (own after)
 own-prefix replica before after grows = (grows.new, grows.own)
 
 -- the empty cover vouches for any part
-pub Vouches-empty : (replica : ℕ) (part : List Entry) → IsNumbered replica part → Vouches part no_cover
+pub Vouches-empty : (replica : ℕ) (part : List Entry)
+    → IsNumbered replica part
+    → Vouches part no_cover
 Vouches-empty replica part sound = record {
   count = omega arith;
   stamp = omega arith;
@@ -31,7 +35,10 @@ Vouches-empty replica part sound = record {
 }
 
 -- a cover that vouches goes on doing so
-pub Vouches-grows : (replica : ℕ) (before after : List Entry) (cover : Cover) → Grows replica before after → Vouches before cover → Vouches after cover
+pub Vouches-grows : (replica : ℕ) (before after : List Entry) (cover : Cover)
+    → Grows replica before after
+    → Vouches before cover
+    → Vouches after cover
 Vouches-grows replica before after cover grows vouches =
     let P = λ (write : Write). cover.count ≤ write.index → (cover.stamp < write.stamp) × (cover.moment ≤ write.moment) in
     let new : All P grows.new =
@@ -43,7 +50,11 @@ Vouches-grows replica before after cover grows vouches =
       later = subst (All P) (sym grows.own) (All-append P (own before) grows.new vouches.later new);
     }
 
-pub IsSoundKeeping-grows : (low high : ℕ) (kept : OriginState) (origin : ℕ) (before after : List Entry) → low ≤ high → Grows origin before after → IsSoundKeeping low kept before → IsSoundKeeping high kept after
+pub IsSoundKeeping-grows : (low high : ℕ) (kept : OriginState) (origin : ℕ) (before after : List Entry)
+    → low ≤ high
+    → Grows origin before after
+    → IsSoundKeeping low kept before
+    → IsSoundKeeping high kept after
 IsSoundKeeping-grows low high kept origin before after rises grows sound = record {
   log = IsPrefix-trans kept.log (own before) (own after) sound.log (own-prefix origin before after grows);
   stamps = All-weaker (λ (write : Write). write.stamp ≤ low) (λ (write : Write). write.stamp ≤ high) (λ write below. omega (arith, below)) kept.log sound.stamps;
@@ -52,8 +63,11 @@ IsSoundKeeping-grows low high kept origin before after rises grows sound = recor
 }
 
 -- A sound message is taken.
-pub IsSoundKeeping-after : (clock : ℕ) (origin : ℕ) (kept : OriginState) (message : Message) (had : ℕ) (part : List Entry) → IsSoundTold message origin had part
-    → All (λ (write : Write). write.stamp ≤ clock) (told_writes message origin) → IsSoundKeeping clock kept part → IsSoundKeeping clock (after_taking origin kept message) part
+pub IsSoundKeeping-after : (clock : ℕ) (origin : ℕ) (kept : OriginState) (message : Message) (had : ℕ) (part : List Entry)
+    → IsSoundTold message origin had part
+    → All (λ (write : Write). write.stamp ≤ clock) (told_writes message origin)
+    → IsSoundKeeping clock kept part
+    → IsSoundKeeping clock (after_taking origin kept message) part
 IsSoundKeeping-after clock origin kept message had part told below sound =
     let first = told_first message origin in
     let writes = told_writes message origin in

@@ -22,7 +22,11 @@ use Rattle.run_model.proofs.SoundKeeping.{own-prefix, Vouches-empty, Vouches-gro
 use Rattle.run_model.proofs.SoundViews.{own_cover, cover_of-same, cover_of-other, Vouches-own, Sound-log, Sound-origins, Sound-stamps, Sound-count}
 
 -- what was told stays so
-pub IsSoundTold-grows : (message : Message) (origin had has : ℕ) (before after : List Entry) → had ≤ has → Grows origin before after → IsSoundTold message origin had before → IsSoundTold message origin has after
+pub IsSoundTold-grows : (message : Message) (origin had has : ℕ) (before after : List Entry)
+    → had ≤ has
+    → Grows origin before after
+    → IsSoundTold message origin had before
+    → IsSoundTold message origin has after
 IsSoundTold-grows message origin had has before after more grows told = record {
   have = omega (arith, told.have);
   first = omega (arith, told.first);
@@ -32,7 +36,10 @@ IsSoundTold-grows message origin had has before after more grows told = record {
   count = told.count;
 }
 
-pub IsSoundMessage-grows : (history further : List Entry) (sender : ℕ) (message : Message) → ((replica : ℕ) → Grows replica (part_of history replica) (part_of further replica)) → IsSoundMessage history sender message → IsSoundMessage further sender message
+pub IsSoundMessage-grows : (history further : List Entry) (sender : ℕ) (message : Message)
+    → ((replica : ℕ) → Grows replica (part_of history replica) (part_of further replica))
+    → IsSoundMessage history sender message
+    → IsSoundMessage further sender message
 IsSoundMessage-grows history further sender message grows sound = record {
   from = sound.from;
   told = λ origin. IsSoundTold-grows message origin (have sender (part_of history sender) origin) (have sender (part_of further sender) origin) (part_of history origin) (part_of further origin) ((grows sender).have origin) (grows origin) (sound.told origin);
@@ -41,7 +48,9 @@ IsSoundMessage-grows history further sender message grows sound = record {
 
 -- Of lists of writes of one origin each, joined by origin, the writes of one.
 module _ (writes_of : ℕ → List Write) (each : (origin : ℕ) → All (λ (write : Write). write.origin ≡ origin) (writes_of origin)) (len : ℕ) (origin : ℕ) where
-  of_other : (other : ℕ) → other ≢ origin → filter (λ (write : Write). write.origin == origin) (writes_of other) ≡ []
+  of_other : (other : ℕ)
+      → other ≢ origin
+      → filter (λ (write : Write). write.origin == origin) (writes_of other) ≡ []
   of_other other differ =
       filter_none (λ (write : Write). write.origin == origin) (writes_of other)
       (All-weaker (λ (write : Write). write.origin ≡ other) (λ (write : Write). (write.origin == origin) ≡ false) (λ write is. ne_eqb write.origin origin (λ same. differ (sym is ∙ same))) (writes_of other) (each other))
@@ -51,13 +60,15 @@ module _ (writes_of : ℕ → List Write) (each : (origin : ℕ) → All (λ (wr
       filter_all (λ (write : Write). write.origin == origin) (writes_of origin)
       (All-weaker (λ (write : Write). write.origin ≡ origin) (λ (write : Write). (write.origin == origin) ≡ true) (λ write is. eq-eqb write.origin origin is) (writes_of origin) (each origin))
 
-  pub joined-within : origin < len → filter (λ (write : Write). write.origin == origin) (flat_map writes_of (range_with_len 0 len)) ≡ writes_of origin
+  pub joined-within : origin < len
+      → filter (λ (write : Write). write.origin == origin) (flat_map writes_of (range_with_len 0 len)) ≡ writes_of origin
   joined-within within =
       filter-flat_map (λ (write : Write). write.origin == origin) writes_of (range_with_len 0 len)
       ∙ flat_map_at (λ other. filter (λ (write : Write). write.origin == origin) (writes_of other)) 0 len origin (omega arith) (omega arith) of_other
       ∙ of_same
 
-  pub joined-past : len ≤ origin → filter (λ (write : Write). write.origin == origin) (flat_map writes_of (range_with_len 0 len)) ≡ []
+  pub joined-past : len ≤ origin
+      → filter (λ (write : Write). write.origin == origin) (flat_map writes_of (range_with_len 0 len)) ≡ []
   joined-past past =
       filter-flat_map (λ (write : Write). write.origin == origin) writes_of (range_with_len 0 len)
       ∙ flat_map_none (λ other. filter (λ (write : Write). write.origin == origin) (writes_of other)) (range_with_len 0 len)
@@ -79,15 +90,18 @@ module _ (setup : Setup) (history : List Entry) (sound : Sound setup history) (r
   onward-origins origin =
       All-drop (λ (write : Write). write.origin ≡ origin) (first_for replica part to given origin) (log_of replica part origin) (Sound-origins setup history sound replica origin)
 
-  pub first_for-le : (origin : ℕ) → first_for replica part to given origin ≤ have replica part origin
+  pub first_for-le : (origin : ℕ)
+      → first_for replica part to given origin ≤ have replica part origin
   first_for-le origin = go (origin == to)
     where
-      go : (own : Bool) → cond own (have replica part origin) (min (have replica part origin) (max (slice_index given origin) (known part to origin))) ≤ have replica part origin
+      go : (own : Bool)
+          → cond own (have replica part origin) (min (have replica part origin) (max (slice_index given origin) (known part to origin))) ≤ have replica part origin
       go true = omega arith
       go false = omega arith
 
   -- the clock that it tells is above its writes
-  sent_stamps : replica < setup.replicas → All (λ (write : Write). write.stamp ≤ (told_cover message replica).stamp) message.writes
+  sent_stamps : replica < setup.replicas
+      → All (λ (write : Write). write.stamp ≤ (told_cover message replica).stamp) message.writes
   sent_stamps within =
       let IsBelow = λ (write : Write). write.stamp ≤ clock part in
       let told : told_cover message replica ≡ own_cover part at =
@@ -100,13 +114,17 @@ module _ (setup : Setup) (history : List Entry) (sound : Sound setup history) (r
       subst (λ cover. All (λ (write : Write). write.stamp ≤ cover.stamp) message.writes) (sym told) below
 
   -- its writes of an origin are a front of what it has onward
-  pub told_writes-within : (origin : ℕ) → origin < setup.replicas → IsPrefix (told_writes message origin) (onward origin)
+  pub told_writes-within : (origin : ℕ)
+      → origin < setup.replicas
+      → IsPrefix (told_writes message origin) (onward origin)
   told_writes-within origin within =
       let whole = flat_map onward (replicas_of setup) in
       subst (IsPrefix (told_writes message origin)) (joined-within onward onward-origins setup.replicas origin within)
       (IsPrefix-filter (λ (write : Write). write.origin == origin) (take MESSAGE_WRITES whole) whole (IsPrefix-take MESSAGE_WRITES whole))
 
-  told_writes-past : (origin : ℕ) → setup.replicas ≤ origin → IsPrefix (told_writes message origin) []
+  told_writes-past : (origin : ℕ)
+      → setup.replicas ≤ origin
+      → IsPrefix (told_writes message origin) []
   told_writes-past origin past =
       let whole = flat_map onward (replicas_of setup) in
       subst (IsPrefix (told_writes message origin)) (joined-past onward onward-origins setup.replicas origin past)
@@ -114,7 +132,11 @@ module _ (setup : Setup) (history : List Entry) (sound : Sound setup history) (r
 
   -- What it tells of an origin, where the sender has at least as many of its writes later on, and the origin's part goes on.
   module _ (origin had : ℕ) (later : List Entry) where
-    told_within : origin < setup.replicas → have replica part origin ≤ had → IsPrefix (own (part_of history origin)) (own later) → Vouches later (cover_of replica part at origin) → IsSoundTold message origin had later
+    told_within : origin < setup.replicas
+        → have replica part origin ≤ had
+        → IsPrefix (own (part_of history origin)) (own later)
+        → Vouches later (cover_of replica part at origin)
+        → IsSoundTold message origin had later
     told_within within more prefix vouches =
         let has : told_have message origin ≡ have replica part origin = get_or-map_range (have replica part) setup.replicas origin 0 within in
         let first : told_first message origin ≡ first_for replica part to given origin = get_or-map_range (first_for replica part to given) setup.replicas origin 0 within in
@@ -132,7 +154,9 @@ module _ (setup : Setup) (history : List Entry) (sound : Sound setup history) (r
         }
 
     -- of what is no replica it tells nothing
-    told_past : setup.replicas ≤ origin → IsNumbered origin later → IsSoundTold message origin had later
+    told_past : setup.replicas ≤ origin
+        → IsNumbered origin later
+        → IsSoundTold message origin had later
     told_past past in_order =
         let has : told_have message origin ≡ 0 = get_or-map_range_past (have replica part) setup.replicas origin 0 past in
         let first : told_first message origin ≡ 0 = get_or-map_range_past (first_for replica part to given) setup.replicas origin 0 past in
@@ -146,8 +170,14 @@ module _ (setup : Setup) (history : List Entry) (sound : Sound setup history) (r
         }
 
   -- It is sound in a history that goes on with no write and no higher clock of its sender, whose last moment is that of the message.
-  pub IsSoundMessage-sent : (further : List Entry) → replica < setup.replicas → ((other : ℕ) → Grows other (part_of history other) (part_of further other)) → own (part_of further replica) ≡ own part → clock (part_of further replica) ≡ clock part → last_moment (part_of further replica) ≡ at
-      → ((other : ℕ) → IsNumbered other (part_of further other)) → IsSoundMessage further replica message
+  pub IsSoundMessage-sent : (further : List Entry)
+      → replica < setup.replicas
+      → ((other : ℕ) → Grows other (part_of history other) (part_of further other))
+      → own (part_of further replica) ≡ own part
+      → clock (part_of further replica) ≡ clock part
+      → last_moment (part_of further replica) ≡ at
+      → ((other : ℕ) → IsNumbered other (part_of further other))
+      → IsSoundMessage further replica message
   IsSoundMessage-sent further within grows same_own same_clock last in_order = record {
     from = refl;
     told = λ origin. ⊎_elim

@@ -17,8 +17,14 @@ use Rattle.run_model.proofs.Accepted.{accepted_is_next}
 use Rattle.run_model.proofs.Sound.{AreNumbered, IsNumbered}
 
 -- one more write, later than those before it
-AreNumbered-push : (replica : ℕ) (writes : List Write) (write : Write) → write.origin ≡ replica → write.index ≡ length writes → All (λ (earlier : Write). earlier.stamp < write.stamp) writes → All (λ (earlier : Write). earlier.moment ≤ write.moment) writes → 1 ≤ write.stamp
-    → AreNumbered replica writes → AreNumbered replica (writes ++ write ∷ [])
+AreNumbered-push : (replica : ℕ) (writes : List Write) (write : Write)
+    → write.origin ≡ replica
+    → write.index ≡ length writes
+    → All (λ (earlier : Write). earlier.stamp < write.stamp) writes
+    → All (λ (earlier : Write). earlier.moment ≤ write.moment) writes
+    → 1 ≤ write.stamp
+    → AreNumbered replica writes
+    → AreNumbered replica (writes ++ write ∷ [])
 AreNumbered-push replica writes write origin index above after least in_order = record {
   origins = All-push (λ (w : Write). w.origin ≡ replica) writes write in_order.origins origin;
   indices = λ place d within. ⊎_elim
@@ -34,7 +40,9 @@ AreNumbered-push replica writes write origin index above after least in_order = 
 
 -- One more entry of a part.
 module _ (setup : Setup) (part : List Entry) (entry : Entry) (due : IsDue setup part entry) (sound : IsNumbered entry.replica part) where
-  writes-push : (accepted : Option Write) → accepted_in entry ≡ accepted → AreNumbered entry.replica (own (part ++ entry ∷ []))
+  writes-push : (accepted : Option Write)
+      → accepted_in entry ≡ accepted
+      → AreNumbered entry.replica (own (part ++ entry ∷ []))
   writes-push None none = subst (AreNumbered entry.replica) (sym (own-push_none part entry none)) sound.writes
   writes-push (Some write) some =
       let next = accepted_is_next setup part entry write due some in
@@ -44,14 +52,19 @@ module _ (setup : Setup) (part : List Entry) (entry : Entry) (due : IsDue setup 
       (All-weaker (λ (w : Write). w.moment ≤ last_moment part) (λ (w : Write). w.moment ≤ write.moment) (λ w before. omega (arith, before, next.moment, due.moment)) (own part) sound.moments_most)
       (omega (arith, next.stamp)) sound.writes)
 
-  moments-push : (accepted : Option Write) → accepted_in entry ≡ accepted → All (λ (write : Write). write.moment ≤ entry.moment) (own (part ++ entry ∷ []))
+  moments-push : (accepted : Option Write)
+      → accepted_in entry ≡ accepted
+      → All (λ (write : Write). write.moment ≤ entry.moment) (own (part ++ entry ∷ []))
   moments-push accepted is =
       let IsBefore = λ (write : Write). write.moment ≤ entry.moment in
       let before : All IsBefore (own part) =
       All-weaker (λ (w : Write). w.moment ≤ last_moment part) IsBefore (λ w before. omega (arith, before, due.moment)) (own part) sound.moments_most in
       go accepted is before
     where
-      go : (accepted : Option Write) → accepted_in entry ≡ accepted → All (λ (write : Write). write.moment ≤ entry.moment) (own part) → All (λ (write : Write). write.moment ≤ entry.moment) (own (part ++ entry ∷ []))
+      go : (accepted : Option Write)
+          → accepted_in entry ≡ accepted
+          → All (λ (write : Write). write.moment ≤ entry.moment) (own part)
+          → All (λ (write : Write). write.moment ≤ entry.moment) (own (part ++ entry ∷ []))
       go None none before = subst (All (λ (write : Write). write.moment ≤ entry.moment)) (sym (own-push_none part entry none)) before
       go (Some write) some before =
           subst (All (λ (write : Write). write.moment ≤ entry.moment)) (sym (own-push_some part entry write some))

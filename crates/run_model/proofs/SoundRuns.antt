@@ -50,11 +50,17 @@ pub Sound-run : (setup : Setup) (history : List Entry) → IsRun setup history �
 Sound-run setup =
     over_runs setup (Sound setup) (Sound-nil setup) (λ before entry run lawful sound. Sound-push setup before entry sound lawful)
 
-pub Sound-prefix : (setup : Setup) (front history : List Entry) → IsRun setup history → IsPrefix front history → Sound setup front
+pub Sound-prefix : (setup : Setup) (front history : List Entry)
+    → IsRun setup history
+    → IsPrefix front history
+    → Sound setup front
 Sound-prefix setup front history run prefix = Sound-run setup front (IsRun-prefix setup front history prefix run)
 
 -- each part grows from where a prefix leaves it
-Grows-onward : (setup : Setup) (front rest : List Entry) → IsRun setup (front ++ rest) → (replica : ℕ) → Grows replica (part_of front replica) (part_of (front ++ rest) replica)
+Grows-onward : (setup : Setup) (front rest : List Entry)
+    → IsRun setup (front ++ rest)
+    → (replica : ℕ)
+    → Grows replica (part_of front replica) (part_of (front ++ rest) replica)
 Grows-onward setup front rest = from_right (λ rest. IsRun setup (front ++ rest) → (replica : ℕ) → Grows replica (part_of front replica) (part_of (front ++ rest) replica))
     (λ run replica. rw (append-nil front) (Grows-refl replica (part_of front replica)))
     (λ rest entry grows run replica.
@@ -65,6 +71,10 @@ Grows-onward setup front rest = from_right (λ rest. IsRun setup (front ++ rest)
     (Grows-trans replica (part_of front replica) (part_of (front ++ rest) replica) (part_of ((front ++ rest) ++ entry ∷ []) replica) (grows before replica) (Grows-history setup (front ++ rest) entry lawful.due replica)))
     rest
 
-pub Grows-run : (setup : Setup) (front history : List Entry) → IsRun setup history → IsPrefix front history → (replica : ℕ) → Grows replica (part_of front replica) (part_of history replica)
+pub Grows-run : (setup : Setup) (front history : List Entry)
+    → IsRun setup history
+    → IsPrefix front history
+    → (replica : ℕ)
+    → Grows replica (part_of front replica) (part_of history replica)
 Grows-run setup front history run (rest, is) replica =
     subst (λ whole. Grows replica (part_of front replica) (part_of whole replica)) (sym is) (Grows-onward setup front rest (subst (IsRun setup) is run) replica)

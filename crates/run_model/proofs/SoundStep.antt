@@ -24,7 +24,10 @@ use Rattle.run_model.proofs.SoundKeeping.{IsSoundKeeping-grows, IsSoundKeeping-a
 use Rattle.run_model.proofs.SoundMessages.{IsSoundTold-grows, IsSoundMessage-grows, IsSoundMessage-sent}
 
 -- one more message, with its place
-HaveTheirPlaces-push : (messages : List Message) (message : Message) → HaveTheirPlaces messages → message.number ≡ length messages → HaveTheirPlaces (messages ++ message ∷ [])
+HaveTheirPlaces-push : (messages : List Message) (message : Message)
+    → HaveTheirPlaces messages
+    → message.number ≡ length messages
+    → HaveTheirPlaces (messages ++ message ∷ [])
 HaveTheirPlaces-push messages message numbered is place d within = ⊎_elim
     (λ (earlier : place < length messages). rw (get_or_append_left messages (message ∷ []) d place earlier) (numbered place d earlier))
     (λ (last : length messages ≤ place).
@@ -38,7 +41,10 @@ pub record IsSent (setup : Setup) (replica : ℕ) (part : List Entry) (at : ℕ)
   pub accepts : accepted_by replica at done ≡ None
   pub takes : taken_by_act done ≡ None
 
-pub sent_is : (setup : Setup) (replica : ℕ) (part : List Entry) (at : ℕ) (done : Act) (message : Message) → IsActDue setup replica part at done → sent_by_act done ≡ Some message → IsSent setup replica part at done message
+pub sent_is : (setup : Setup) (replica : ℕ) (part : List Entry) (at : ℕ) (done : Act) (message : Message)
+    → IsActDue setup replica part at done
+    → sent_by_act done ≡ Some message
+    → IsSent setup replica part at done message
 sent_is setup replica part at (act.Send sent) message due some = record {
   is = subst (λ m. m ≡ message_of setup replica part at m.to m.firsts) (same_Some sent message some) due;
   accepts = refl;
@@ -51,7 +57,10 @@ sent_is setup replica part at (act.Back owner conit amount) message due some = c
 sent_is setup replica part at act.Restart message due some = cc
 
 -- a taken message was sent
-pub taken_was_sent : (history : List Entry) (done : Act) (message : Message) → WasSent history done → taken_by_act done ≡ Some message → Contains (sent_in (part_of history message.from)) message
+pub taken_was_sent : (history : List Entry) (done : Act) (message : Message)
+    → WasSent history done
+    → taken_by_act done ≡ Some message
+    → Contains (sent_in (part_of history message.from)) message
 taken_was_sent history (act.Take taken) message was_sent some = subst (λ m. Contains (sent_in (part_of history m.from)) m) (same_Some taken message some) was_sent
 taken_was_sent history (act.Call client number asked given) message was_sent some = cc
 taken_was_sent history (act.Send sent) message was_sent some = cc
@@ -69,7 +78,9 @@ module _ (setup : Setup) (history : List Entry) (entry : Entry) (sound : Sound s
   grows : (replica : ℕ) → Grows replica (part_of history replica) (part_of further replica)
   grows = Grows-history setup history entry lawful.due
 
-  taken_is_sound : (message : Message) → taken_by entry ≡ Some message → IsSoundMessage history message.from message
+  taken_is_sound : (message : Message)
+      → taken_by entry ≡ Some message
+      → IsSoundMessage history message.from message
   taken_is_sound message some =
       All-contains (IsSoundMessage history message.from) (sent_in (part_of history message.from)) message (sound.sent message.from)
       (taken_was_sent history entry.act message lawful.sent some)
@@ -78,11 +89,14 @@ module _ (setup : Setup) (history : List Entry) (entry : Entry) (sound : Sound s
   own_step = part_of-push_cases history entry IsNumbered (IsNumbered-push setup part entry lawful.due (sound.own entry.replica)) sound.own
 
   -- what the entry's replica keeps of an origin
-  kept_before : (origin : ℕ) → IsSoundKeeping (clock (part ++ entry ∷ [])) (origin_state part origin) (part_of further origin)
+  kept_before : (origin : ℕ)
+      → IsSoundKeeping (clock (part ++ entry ∷ [])) (origin_state part origin) (part_of further origin)
   kept_before origin =
       IsSoundKeeping-grows (clock part) (clock (part ++ entry ∷ [])) (origin_state part origin) origin (part_of history origin) (part_of further origin) (clock-le-push part entry) (grows origin) (sound.kept entry.replica origin)
 
-  kept_here : (origin : ℕ) (taken : Option Message) → taken_by entry ≡ taken → IsSoundKeeping (clock (part ++ entry ∷ [])) (origin_state (part ++ entry ∷ []) origin) (part_of further origin)
+  kept_here : (origin : ℕ) (taken : Option Message)
+      → taken_by entry ≡ taken
+      → IsSoundKeeping (clock (part ++ entry ∷ [])) (origin_state (part ++ entry ∷ []) origin) (part_of further origin)
   kept_here origin None none =
       subst (λ kept. IsSoundKeeping (clock (part ++ entry ∷ [])) kept (part_of further origin)) (sym (origin_state-push_none part entry origin none)) (kept_before origin)
   kept_here origin (Some message) some =
@@ -98,17 +112,21 @@ module _ (setup : Setup) (history : List Entry) (entry : Entry) (sound : Sound s
       (IsSoundKeeping-after (clock (part ++ entry ∷ [])) origin (origin_state part origin) message had (part_of further origin) told
       (All-filter (λ (write : Write). write.origin == origin) IsBelow message.writes below) (kept_before origin))
 
-  kept_step : (replica origin : ℕ) → IsSoundKeeping (clock (part_of further replica)) (origin_state (part_of further replica) origin) (part_of further origin)
+  kept_step : (replica origin : ℕ)
+      → IsSoundKeeping (clock (part_of further replica)) (origin_state (part_of further replica) origin) (part_of further origin)
   kept_step replica origin =
       part_of-push_cases history entry (λ r after. IsSoundKeeping (clock after) (origin_state after origin) (part_of further origin)) (kept_here origin (taken_by entry) refl)
       (λ r. IsSoundKeeping-grows (clock (part_of history r)) (clock (part_of history r)) (origin_state (part_of history r) origin) origin (part_of history origin) (part_of further origin) (omega arith) (grows origin) (sound.kept r origin))
       replica
 
   -- what the entry's replica knows of a peer
-  known_before : (replica peer origin : ℕ) → known (part_of history replica) peer origin ≤ have peer (part_of further peer) origin
+  known_before : (replica peer origin : ℕ)
+      → known (part_of history replica) peer origin ≤ have peer (part_of further peer) origin
   known_before replica peer origin = le_trans (sound.known replica peer origin) ((grows peer).have origin)
 
-  known_here : (peer origin : ℕ) (taken : Option Message) → taken_by entry ≡ taken → known (part ++ entry ∷ []) peer origin ≤ have peer (part_of further peer) origin
+  known_here : (peer origin : ℕ) (taken : Option Message)
+      → taken_by entry ≡ taken
+      → known (part ++ entry ∷ []) peer origin ≤ have peer (part_of further peer) origin
   known_here peer origin None none = omega (arith, known-push_none part entry peer origin none, known_before entry.replica peer origin)
   known_here peer origin (Some message) some = ⊎_elim
       (λ (same : message.from ≡ peer).
@@ -118,17 +136,21 @@ module _ (setup : Setup) (history : List Entry) (entry : Entry) (sound : Sound s
       omega (arith, known-push_other part entry peer origin message some other, known_before entry.replica peer origin))
       (cases_eq message.from peer)
 
-  known_step : (replica peer origin : ℕ) → known (part_of further replica) peer origin ≤ have peer (part_of further peer) origin
+  known_step : (replica peer origin : ℕ)
+      → known (part_of further replica) peer origin ≤ have peer (part_of further peer) origin
   known_step replica peer origin =
       part_of-push_cases history entry (λ r after. known after peer origin ≤ have peer (part_of further peer) origin) (known_here peer origin (taken_by entry) refl)
       (λ r. known_before r peer origin) replica
 
   -- the messages that the entry's replica sent
-  sent_before : (replica : ℕ) → All (IsSoundMessage further replica) (sent_in (part_of history replica))
+  sent_before : (replica : ℕ)
+      → All (IsSoundMessage further replica) (sent_in (part_of history replica))
   sent_before replica =
       All-weaker (IsSoundMessage history replica) (IsSoundMessage further replica) (λ message. IsSoundMessage-grows history further replica message grows) (sent_in (part_of history replica)) (sound.sent replica)
 
-  sent_here : (sent : Option Message) → sent_by entry ≡ sent → All (IsSoundMessage further entry.replica) (sent_in (part ++ entry ∷ []))
+  sent_here : (sent : Option Message)
+      → sent_by entry ≡ sent
+      → All (IsSoundMessage further entry.replica) (sent_in (part ++ entry ∷ []))
   sent_here None none = subst (All (IsSoundMessage further entry.replica)) (sym (sent_in-push_none part entry none)) (sent_before entry.replica)
   sent_here (Some message) some =
       let sent = sent_is setup entry.replica part entry.moment entry.act message lawful.due.act some in
@@ -139,11 +161,14 @@ module _ (setup : Setup) (history : List Entry) (entry : Entry) (sound : Sound s
       subst (All (IsSoundMessage further entry.replica)) (sym (sent_in-push_some part entry message some))
       (All-push (IsSoundMessage further entry.replica) (sent_in part) message (sent_before entry.replica) (subst (IsSoundMessage further entry.replica) (sym sent.is) is_sound))
 
-  sent_step : (replica : ℕ) → All (IsSoundMessage further replica) (sent_in (part_of further replica))
+  sent_step : (replica : ℕ)
+      → All (IsSoundMessage further replica) (sent_in (part_of further replica))
   sent_step = part_of-push_cases history entry (λ r after. All (IsSoundMessage further r) (sent_in after)) (sent_here (sent_by entry) refl) sent_before
 
   -- their numbers
-  numbers_here : (sent : Option Message) → sent_by entry ≡ sent → HaveTheirPlaces (sent_in (part ++ entry ∷ []))
+  numbers_here : (sent : Option Message)
+      → sent_by entry ≡ sent
+      → HaveTheirPlaces (sent_in (part ++ entry ∷ []))
   numbers_here None none = subst HaveTheirPlaces (sym (sent_in-push_none part entry none)) (sound.numbers entry.replica)
   numbers_here (Some message) some =
       let sent = sent_is setup entry.replica part entry.moment entry.act message lawful.due.act some in

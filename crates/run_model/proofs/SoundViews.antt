@@ -16,14 +16,20 @@ use Rattle.run_model.proofs.Sound.{IsNumbered, Vouches, Sound}
 abbrev pub own_cover : List Entry → ℕ → Cover
 own_cover part at = record { count = length (own part); stamp = clock part; moment = at }
 
-pub cover_of-same : (replica : ℕ) (part : List Entry) (at : ℕ) → cover_of replica part at replica ≡ own_cover part at
+pub cover_of-same : (replica : ℕ) (part : List Entry) (at : ℕ)
+    → cover_of replica part at replica ≡ own_cover part at
 cover_of-same replica part at = ap (λ yes. cond yes (own_cover part at) (origin_state part replica).cover) (eq-eqb replica replica refl)
 
-pub cover_of-other : (replica : ℕ) (part : List Entry) (at origin : ℕ) → (origin ≡ replica → ⊥) → cover_of replica part at origin ≡ (origin_state part origin).cover
+pub cover_of-other : (replica : ℕ) (part : List Entry) (at origin : ℕ)
+    → (origin ≡ replica → ⊥)
+    → cover_of replica part at origin ≡ (origin_state part origin).cover
 cover_of-other replica part at origin other = ap (λ yes. cond yes (own_cover part at) (origin_state part origin).cover) (ne_eqb origin replica other)
 
 -- a part's own cover vouches for it, at a moment that isn't past its last
-pub Vouches-own : (replica : ℕ) (part : List Entry) (at : ℕ) → IsNumbered replica part → at ≤ last_moment part → Vouches part (own_cover part at)
+pub Vouches-own : (replica : ℕ) (part : List Entry) (at : ℕ)
+    → IsNumbered replica part
+    → at ≤ last_moment part
+    → Vouches part (own_cover part at)
 Vouches-own replica part at sound within = record {
   count = omega arith;
   stamp = omega arith;
@@ -55,14 +61,17 @@ module _ (setup : Setup) (history : List Entry) (sound : Sound setup history) (r
       (cases_eq origin replica)
 
   -- a cover is within the log
-  pub Sound-count : (at : ℕ) → (cover_of replica (part_of history replica) at origin).count ≤ have replica (part_of history replica) origin
+  pub Sound-count : (at : ℕ)
+      → (cover_of replica (part_of history replica) at origin).count ≤ have replica (part_of history replica) origin
   Sound-count at = ⊎_elim
       (λ (same : origin ≡ replica). rw (same, cover_of-same replica (part_of history replica) at, log_of-same replica (part_of history replica)) (omega arith))
       (λ (other : origin ≡ replica → ⊥). rw (cover_of-other replica (part_of history replica) at origin other, log_of-other replica (part_of history replica) origin other) (sound.kept replica origin).count)
       (cases_eq origin replica)
 
   -- and vouches for its origin
-  pub Sound-cover : (at : ℕ) → at ≤ last_moment (part_of history replica) → Vouches (part_of history origin) (cover_of replica (part_of history replica) at origin)
+  pub Sound-cover : (at : ℕ)
+      → at ≤ last_moment (part_of history replica)
+      → Vouches (part_of history origin) (cover_of replica (part_of history replica) at origin)
   Sound-cover at within = ⊎_elim
       (λ (same : origin ≡ replica). rw (same, cover_of-same replica (part_of history replica) at) (Vouches-own replica (part_of history replica) at (sound.own replica) within))
       (λ (other : origin ≡ replica → ⊥). rw (cover_of-other replica (part_of history replica) at origin other) (sound.kept replica origin).cover)

@@ -16,30 +16,41 @@ joined writes start len = flat_map (λ origin. from_one origin writes) (range_wi
 abbrev IsOf : ℕ → ℕ → Write → Type 0
 IsOf start len write = (start ≤ write.origin) × (write.origin < start + len)
 
-joined-origins : (writes : List Write) (start len : ℕ) → All (IsOf start len) (joined writes start len)
+joined-origins : (writes : List Write) (start len : ℕ)
+    → All (IsOf start len) (joined writes start len)
 joined-origins writes start len =
     All-flat_map (IsOf start len) (λ origin. from_one origin writes) (range_with_len start len)
     (All-range (λ origin. All (IsOf start len) (from_one origin writes)) start len
     (λ origin low high.
     All-weaker (λ (write : Write). write.origin ≡ origin) (IsOf start len) (λ write is. (omega (arith, is), omega (arith, is))) (from_one origin writes) (from_one-origins origin writes)))
 
-placed-origins : (writes : List Write) (start len : ℕ) → writes ≡ joined writes start len → All (IsOf start len) writes
+placed-origins : (writes : List Write) (start len : ℕ)
+    → writes ≡ joined writes start len
+    → All (IsOf start len) writes
 placed-origins writes start len placed = subst (λ (xs : List Write). All (IsOf start len) xs) (sym placed) (joined-origins writes start len)
 
 -- a write of an earlier origin changes nothing of the later ones
-joined-past : (write : Write) (writes : List Write) (start len : ℕ) → write.origin < start → joined (write ∷ writes) start len ≡ joined writes start len
+joined-past : (write : Write) (writes : List Write) (start len : ℕ)
+    → write.origin < start
+    → joined (write ∷ writes) start len ≡ joined writes start len
 joined-past write writes start len before =
     flat_map_agree (λ origin. from_one origin (write ∷ writes)) (λ origin. from_one origin writes) (range_with_len start len)
     (All-range (λ origin. from_one origin (write ∷ writes) ≡ from_one origin writes) start len
     (λ origin low high. from_one-other origin write writes (λ same. absurd (omega (arith, same)))))
 
 -- a write of the first origin is the first
-joined-here : (write : Write) (writes : List Write) (start len : ℕ) → write.origin ≡ start → joined (write ∷ writes) start (suc len) ≡ write ∷ joined writes start (suc len)
+joined-here : (write : Write) (writes : List Write) (start len : ℕ)
+    → write.origin ≡ start
+    → joined (write ∷ writes) start (suc len) ≡ write ∷ joined writes start (suc len)
 joined-here write writes start len is =
     rw (from_one-here start write writes is, joined-past write writes (start + 1) len (omega (arith, is))) refl
 
 -- what stands before a write of another origin is nothing
-none_before : (start : ℕ) (write : Write) (writes front rest : List Write) → write.origin ≢ start → All (λ (w : Write). w.origin ≡ start) front → write ∷ writes ≡ front ++ rest → front ≡ []
+none_before : (start : ℕ) (write : Write) (writes front rest : List Write)
+    → write.origin ≢ start
+    → All (λ (w : Write). w.origin ≡ start) front
+    → write ∷ writes ≡ front ++ rest
+    → front ≡ []
 none_before start write writes [] rest isnt each e = refl
 none_before start write writes (first ∷ front) rest isnt each e =
     let same : write ≡ first = cc in
@@ -61,7 +72,11 @@ module _ (write : Write) (writes : List Write) where
       same_rest : {xs ys : List Write} → write ∷ xs ≡ write ∷ ys → xs ≡ ys
       same_rest e = cc
 
-  placed_later : (start len : ℕ) → start ≤ write.origin → (write.origin ≡ start → ⊥) → SameAfter (start + 1) len → SameAfter start (suc len)
+  placed_later : (start len : ℕ)
+      → start ≤ write.origin
+      → (write.origin ≡ start → ⊥)
+      → SameAfter (start + 1) len
+      → SameAfter start (suc len)
   placed_later start len low isnt inner =
       let front = from_one start (write ∷ writes) in
       let rest = joined (write ∷ writes) (start + 1) len in
@@ -78,7 +93,10 @@ module _ (write : Write) (writes : List Write) where
             inner.1 (subst (λ n. writes ≡ joined writes write.origin n) (sym left) placed) ∙ sym (ap (λ (xs : List Write). xs ++ rest) none),
       )
 
-  first_placed : (len start : ℕ) → start ≤ write.origin → write.origin < start + len → SameAfter start len
+  first_placed : (len start : ℕ)
+      → start ≤ write.origin
+      → write.origin < start + len
+      → SameAfter start len
   first_placed zero start low high = absurd (omega arith)
   first_placed (suc len) start low high = ⊎_elim
       (λ (is : write.origin ≡ start). placed_here start len is)
@@ -94,23 +112,31 @@ module _ (writes : List Write) (at : ℕ) (write : Write) (within : at < length 
   next_is : drop at writes ≡ write ∷ drop (at + 1) writes
   next_is = drop_more writes at write within ∙ ap (λ (x : Write). x ∷ drop (at + 1) writes) (sym is)
 
-  pub Placed-more : (start stop : ℕ) → start ≤ write.origin → write.origin < stop → Placed start stop (drop at writes) ↔ Placed write.origin stop (drop (at + 1) writes)
+  pub Placed-more : (start stop : ℕ)
+      → start ≤ write.origin
+      → write.origin < stop
+      → Placed start stop (drop at writes) ↔ Placed write.origin stop (drop (at + 1) writes)
   Placed-more start stop low high =
       let left : start + (stop - start) - write.origin ≡ stop - write.origin = omega arith in
       rw (next_is, ← left) (first_placed write (drop (at + 1) writes) (stop - start) start low (omega arith))
 
-  pub Placed-origin : (start stop : ℕ) → Placed start stop (drop at writes) → (start ≤ write.origin) × (write.origin < start + (stop - start))
+  pub Placed-origin : (start stop : ℕ)
+      → Placed start stop (drop at writes)
+      → (start ≤ write.origin) × (write.origin < start + (stop - start))
   Placed-origin start stop placed =
       All-head (IsOf start (stop - start)) write (drop (at + 1) writes)
       (placed-origins (write ∷ drop (at + 1) writes) start (stop - start) (subst (Placed start stop) next_is placed))
 
-pub Placed-all : (start stop : ℕ) (writes : List Write) (at : ℕ) → length writes ≤ at → Placed start stop (drop at writes)
+pub Placed-all : (start stop : ℕ) (writes : List Write) (at : ℕ)
+    → length writes ≤ at
+    → Placed start stop (drop at writes)
 Placed-all start stop writes at past =
     rw (drop_all at writes past)
     (sym (flat_map_none (λ origin. from_one origin []) (range_with_len start (stop - start)) (All-range (λ origin. from_one origin [] ≡ []) start (stop - start) (λ origin low high. refl))))
 
 -- from the first origin on
-pub Placed-whole : (stop : ℕ) (writes : List Write) → Placed 0 stop writes ↔ (writes ≡ flat_map (λ origin. from_one origin writes) (range_with_len 0 stop))
+pub Placed-whole : (stop : ℕ) (writes : List Write)
+    → Placed 0 stop writes ↔ (writes ≡ flat_map (λ origin. from_one origin writes) (range_with_len 0 stop))
 Placed-whole stop writes =
     let all : stop - 0 ≡ stop = omega arith in
     rw all (λ placed. placed, λ placed. placed)

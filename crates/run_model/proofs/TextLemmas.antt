@@ -6,7 +6,10 @@ use Rattle.run_model.specs.Text.{line_text, spaced, BeginsWith}
 use Rattle.std.proofs.lemmas.Grind.{flat_map-append}
 
 -- a text that begins with a longer one begins with what that begins with
-pub begins_more : (old mid new : List ℕ) → BeginsWith mid new → BeginsWith old mid → BeginsWith old new
+pub begins_more : (old mid new : List ℕ)
+    → BeginsWith mid new
+    → BeginsWith old mid
+    → BeginsWith old new
 begins_more old mid new m o =
     let shorter : length old ≤ length mid = omega (arith, ap length o, length-take (length old) mid) in
     sym (take-take (length old) (length mid) new shorter) ∙ ap (take (length old)) m ∙ o
@@ -16,7 +19,10 @@ pub begins_append : (old more : List ℕ) → BeginsWith old (old ++ more)
 begins_append old more = take_at old more (length old) refl
 
 -- a text that grew before the last call failed
-pub begins_grown : (old mid new more : List ℕ) → BeginsWith mid new → mid ≡ old ++ more → BeginsWith old new
+pub begins_grown : (old mid new more : List ℕ)
+    → BeginsWith mid new
+    → mid ≡ old ++ more
+    → BeginsWith old new
 begins_grown old mid new more m e = begins_more old mid new m (rw e (begins_append old more))
 
 pub always_err : {T E P : Type 0} → (r : Result T E) → P → OnErr r P
@@ -24,7 +30,8 @@ always_err (Ok x) p = tt
 always_err (Err e) p = p
 
 -- a line is its first token, and then the others with a space before each
-pub line_text-cons : (token : List ℕ) (tokens : List (List ℕ)) → line_text (token ∷ tokens) ≡ token ++ spaced tokens
+pub line_text-cons : (token : List ℕ) (tokens : List (List ℕ))
+    → line_text (token ∷ tokens) ≡ token ++ spaced tokens
 line_text-cons token [] = sym (append-nil token)
 line_text-cons token (next ∷ tokens) = ap (λ rest. token ++ (32 ∷ rest)) (line_text-cons next tokens)
 
@@ -36,7 +43,11 @@ regroup : (a b c d e : List ℕ) → a ++ b ++ c ++ d ++ e ≡ a ++ ((b ++ (c ++
 regroup a b c d e = simp append_assoc
 
 -- a line made of its word and two lists of further tokens
-pub line_from_parts : (word : List ℕ) (xs ys : List (List ℕ)) (old a b c : List ℕ) → a ≡ old ++ word → b ≡ a ++ spaced xs → c ≡ b ++ spaced ys → c ++ 10 ∷ [] ≡ old ++ (line_text (word ∷ (xs ++ ys)) ++ 10 ∷ [])
+pub line_from_parts : (word : List ℕ) (xs ys : List (List ℕ)) (old a b c : List ℕ)
+    → a ≡ old ++ word
+    → b ≡ a ++ spaced xs
+    → c ≡ b ++ spaced ys
+    → c ++ 10 ∷ [] ≡ old ++ (line_text (word ∷ (xs ++ ys)) ++ 10 ∷ [])
 line_from_parts word xs ys old a b c at_a at_b at_c =
     let line = line_text-cons word (xs ++ ys) ∙ ap (λ rest. word ++ rest) (spaced-append xs ys) in
     rw (at_c, at_b, at_a) (regroup old word (spaced xs) (spaced ys) (10 ∷ []) ∙ ap (λ text. old ++ (text ++ 10 ∷ [])) (sym line))

@@ -15,7 +15,8 @@ use Rattle.tact_base.specs.Setup.{Setup}
 use Rattle.run_model.specs.Ranges.{IsWeightInRange, AreWeightsInRange}
 
 -- no item fails a test that is always true
-none_out : (weights : List Weight) → first_out_of_limits (λ (weight : Weight). weight.conit) (λ _. true) weights ≡ None
+none_out : (weights : List Weight)
+    → first_out_of_limits (λ (weight : Weight). weight.conit) (λ _. true) weights ≡ None
 none_out weights =
     let nothing : Weight = record { conit = 0; nweight = pos 0; oweight = 0 } in
     let past : position_or_len (λ (weight : Weight). not true) weights ≡ length weights =
@@ -23,7 +24,10 @@ none_out weights =
     grind (arith, nat_tests)
 
 -- a list without a fault has none by a second test that no item fails
-without : (many : Bool) (unordered out never : Option ListFault) → never ≡ None → cond many (Some TooMany) (option_or unordered out) ≡ None → cond many (Some TooMany) (option_or unordered never) ≡ None
+without : (many : Bool) (unordered out never : Option ListFault)
+    → never ≡ None
+    → cond many (Some TooMany) (option_or unordered out) ≡ None
+    → cond many (Some TooMany) (option_or unordered never) ≡ None
 without true unordered out never is e = cc
 without false (Some fault) out never is e = cc
 without false None out never is e = is
@@ -32,11 +36,15 @@ map_none : {A B : Type 0} (f : A → B) (o : Option A) → o ≡ None → option
 map_none f None is = refl
 map_none f (Some x) is = cc
 
-within : (nweight oweight : ℕ) → (nat_le nweight WEIGHT_MAX && nat_le oweight WEIGHT_MAX) ≡ true → (nweight ≤ WEIGHT_MAX) × (oweight ≤ WEIGHT_MAX)
+within : (nweight oweight : ℕ)
+    → (nat_le nweight WEIGHT_MAX && nat_le oweight WEIGHT_MAX) ≡ true
+    → (nweight ≤ WEIGHT_MAX) × (oweight ≤ WEIGHT_MAX)
 within nweight oweight passes = (grind (arith, nat_tests), grind (arith, nat_tests))
 
 -- weights are in range where their conits are below the count
-pub AreWeightsInRange-kept : (setup : Setup) (weights : List Weight) → IsWeights weights → All (λ (weight : Weight). weight.conit < setup.conits) weights ↔ AreWeightsInRange setup weights
+pub AreWeightsInRange-kept : (setup : Setup) (weights : List Weight)
+    → IsWeights weights
+    → All (λ (weight : Weight). weight.conit < setup.conits) weights ↔ AreWeightsInRange setup weights
 AreWeightsInRange-kept setup weights kept = (
   λ below. record {
     each = λ k d inside.

@@ -1,7 +1,6 @@
 -- Histories and parts: what happened, in order, and what one replica did of it.
-use Rattle.std.specs.Prelude.{◌≡◌, ℕ, ◌==◌, Bool, false, not, max, List, ◌∷◌, ◌++◌, filter, fold, length, Option, None, Some}
-use Rattle.std.specs.List.{filter_map, range_with_len}
-use Rattle.tact_base.specs.Setup.{Setup}
+use Rattle.std.specs.Prelude.{◌≡◌, ℕ, ◌==◌, Bool, false, max, List, ◌∷◌, ◌++◌, filter, fold, length, Option, None, Some}
+use Rattle.std.specs.List.{filter_map}
 use Rattle.run_model.specs.declared.entry.Act.{Act}
 use Rattle.run_model.specs.declared.entry.Act.TheVariants.{Call, Send, Take}
 use Rattle.run_model.specs.declared.entry.Entry.{Entry}

@@ -77,35 +77,3 @@ fn print_end(count: u64, out: &mut Bytes) -> Result<(), NoMemory>
     put_number(count, out)?;
     out.push(b'\n')
 }
-
-#[cfg(test)]
-mod tests {
-    use super::*;
-    use std::test::Fail;
-
-    #[test]
-    fn begins_and_ends_records(rt: HostRuntime) -> Result<(), Fail> {
-        let cases = [
-            (
-                1,
-                [10, 10].as_slice(),
-                [0, 5, 5, 0].as_slice(),
-                "tact 1 2 1\nbound 0 0 10 0 5\nbound 1 0 10 5 0\nend 7\n",
-            ),
-            (
-                2,
-                [1, 2, 3, 4].as_slice(),
-                [0, 1, 0, 2, 3, 0, 4, 0].as_slice(),
-                "tact 1 2 2\nbound 0 0 1 0 1\nbound 0 1 2 0 2\nbound 1 0 3 3 0\nbound 1 1 4 4 0\nend 7\n",
-            ),
-        ];
-        for (conits, alphas, loans, text) in cases {
-            let config = Config::new(rt.alloc(), 2, conits, alphas, loans)?;
-            let mut out = Bytes::new(rt.alloc());
-            head_of(&config, &mut out)?;
-            end_of(7, &mut out)?;
-            assert_eq!(rt; out.items(), text.as_bytes());
-        }
-        Ok(())
-    }
-}

@@ -5,8 +5,6 @@ ghost use Rattle.tact_base.specs.Setup.{replicas_of};
 ghost use Rattle.run_model.specs.Taking.{told_writes};
 ghost use Rattle.run_model.specs.Ranges.{IsOpInRange, AreWeightsInRange, IsWriteInRange, IsToldInRange, IsMessageInRange};
 
-#[cfg(test)]
-mod tests;
 mod told;
 
 use crate::{Config, Message};

@@ -234,21 +234,3 @@ impl Clone for Line {
         })
     }
 }
-
-#[cfg(test)]
-mod tests {
-    use super::*;
-    use std::test::Fail;
-
-    #[test]
-    fn copies_lines(rt: HostRuntime) -> Result<(), Fail> {
-        let firsts = Numbers::from_slice(rt.alloc(), &[1, 2])?;
-        let line = Line::Send {
-            from: 0,
-            to: 1,
-            firsts,
-        };
-        assert_eq!(rt; line.clone()?, line);
-        Ok(())
-    }
-}

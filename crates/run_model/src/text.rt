@@ -240,5 +240,3 @@ fn print_need(need: &Need, out: &mut Bytes) -> Result<(), NoMemory>
     put_part(need.stale, out)
 }
 
-#[cfg(test)]
-mod tests;

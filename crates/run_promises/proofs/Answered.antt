@@ -1,11 +1,11 @@
 -- In a run each answered access keeps its three bounds.
-use Rattle.std.proofs.Common.{◌≡◌, ◌⊎◌, ℕ, ◌+◌, ◌-◌, ◌<◌, ◌≤◌, ◌==◌, Bool, true, false, not, ◌&&◌, cond, nat_le, nat_lt, ℤ, List, [], ◌∷◌, ◌++◌, length, get_or, map, filter, flat_map, sum, All, Option, None, Some, unwrap_or, slice_get, refl, sym, ap, ap₂, ◌∙◌, subst, ⊎_elim, le_trans, zero-add, arith}
-use Rattle.std.specs.List.{range_with_len, enumerate_from, find, filter_map, cons_option}
+use Rattle.std.proofs.Common.{◌≡◌, ℕ, ◌+◌, ◌-◌, ◌<◌, ◌≤◌, ◌==◌, Bool, true, false, not, ◌&&◌, cond, nat_le, nat_lt, ℤ, List, [], ◌∷◌, ◌++◌, length, get_or, map, flat_map, sum, All, Option, None, Some, unwrap_or, refl, sym, ap, ap₂, ◌∙◌, subst, le_trans, zero-add, arith}
+use Rattle.std.specs.List.{range_with_len, enumerate_from, find}
 use Rattle.std.specs.Option.{option_map}
 use Rattle.std.specs.Prelude.{Any}
-use Rattle.std.proofs.lemmas.Bool.{cases_eq, ne_eqb, ltb-false, leb-true}
+use Rattle.std.proofs.lemmas.Bool.{ne_eqb, ltb-false, leb-true}
 use Rattle.std.proofs.lemmas.List.{length-map}
-use Rattle.std.proofs.lemmas.List.Elements.{All-nil, All-cons, All-head, All-tail, All-weaker, All-filter}
+use Rattle.std.proofs.lemmas.List.Elements.{All-nil, All-cons, All-weaker}
 use Rattle.std.proofs.lemmas.List.FromFn.{get_or-enumerate_from, length-enumerate_from, length-range_with_len}
 use Rattle.std.proofs.lemmas.Option.{same_Some}
 use Rattle.tact_base.proofs.ListLemmas.{All-flat_map, get_or-map_range}
@@ -15,29 +15,26 @@ use Rattle.tact_base.specs.Sums.{order_sum}
 use Rattle.tact_base.specs.declared.conit_list.Need.{Need}
 use Rattle.tact_base.specs.declared.write.Cover.{Cover}
 use Rattle.tact_base.specs.declared.write.Late.{Late}
-use Rattle.tact_base.specs.declared.write.Op.{Op}
 use Rattle.tact_base.specs.declared.write.Write.{Write}
-use Rattle.tact_base.specs.Setup.{Setup, IsSetup, replicas_of, peers_of}
-use Rattle.run_model.specs.Histories.{part_of, last_moment, IsPrefix}
+use Rattle.tact_base.specs.Setup.{Setup, peers_of}
+use Rattle.run_model.specs.Histories.{part_of, IsPrefix}
 use Rattle.run_model.specs.OwnWrites.{own}
-use Rattle.run_model.specs.Taking.{origin_state, have, cover_of, covers_of}
+use Rattle.run_model.specs.Taking.{have, cover_of, covers_of}
 use Rattle.run_model.specs.Order.{tentative, value, image}
 use Rattle.run_model.specs.Promises.{IsMet, MeetsNeeds, IsAnswered, IsWithin}
 use Rattle.run_model.specs.Ranges.{IsNeedInRange, IsRequestInRange}
-use Rattle.run_model.specs.Reference.{unseen, unseen_by, Misses}
+use Rattle.run_model.specs.Reference.{unseen, unseen_by}
 use Rattle.run_model.specs.Replies.{first_some, waiting_by, outs_of, need_refusal, reply_of}
 use Rattle.run_model.specs.Runs.{IsLawful, IsRun}
-use Rattle.run_model.specs.declared.call.Request.{Request}
 use Rattle.run_model.specs.declared.call.Request.TheVariants as request
 use Rattle.run_model.specs.declared.call.Reply.{Reply}
 use Rattle.run_model.specs.declared.call.Reply.TheVariants as reply
 use Rattle.run_model.specs.declared.entry.Act.{Act}
 use Rattle.run_model.specs.declared.entry.Act.TheVariants as act
 use Rattle.run_model.specs.declared.entry.Entry.{Entry}
-use Rattle.run_model.proofs.PrefixLemmas.{IsPrefix-append}
 use Rattle.run_model.proofs.PartLemmas.{accepted_in, taken_by}
 use Rattle.run_model.proofs.Accepted.{first_some-each}
-use Rattle.run_model.proofs.Sound.{Sound, Vouches}
+use Rattle.run_model.proofs.Sound.{Sound}
 use Rattle.run_model.proofs.SoundViews.{cover_of-other, Sound-count, Sound-cover}
 use Rattle.run_promises.proofs.LoansAgree.{LoansAgree}
 use Rattle.run_promises.proofs.SharesWrites.{first_some-none}
@@ -51,7 +48,8 @@ is_value (reply.Value key sums) = true
 is_value other = false
 
 -- what hinders a need is no value
-waiting_by-no_value : (need : Need) (moment : ℕ) (hindered : Hindrance) → is_value (waiting_by need moment hindered) ≡ false
+waiting_by-no_value : (need : Need) (moment : ℕ) (hindered : Hindrance)
+    → is_value (waiting_by need moment hindered) ≡ false
 waiting_by-no_value need moment (too_much_lent holder out total) = refl
 waiting_by-no_value need moment (unordered slowest tentative) = refl
 waiting_by-no_value need moment (stale late) = refl
@@ -62,15 +60,21 @@ pub record IsUnhindered (need : Need) (outs : List ℕ) (tentative : ℕ) (late 
   pub order : tentative ≤ need.order
   pub seen : late ≡ None
 
-unhindered : (need : Need) (outs : List ℕ) (tentative slow : ℕ) (late : Option Late) → hindrance need outs tentative slow late ≡ None → IsUnhindered need outs tentative late
+unhindered : (need : Need) (outs : List ℕ) (tentative slow : ℕ) (late : Option Late)
+    → hindrance need outs tentative slow late ≡ None
+    → IsUnhindered need outs tentative late
 unhindered need outs tentative slow late none = go (nat_lt need.num (sum outs)) refl (nat_lt need.order tentative) refl none
   where
     unmapped : (late : Option Late) → option_map stale late ≡ None → late ≡ None
     unmapped None none = refl
     unmapped (Some one) none = cc
 
-    go : (much : Bool) → nat_lt need.num (sum outs) ≡ much → (disordered : Bool) → nat_lt need.order tentative ≡ disordered
-        → cond much (Some (too_much_lent (first_over_part outs need.num) (get_or outs (first_over_part outs need.num) 0) (sum outs))) (cond disordered (Some (unordered slow tentative)) (option_map stale late)) ≡ None → IsUnhindered need outs tentative late
+    go : (much : Bool)
+        → nat_lt need.num (sum outs) ≡ much
+        → (disordered : Bool)
+        → nat_lt need.order tentative ≡ disordered
+        → cond much (Some (too_much_lent (first_over_part outs need.num) (get_or outs (first_over_part outs need.num) 0) (sum outs))) (cond disordered (Some (unordered slow tentative)) (option_map stale late)) ≡ None
+        → IsUnhindered need outs tentative late
     go true is other is_other none = cc
     go false is true is_other none = cc
     go false is false is_other none = record {
@@ -84,12 +88,21 @@ find-none : {X : Type 0} (p : X → Bool) (xs : List X) → find p xs ≡ None �
 find-none p [] none = All-nil (λ x. p x ≡ false)
 find-none {X} p (x ∷ xs) none = go (p x) refl none (find-none p xs)
   where
-    go : (yes : Bool) → p x ≡ yes → cond yes (Some x) (find p xs) ≡ None → (find p xs ≡ None → All (λ x. p x ≡ false) xs) → All (λ x. p x ≡ false) (x ∷ xs)
+    go : (yes : Bool)
+        → p x ≡ yes
+        → cond yes (Some x) (find p xs) ≡ None
+        → (find p xs ≡ None → All (λ x. p x ≡ false) xs)
+        → All (λ x. p x ≡ false) (x ∷ xs)
     go true is none rest = cc
     go false is none rest = All-cons (λ x. p x ≡ false) x xs is (rest none)
 
 -- where no peer is late, each has a cover at the wanted moment or after it
-none_late : (f : ℕ → Cover) (count replica wanted : ℕ) → first_late (map f (range_with_len 0 count)) replica wanted ≡ None → (peer : ℕ) → peer < count → (peer ≡ replica → ⊥) → wanted ≤ (f peer).moment
+none_late : (f : ℕ → Cover) (count replica wanted : ℕ)
+    → first_late (map f (range_with_len 0 count)) replica wanted ≡ None
+    → (peer : ℕ)
+    → peer < count
+    → (peer ≡ replica → ⊥)
+    → wanted ≤ (f peer).moment
 none_late f count replica wanted none peer within other =
     let covers = map f (range_with_len 0 count) in
     let late = λ (one : ℕ × Cover). not (one.0 == replica) && nat_lt one.1.moment wanted in
@@ -102,12 +115,18 @@ none_late f count replica wanted none peer within other =
     let isnt : (peer == replica) ≡ false = ne_eqb peer replica other in
     ltb-false (f peer).moment wanted (ap (λ yes. not yes && nat_lt (f peer).moment wanted) (sym isnt) ∙ here)
   where
-    unmapped : (found : Option (ℕ × Cover)) → option_map {U = Late} (λ (late : ℕ × Cover). record { replica = late.0; moment = late.1.moment }) found ≡ None → found ≡ None
+    unmapped : (found : Option (ℕ × Cover))
+        → option_map {U = Late} (λ (late : ℕ × Cover). record { replica = late.0; moment = late.1.moment }) found ≡ None
+        → found ≡ None
     unmapped None none = refl
     unmapped (Some one) none = cc
 
 -- what each has, none lacks
-none_from_all : {X : Type 0} (P Q : X → Type 0) (xs : List X) → ((x : X) → P x → Q x → ⊥) → All P xs → Any Q xs → ⊥
+none_from_all : {X : Type 0} (P Q : X → Type 0) (xs : List X)
+    → ((x : X) → P x → Q x → ⊥)
+    → All P xs
+    → Any Q xs
+    → ⊥
 none_from_all P Q xs apart all (k, x, within, is, holds) = apart x (subst P is (all k x within)) holds
 
 -- A read that is admitted at a replica of a sound history, for one need.
@@ -120,7 +139,8 @@ module _ (setup : Setup) (history : List Entry) (sound : Sound setup history) (a
   wanted = wanted_moment moment need
 
   -- each write that it hasn't seen was accepted at the wanted moment or after it
-  unseen_is_late : first_late (covers_of setup replica part moment) replica wanted ≡ None → All (λ (w : Write). wanted ≤ w.moment) (unseen_by setup history replica)
+  unseen_is_late : first_late (covers_of setup replica part moment) replica wanted ≡ None
+      → All (λ (w : Write). wanted ≤ w.moment) (unseen_by setup history replica)
   unseen_is_late none =
       let IsLate = λ (w : Write). wanted ≤ w.moment in
       All-flat_map IsLate (λ origin. unseen history origin replica) (peers_of setup replica)
@@ -138,7 +158,8 @@ module _ (setup : Setup) (history : List Entry) (sound : Sound setup history) (a
       omega (arith, at_moment, ap (λ (c : Cover). c.moment) same, (later past).1))
       (own (part_of history origin)) vouches.later)))
 
-  pub IsMet-before : need_refusal setup replica part moment need ≡ None → IsMet setup history replica moment need
+  pub IsMet-before : need_refusal setup replica part moment need ≡ None
+      → IsMet setup history replica moment need
   IsMet-before none =
       let late = first_late (covers_of setup replica part moment) replica wanted in
       let outs = outs_of setup replica part need.conit in
@@ -151,7 +172,9 @@ module _ (setup : Setup) (history : List Entry) (sound : Sound setup history) (a
         stale = none_from_all (λ (w : Write). wanted ≤ w.moment) (λ (w : Write). w.moment < wanted) (unseen_by setup history replica) (λ w after before. absurd (omega (arith, after, before))) (unseen_is_late free.seen);
       }
     where
-      unmapped : (hindered : Option Hindrance) → option_map (waiting_by need moment) hindered ≡ None → hindered ≡ None
+      unmapped : (hindered : Option Hindrance)
+          → option_map (waiting_by need moment) hindered ≡ None
+          → hindered ≡ None
       unmapped None none = refl
       unmapped (Some one) none = cc
 
@@ -165,14 +188,19 @@ module _ (setup : Setup) (history : List Entry) (entry : Entry) (sound : Sound s
   read_part = part_of history entry.replica
 
   -- an answer changes nothing that is measured
-  IsMet-after : (need : Need) → IsMet setup history reader entry.moment need → IsMet setup (history ++ entry ∷ []) reader entry.moment need
+  IsMet-after : (need : Need)
+      → IsMet setup history reader entry.moment need
+      → IsMet setup (history ++ entry ∷ []) reader entry.moment need
   IsMet-after need met = record {
     num = rw (quiet-num_error setup history entry accepts takes reader need.conit) met.num;
     order = rw (quiet-order_error setup history entry accepts takes reader need.conit) met.order;
     stale = λ misses. met.stale (subst (Any (λ (w : Write). w.moment < wanted_moment entry.moment need)) (quiet-unseen_by setup history entry accepts takes reader) misses);
   }
 
-  meets : (key : ℕ) (needs : List Need) (answer : ℤ) (sums : List ℤ) → IsRequestInRange setup (request.Read key needs) → reply.Value answer sums ≡ reply_of setup reader read_part entry.moment (request.Read key needs) → All (IsMet setup (history ++ entry ∷ []) reader entry.moment) needs
+  meets : (key : ℕ) (needs : List Need) (answer : ℤ) (sums : List ℤ)
+      → IsRequestInRange setup (request.Read key needs)
+      → reply.Value answer sums ≡ reply_of setup reader read_part entry.moment (request.Read key needs)
+      → All (IsMet setup (history ++ entry ∷ []) reader entry.moment) needs
   meets key needs answer sums in_range is =
       let refusals = need_refusal setup reader read_part entry.moment in
       let none : first_some refusals needs ≡ None = unrefused (first_some refusals needs) (first_some-each refusals (λ given. is_value given ≡ false) no_value needs) is in
@@ -181,15 +209,22 @@ module _ (setup : Setup) (history : List Entry) (entry : Entry) (sound : Sound s
       IsMet-after (get_or needs k d)
       (IsMet-before setup history sound agree within reader entry.moment lawful.due.in_range.replica (get_or needs k d) (in_range.1.each k d inside) (each k d inside))
     where
-      no_value : (need : Need) (given : Reply) → need_refusal setup reader read_part entry.moment need ≡ Some given → is_value given ≡ false
+      no_value : (need : Need) (given : Reply)
+          → need_refusal setup reader read_part entry.moment need ≡ Some given
+          → is_value given ≡ false
       no_value need given some =
           go (hindrance need (outs_of setup reader read_part need.conit) (order_sum (tentative setup reader read_part) need.conit) (slowest (covers_of setup reader read_part entry.moment)) (first_late (covers_of setup reader read_part entry.moment) reader (wanted_moment entry.moment need))) some
         where
-          go : (hindered : Option Hindrance) → option_map (waiting_by need entry.moment) hindered ≡ Some given → is_value given ≡ false
+          go : (hindered : Option Hindrance)
+              → option_map (waiting_by need entry.moment) hindered ≡ Some given
+              → is_value given ≡ false
           go None some = cc
           go (Some hindered) some = subst (λ g. is_value g ≡ false) (same_Some (waiting_by need entry.moment hindered) given some) (waiting_by-no_value need entry.moment hindered)
 
-      unrefused : (first : Option Reply) → ((given : Reply) → first ≡ Some given → is_value given ≡ false) → reply.Value answer sums ≡ unwrap_or first (reply.Value (image setup reader read_part key) (map (λ (need : Need). value setup reader read_part need.conit) needs)) → first ≡ None
+      unrefused : (first : Option Reply)
+          → ((given : Reply) → first ≡ Some given → is_value given ≡ false)
+          → reply.Value answer sums ≡ unwrap_or first (reply.Value (image setup reader read_part key) (map (λ (need : Need). value setup reader read_part need.conit) needs))
+          → first ≡ None
       unrefused None no_value is = refl
       unrefused (Some given) no_value is =
           let yes : is_value given ≡ true = sym (ap is_value is) in
@@ -197,13 +232,20 @@ module _ (setup : Setup) (history : List Entry) (entry : Entry) (sound : Sound s
           cc
 
 -- Whatever an act is, where it is a read that is answered its needs are met.
-MeetsNeeds-due : (setup : Setup) (history : List Entry) (replica moment : ℕ) (done : Act) → Sound setup history → LoansAgree setup history → IsWithin setup history
-    → IsLawful setup history (record { replica = replica; moment = moment; act = done }) → MeetsNeeds setup (history ++ record { replica = replica; moment = moment; act = done } ∷ []) replica moment done
+MeetsNeeds-due : (setup : Setup) (history : List Entry) (replica moment : ℕ) (done : Act)
+    → Sound setup history
+    → LoansAgree setup history
+    → IsWithin setup history
+    → IsLawful setup history (record { replica = replica; moment = moment; act = done })
+    → MeetsNeeds setup (history ++ record { replica = replica; moment = moment; act = done } ∷ []) replica moment done
 MeetsNeeds-due setup history replica moment (act.Call client number (request.Read key needs) (reply.Value answer sums)) sound agree within lawful =
     meets setup history (record { replica = replica; moment = moment; act = act.Call client number (request.Read key needs) (reply.Value answer sums) }) sound agree within lawful refl refl key needs answer sums lawful.due.in_range.act.1 lawful.due.act.1
 MeetsNeeds-due setup history replica moment other sound agree within lawful = tt
 
-pub IsAnswered-from : (setup : Setup) (history : List Entry) → IsRun setup history → ((front : List Entry) → IsPrefix front history → Sound setup front × LoansAgree setup front × IsWithin setup front) → IsAnswered setup history
+pub IsAnswered-from : (setup : Setup) (history : List Entry)
+    → IsRun setup history
+    → ((front : List Entry) → IsPrefix front history → Sound setup front × LoansAgree setup front × IsWithin setup front)
+    → IsAnswered setup history
 IsAnswered-from setup history run facts before after entry is =
     let (sound, agree, within) = facts before (entry ∷ after, is) in
     MeetsNeeds-due setup before entry.replica entry.moment entry.act sound agree within (run before after entry is)

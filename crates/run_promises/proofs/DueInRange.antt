@@ -1,19 +1,19 @@
 -- The message that is due after a part that can be is in range.
-use Rattle.std.proofs.Common.{◌≡◌, ◌≢◌, ℕ, ◌+◌, ◌-◌, ◌*◌, ◌<◌, ◌≤◌, ◌==◌, nat_lt, Bool, true, false, cond, List, [], ◌∷◌, length, take, drop, map, filter, flat_map, sum_by, slice_index, max, min, All, refl, sym, ap, ◌∙◌, subst, ⊎_elim, arith}
+use Rattle.std.proofs.Common.{◌≡◌, ◌≢◌, ℕ, ◌-◌, ◌*◌, ◌<◌, ◌≤◌, ◌==◌, nat_lt, Bool, true, false, cond, List, [], ◌∷◌, length, take, drop, map, filter, flat_map, sum_by, slice_index, max, min, All, refl, sym, ap, ◌∙◌, subst, arith}
 use Rattle.std.specs.List.{range_with_len}
-use Rattle.std.proofs.lemmas.Bool.{cases_eq, eq-eqb, lt-ltb, ltb-true}
+use Rattle.std.proofs.lemmas.Bool.{eq-eqb, lt-ltb, ltb-true}
 use Rattle.std.proofs.lemmas.List.{length-take, length-drop}
 use Rattle.std.proofs.lemmas.List.Elements.{All-nil, All-map, All-take, All-drop, All-weaker}
 use Rattle.std.proofs.lemmas.List.FromFn.{length-map-range_with_len}
 use Rattle.std.proofs.lemmas.List.Sums.{sum_by-le}
 use Rattle.tact_base.proofs.ListLemmas.{All-flat_map, All-range, flat_map_agree, get_or-map_range, length-filter_map}
 use Rattle.tact_base.specs.Covers.{no_cover}
-use Rattle.tact_base.specs.declared.limits.TheConstants.{AMOUNT_MAX, MOMENT_MAX, STAMP_MAX, LENT_MAX, HISTORY_MAX, MESSAGE_WRITES}
+use Rattle.tact_base.specs.declared.limits.TheConstants.{MOMENT_MAX, LENT_MAX, HISTORY_MAX, MESSAGE_WRITES}
 use Rattle.tact_base.specs.declared.write.Cover.{Cover}
 use Rattle.tact_base.specs.declared.write.Write.{Write}
 use Rattle.tact_base.specs.Setup.{Setup, IsSetup, replicas_of, conits_of}
 use Rattle.run_model.specs.Histories.{IsPrefix}
-use Rattle.run_model.specs.Taking.{told_have, told_cover, told_first, told_writes, log_of, have, clock, cover_of, known}
+use Rattle.run_model.specs.Taking.{told_have, told_cover, told_first, told_writes, log_of, have, cover_of, known}
 use Rattle.run_model.specs.Loans.{lent, returned, lent_by_act, returned_by_act}
 use Rattle.run_model.specs.Messages.{first_for, message_of}
 use Rattle.run_model.specs.Ranges.{IsWriteInRange, IsToldInRange, IsMessageInRange, IsEntryInRange}
@@ -43,10 +43,15 @@ module _ (setup : Setup) (good : IsSetup setup) (replica : ℕ) (part : List Ent
   bounded_is : (origin : ℕ) → origin < setup.replicas → bounded origin ≡ onward origin
   bounded_is origin within = ap (λ yes. cond yes (onward origin) []) (lt-ltb origin setup.replicas within)
 
-  bounded_all : (P : ℕ → Write → Type 0) → ((origin : ℕ) → origin < setup.replicas → All (P origin) (onward origin)) → (origin : ℕ) → All (P origin) (bounded origin)
+  bounded_all : (P : ℕ → Write → Type 0)
+      → ((origin : ℕ) → origin < setup.replicas → All (P origin) (onward origin))
+      → (origin : ℕ)
+      → All (P origin) (bounded origin)
   bounded_all P each origin = go (nat_lt origin setup.replicas) refl
     where
-      go : (yes : Bool) → nat_lt origin setup.replicas ≡ yes → All (P origin) (cond yes (onward origin) [])
+      go : (yes : Bool)
+          → nat_lt origin setup.replicas ≡ yes
+          → All (P origin) (cond yes (onward origin) [])
       go true is = each origin (ltb-true origin setup.replicas is)
       go false is = All-nil (P origin)
 
@@ -63,7 +68,8 @@ module _ (setup : Setup) (good : IsSetup setup) (replica : ℕ) (part : List Ent
   first-le : (origin : ℕ) → first_for replica part to given origin ≤ have replica part origin
   first-le origin = go (origin == to)
     where
-      go : (own : Bool) → cond own (have replica part origin) (min (have replica part origin) (max (slice_index given origin) (known part to origin))) ≤ have replica part origin
+      go : (own : Bool)
+          → cond own (have replica part origin) (min (have replica part origin) (max (slice_index given origin) (known part to origin))) ≤ have replica part origin
       go true = omega arith
       go false = omega arith
 

@@ -1,19 +1,23 @@
 -- In a run loans total exactly.
-use Rattle.std.proofs.Common.{◌≡◌, ℕ, ◌+◌, ◌-◌, ◌<◌, ◌≤◌, List, map, sum, sum_by, All, sym, arith}
+use Rattle.std.proofs.Common.{◌≡◌, ℕ, ◌-◌, ◌≤◌, List, map, sum, sum_by, All, sym, arith}
 use Rattle.std.proofs.lemmas.List.Sums.{sum-map}
-use Rattle.tact_base.specs.Setup.{Setup, alpha_of, peers_of}
+use Rattle.tact_base.specs.Setup.{Setup, peers_of}
 use Rattle.run_model.specs.Histories.{part_of}
-use Rattle.run_model.specs.Loans.{lent, returned, lent_known, returned_known, out, home}
-use Rattle.run_model.specs.Promises.{held_by, IsExactFor, IsExact}
+use Rattle.run_model.specs.Loans.{lent, returned, lent_known, returned_known, out}
+use Rattle.run_model.specs.Promises.{held_by, IsExact}
 use Rattle.run_model.specs.declared.entry.Entry.{Entry}
 use Rattle.run_promises.proofs.Peers.{All-peers}
 use Rattle.tact_base.proofs.PeerSums.{sum_by-each}
 use Rattle.run_promises.proofs.LoansAgree.{LoansAgree}
-use Rattle.run_promises.proofs.KeepsHome.{all_out, KeepsHome}
+use Rattle.run_promises.proofs.KeepsHome.{KeepsHome}
 use Rattle.run_promises.proofs.KeepsShares.{KeepsShares}
 
 -- Home and what each holder has, or is on its way to or from it, make the alpha.
-pub IsExact-from : (setup : Setup) (history : List Entry) → LoansAgree setup history → KeepsHome setup history → ((replica : ℕ) → KeepsShares setup replica (part_of history replica)) → IsExact setup history
+pub IsExact-from : (setup : Setup) (history : List Entry)
+    → LoansAgree setup history
+    → KeepsHome setup history
+    → ((replica : ℕ) → KeepsShares setup replica (part_of history replica))
+    → IsExact setup history
 IsExact-from setup history agree keeps shares owner conit owner_in conit_in =
     let peers = peers_of setup owner in
     let held = held_by setup history owner conit in

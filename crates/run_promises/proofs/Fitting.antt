@@ -1,20 +1,19 @@
 -- In a run each taken message fits where it is taken, and so each part is one that can be.
-use Rattle.std.proofs.Common.{◌≡◌, ◌≢◌, ℕ, ◌+◌, ◌-◌, ◌<◌, ◌≤◌, ◌==◌, List, [], ◌∷◌, ◌++◌, length, get_or, drop, map, filter, slice_index, All, Option, None, Some, refl, sym, ap, ◌∙◌, subst, ⊎_elim, le_trans, lt_of_le_of_lt, arith}
+use Rattle.std.proofs.Common.{◌≡◌, ℕ, ◌+◌, ◌-◌, ◌<◌, ◌≤◌, ◌==◌, List, length, get_or, drop, map, filter, slice_index, All, Some, refl, sym, ap, ◌∙◌, subst, lt_of_le_of_lt, arith}
 use Rattle.std.specs.List.{range_with_len}
-use Rattle.std.proofs.lemmas.Bool.{cases_eq}
-use Rattle.std.proofs.lemmas.List.{drop_all, length-drop, get_or-drop, get_or-map, length-map}
-use Rattle.std.proofs.lemmas.List.Elements.{All-nil, All-filter, All-drop, All-contains}
+use Rattle.std.proofs.lemmas.List.{length-drop, get_or-drop, get_or-map}
+use Rattle.std.proofs.lemmas.List.Elements.{All-filter, All-drop, All-contains}
 use Rattle.std.proofs.lemmas.List.FromFn.{get_or-range_with_len}
 use Rattle.std.proofs.lemmas.Option.{same_Some}
 use Rattle.tact_base.specs.declared.write.Write.{Write}
-use Rattle.tact_base.specs.Setup.{Setup, IsSetup}
+use Rattle.tact_base.specs.Setup.{Setup}
 use Rattle.run_model.specs.Histories.{part_of, sent_in, taken_by_act, EachAfter}
 use Rattle.run_model.specs.OwnWrites.{own}
 use Rattle.run_model.specs.Taking.{told_have, told_cover, told_first, told_writes, log_of, have, cover_of}
 use Rattle.run_model.specs.Loans.{lent, returned as returned_to}
 use Rattle.run_model.specs.Order.{point}
 use Rattle.run_model.specs.Ranges.{IsMessageInRange, IsActInRange}
-use Rattle.run_model.specs.Runs.{IsDue, IsLawful, IsRun, added, Fits, FitsIfTaken, MayFollow, IsPart}
+use Rattle.run_model.specs.Runs.{IsLawful, IsRun, added, Fits, FitsIfTaken, MayFollow, IsPart}
 use Rattle.run_model.specs.declared.entry.Act.{Act}
 use Rattle.run_model.specs.declared.entry.Act.TheVariants as act
 use Rattle.run_model.specs.declared.entry.Entry.{Entry}
@@ -32,7 +31,10 @@ use Rattle.run_promises.proofs.LoansAgree.{TellsOfLoans, LoansAgree, LoansAgree-
 use Rattle.run_promises.proofs.KeepsShares.{KeepsShares}
 
 -- a taken message is in range
-pub taken_in_range : (setup : Setup) (replica : ℕ) (done : Act) (message : Message) → IsActInRange setup replica done → taken_by_act done ≡ Some message → IsMessageInRange setup message
+pub taken_in_range : (setup : Setup) (replica : ℕ) (done : Act) (message : Message)
+    → IsActInRange setup replica done
+    → taken_by_act done ≡ Some message
+    → IsMessageInRange setup message
 taken_in_range setup replica (act.Take taken) message within some = subst (IsMessageInRange setup) (same_Some taken message some) within.0
 taken_in_range setup replica (act.Call client number asked given) message within some = cc
 taken_in_range setup replica (act.Send sent) message within some = cc
@@ -69,7 +71,8 @@ module _ (setup : Setup) (history : List Entry) (entry : Entry) (message : Messa
       let here : have taker its_part taker ≡ length (own its_part) = ap length (log_of-same taker its_part) in
       omega (arith, here, (sent.told taker).have, Sound-have setup history sound message.from taker)
 
-  returned : (conit : ℕ) → slice_index message.returned conit ≤ lent setup taker its_part message.from conit
+  returned : (conit : ℕ)
+      → slice_index message.returned conit ≤ lent setup taker its_part message.from conit
   returned conit =
       let tells = (was_sent (TellsOfLoans setup history message.from) (agree.sent message.from)).returned conit in
       let told : slice_index message.returned conit ≤ _ = subst (λ to. slice_index message.returned conit ≤ returned_to (part_of history message.from) to conit) addressed tells in
@@ -124,7 +127,9 @@ module _ (setup : Setup) (history : List Entry) (entry : Entry) (message : Messa
   }
 
 -- what follows fits, whatever its act is
-FitsIfTaken-from : (setup : Setup) (replica : ℕ) (part : List Entry) (done : Act) → ((message : Message) → taken_by_act done ≡ Some message → Fits setup replica part message) → FitsIfTaken setup replica part done
+FitsIfTaken-from : (setup : Setup) (replica : ℕ) (part : List Entry) (done : Act)
+    → ((message : Message) → taken_by_act done ≡ Some message → Fits setup replica part message)
+    → FitsIfTaken setup replica part done
 FitsIfTaken-from setup replica part (act.Take message) fits = fits message refl
 FitsIfTaken-from setup replica part (act.Call client number asked given) fits = tt
 FitsIfTaken-from setup replica part (act.Send message) fits = tt
@@ -133,7 +138,12 @@ FitsIfTaken-from setup replica part (act.Back owner conit amount) fits = tt
 FitsIfTaken-from setup replica part act.Restart fits = tt
 
 -- Each part of a run is one that can be.
-pub IsPart-from : (setup : Setup) → ((history : List Entry) → IsRun setup history → (replica : ℕ) → KeepsShares setup replica (part_of history replica)) → (history : List Entry) → IsRun setup history → (replica : ℕ) → IsPart setup replica (part_of history replica)
+pub IsPart-from : (setup : Setup)
+    → ((history : List Entry) → IsRun setup history → (replica : ℕ) → KeepsShares setup replica (part_of history replica))
+    → (history : List Entry)
+    → IsRun setup history
+    → (replica : ℕ)
+    → IsPart setup replica (part_of history replica)
 IsPart-from setup shares =
     over_runs setup (λ history. (replica : ℕ) → IsPart setup replica (part_of history replica)) (λ replica. EachAfter-nil (MayFollow setup replica))
     (λ before entry run lawful parts.

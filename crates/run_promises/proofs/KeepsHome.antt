@@ -1,11 +1,11 @@
 -- In a run no owner lends more than its alpha.
-use Rattle.std.proofs.Common.{◌≡◌, ℕ, ◌+◌, ◌-◌, ◌<◌, ◌≤◌, ◌==◌, ◌&&◌, Bool, true, false, cond, List, [], ◌∷◌, ◌++◌, map, sum, sum_by, All, slice_index, refl, sym, ap, ◌∙◌, subst, ⊎_elim, arith}
+use Rattle.std.proofs.Common.{◌≡◌, ℕ, ◌+◌, ◌-◌, ◌<◌, ◌≤◌, ◌==◌, ◌&&◌, Bool, true, false, cond, List, [], ◌∷◌, ◌++◌, map, sum, sum_by, slice_index, refl, subst, ⊎_elim, arith}
 use Rattle.std.proofs.lemmas.Bool.{cases_eq, ne_eqb}
 use Rattle.std.proofs.lemmas.List.Sums.{sum-map, sum_by-le-sum_by}
 use Rattle.tact_base.specs.Setup.{Setup, IsSetup, alpha_of, loans_of, loan_of, peers_of}
 use Rattle.run_model.specs.Histories.{part_of}
-use Rattle.run_model.specs.Loans.{lent, returned_known, out, home, lent_by_act}
-use Rattle.run_model.specs.Runs.{IsDue, IsActDue, IsLawful, IsRun}
+use Rattle.run_model.specs.Loans.{lent, out, home, lent_by_act}
+use Rattle.run_model.specs.Runs.{IsDue, IsActDue, IsRun}
 use Rattle.run_model.specs.declared.entry.Act.{Act}
 use Rattle.run_model.specs.declared.entry.Act.TheVariants as act
 use Rattle.run_model.specs.declared.entry.Entry.{Entry}
@@ -28,7 +28,8 @@ nothing-lent : (peers : List ℕ) → sum_by (λ (peer : ℕ). 0) peers ≡ 0
 nothing-lent [] = refl
 nothing-lent (peer ∷ peers) = nothing-lent peers
 
-lent_at : (to peer at conit amount : ℕ) → cond (to == peer && at == conit) amount 0 ≤ at_one to amount peer
+lent_at : (to peer at conit amount : ℕ)
+    → cond (to == peer && at == conit) amount 0 ≤ at_one to amount peer
 lent_at to peer at conit amount = go (to == peer) (at == conit)
   where
     go : (one other : Bool) → cond (one && other) amount 0 ≤ cond one amount 0
@@ -36,7 +37,9 @@ lent_at to peer at conit amount = go (to == peer) (at == conit)
     go true false = omega arith
     go false other = omega arith
 
-lent_elsewhere : (to peer at conit amount : ℕ) → (at ≡ conit → ⊥) → cond (to == peer && at == conit) amount 0 ≤ 0
+lent_elsewhere : (to peer at conit amount : ℕ)
+    → (at ≡ conit → ⊥)
+    → cond (to == peer && at == conit) amount 0 ≤ 0
 lent_elsewhere to peer at conit amount other = go (to == peer) (at == conit) (ne_eqb at conit other)
   where
     go : (one here : Bool) → here ≡ false → cond (one && here) amount 0 ≤ 0
@@ -49,7 +52,9 @@ module _ (setup : Setup) (replica : ℕ) (part : List Entry) (at : ℕ) (conit :
   nothing : (n : ℕ) → n ≡ 0 → all_out setup replica part conit + n ≤ alpha_of setup replica conit
   nothing n none = omega (arith, none)
 
-  pub lends-within : (done : Act) → IsActDue setup replica part at done → all_out setup replica part conit + lends setup replica conit done ≤ alpha_of setup replica conit
+  pub lends-within : (done : Act)
+      → IsActDue setup replica part at done
+      → all_out setup replica part conit + lends setup replica conit done ≤ alpha_of setup replica conit
   lends-within (act.Lend to on amount) due = ⊎_elim
       (λ (same : on ≡ conit).
       let less = sum_by-le-sum_by (λ peer. lent_by_act peer conit (act.Lend to on amount)) (at_one to amount) (peers_of setup replica) (λ peer. lent_at to peer on conit amount) in
@@ -66,7 +71,8 @@ module _ (setup : Setup) (replica : ℕ) (part : List Entry) (at : ℕ) (conit :
   lends-within act.Restart due = nothing (lends setup replica conit act.Restart) (nothing-lent (peers_of setup replica))
 
 -- what is out grows by no more than what is lent
-all_out-push : (setup : Setup) (replica : ℕ) (part : List Entry) (entry : Entry) (conit : ℕ) → all_out setup replica (part ++ entry ∷ []) conit ≤ all_out setup replica part conit + lends setup replica conit entry.act
+all_out-push : (setup : Setup) (replica : ℕ) (part : List Entry) (entry : Entry) (conit : ℕ)
+    → all_out setup replica (part ++ entry ∷ []) conit ≤ all_out setup replica part conit + lends setup replica conit entry.act
 all_out-push setup replica part entry conit =
     let before = λ (peer : ℕ). out setup replica part peer conit in
     let more = λ (peer : ℕ). lent_by_act peer conit entry.act in
@@ -88,7 +94,10 @@ KeepsHome-nil setup good owner conit owner_in conit_in =
     let each = sum_by-le-sum_by (λ peer. out setup owner [] peer conit) (λ peer. loan_of setup owner conit peer) (peers_of setup owner) (λ peer. omega arith) in
     omega (arith, row.total, opening, each, sum-map (λ peer. out setup owner [] peer conit) (peers_of setup owner))
 
-KeepsHome-push : (setup : Setup) (history : List Entry) (entry : Entry) → IsDue setup (part_of history entry.replica) entry → KeepsHome setup history → KeepsHome setup (history ++ entry ∷ [])
+KeepsHome-push : (setup : Setup) (history : List Entry) (entry : Entry)
+    → IsDue setup (part_of history entry.replica) entry
+    → KeepsHome setup history
+    → KeepsHome setup (history ++ entry ∷ [])
 KeepsHome-push setup history entry due keeps owner conit owner_in conit_in =
     part_of-push_cases history entry (λ r part. r < setup.replicas → all_out setup r part conit ≤ alpha_of setup r conit)
     (λ within.
@@ -96,6 +105,9 @@ KeepsHome-push setup history entry due keeps owner conit owner_in conit_in =
     omega (arith, all_out-push setup entry.replica part entry conit, lends-within setup entry.replica part entry.moment conit (keeps entry.replica conit within conit_in) entry.act due.act))
     (λ r within. keeps r conit within conit_in) owner owner_in
 
-pub KeepsHome-run : (setup : Setup) (history : List Entry) → IsSetup setup → IsRun setup history → KeepsHome setup history
+pub KeepsHome-run : (setup : Setup) (history : List Entry)
+    → IsSetup setup
+    → IsRun setup history
+    → KeepsHome setup history
 KeepsHome-run setup history good =
     over_runs setup (KeepsHome setup) (KeepsHome-nil setup good) (λ before entry run lawful keeps. KeepsHome-push setup before entry lawful.due keeps) history

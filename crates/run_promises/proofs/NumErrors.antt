@@ -1,7 +1,6 @@
 -- How far a replica's value is off is at most what the others may have accepted unseen, and that is within what it has out.
-use Rattle.std.proofs.Common.{◌≡◌, ℕ, ◌+◌, ◌-◌, ◌<◌, ◌≤◌, ◌==◌, max, Bool, true, false, cond, nat_le, unsigned_abs, ℤ, pos, ◌+ℤ◌, ◌-ℤ◌, List, [], ◌∷◌, ◌++◌, length, get_or, map, filter, flat_map, sum, sum_by, All, refl, sym, ap, ap₂, ◌∙◌, subst, ⊎_elim, arith}
-use Rattle.std.specs.List.{range_with_len}
-use Rattle.std.proofs.lemmas.Bool.{cases_eq, eq-eqb, ne_eqb, lt-leb, le-leb}
+use Rattle.std.proofs.Common.{◌≡◌, ℕ, ◌+◌, ◌-◌, ◌<◌, ◌≤◌, ◌==◌, true, false, cond, nat_le, unsigned_abs, ℤ, pos, ◌+ℤ◌, ◌-ℤ◌, List, [], ◌∷◌, ◌++◌, length, get_or, map, filter, flat_map, sum, sum_by, All, refl, sym, ap, ap₂, ◌∙◌, subst, ⊎_elim, arith}
+use Rattle.std.proofs.lemmas.Bool.{cases_eq, ne_eqb, lt-leb, le-leb}
 use Rattle.std.proofs.lemmas.Int.{ints}
 use Rattle.std.proofs.lemmas.List.{length-append, get_or-append-add}
 use Rattle.std.proofs.lemmas.List.Elements.{All-head, All-tail, filter-append}
@@ -14,11 +13,11 @@ use Rattle.tact_base.specs.declared.write.Write.{Write}
 use Rattle.tact_base.specs.Setup.{Setup, replicas_of}
 use Rattle.run_model.specs.Histories.{part_of, IsPrefix}
 use Rattle.run_model.specs.OwnWrites.{own}
-use Rattle.run_model.specs.Taking.{log_of, have}
+use Rattle.run_model.specs.Taking.{log_of}
 use Rattle.run_model.specs.Loans.{share, out}
 use Rattle.run_model.specs.Order.{value}
 use Rattle.run_model.specs.Promises.{IsWithin}
-use Rattle.run_model.specs.Reference.{reference, unseen, num_error}
+use Rattle.run_model.specs.Reference.{unseen, num_error}
 use Rattle.run_model.specs.Replies.{outs_of}
 use Rattle.run_model.specs.declared.entry.Entry.{Entry}
 use Rattle.run_model.proofs.PrefixLemmas.{IsPrefix-reads}
@@ -26,10 +25,12 @@ use Rattle.run_model.proofs.Accepted.{log_of-same}
 use Rattle.run_model.proofs.Sound.{Sound}
 use Rattle.run_model.proofs.SoundViews.{Sound-log}
 use Rattle.run_promises.proofs.LoansAgree.{LoansAgree}
-use Rattle.tact_base.proofs.PeerSums.{sum_by-each-le}
 
 -- the size of a net sum is at most the greater of the two sums
-net_sum-size : (writes : List Write) (conit most : ℕ) → plus_sum writes conit ≤ most → minus_sum writes conit ≤ most → unsigned_abs (net_sum writes conit) ≤ most
+net_sum-size : (writes : List Write) (conit most : ℕ)
+    → plus_sum writes conit ≤ most
+    → minus_sum writes conit ≤ most
+    → unsigned_abs (net_sum writes conit) ≤ most
 net_sum-size writes conit most plus minus = size (net_sum writes conit) (plus_sum writes conit) (minus_sum writes conit) (net_sum-parts writes conit) plus minus
   where
     size : (z : ℤ) (a b : ℕ) → z ≡ pos a -ℤ pos b → a ≤ most → b ≤ most → unsigned_abs z ≤ most
@@ -37,7 +38,9 @@ net_sum-size writes conit most plus minus = size (net_sum writes conit) (plus_su
 
 -- of joined lists, each of which goes on from another, the net sums differ by no more than what each goes on with
 module _ (whole front rest : ℕ → List Write) (goes_on : (i : ℕ) → whole i ≡ front i ++ rest i) (conit : ℕ) (most : ℕ → ℕ) where
-  pub net_sum-differs : (xs : List ℕ) → All (λ i. unsigned_abs (net_sum (rest i) conit) ≤ most i) xs → unsigned_abs (net_sum (flat_map whole xs) conit -ℤ net_sum (flat_map front xs) conit) ≤ sum_by most xs
+  pub net_sum-differs : (xs : List ℕ)
+      → All (λ i. unsigned_abs (net_sum (rest i) conit) ≤ most i) xs
+      → unsigned_abs (net_sum (flat_map whole xs) conit -ℤ net_sum (flat_map front xs) conit) ≤ sum_by most xs
   net_sum-differs [] all = omega (arith, ints)
   net_sum-differs (x ∷ xs) all =
       let of_whole = net_sum-append (whole x) (flat_map whole xs) conit in
@@ -48,13 +51,21 @@ module _ (whole front rest : ℕ → List Write) (goes_on : (i : ℕ) → whole 
       combine (net_sum (whole x ++ flat_map whole xs) conit) (net_sum (whole x) conit) (net_sum (flat_map whole xs) conit) (net_sum (front x ++ flat_map front xs) conit) (net_sum (front x) conit) (net_sum (flat_map front xs) conit) (net_sum (rest x) conit)
       (most x) (sum_by most xs) (sum_by most (x ∷ xs)) of_whole of_front of_one here later (sum_by-cons most x xs)
     where
-      combine : (w wx ws f fx fs r : ℤ) (m s t : ℕ) → w ≡ wx +ℤ ws → f ≡ fx +ℤ fs → wx ≡ fx +ℤ r → unsigned_abs r ≤ m → unsigned_abs (ws -ℤ fs) ≤ s → t ≡ m + s → unsigned_abs (w -ℤ f) ≤ t
+      combine : (w wx ws f fx fs r : ℤ) (m s t : ℕ)
+          → w ≡ wx +ℤ ws
+          → f ≡ fx +ℤ fs
+          → wx ≡ fx +ℤ r
+          → unsigned_abs r ≤ m
+          → unsigned_abs (ws -ℤ fs) ≤ s
+          → t ≡ m + s
+          → unsigned_abs (w -ℤ f) ≤ t
       combine w wx ws f fx fs r m s t whole_is front_is one_is here later total = omega (arith, ints, whole_is, front_is, one_is, here, later, total)
 
 -- A sound history.
 module _ (setup : Setup) (history : List Entry) (sound : Sound setup history) where
   -- what an origin accepted is what a replica has of it, and then what it hasn't seen
-  pub own-is_log_and_unseen : (replica origin : ℕ) → own (part_of history origin) ≡ log_of replica (part_of history replica) origin ++ unseen history origin replica
+  pub own-is_log_and_unseen : (replica origin : ℕ)
+      → own (part_of history origin) ≡ log_of replica (part_of history replica) origin ++ unseen history origin replica
   own-is_log_and_unseen replica origin =
       let log = log_of replica (part_of history replica) origin in
       let whole = own (part_of history origin) in
@@ -94,7 +105,9 @@ module _ (setup : Setup) (history : List Entry) (sound : Sound setup history) wh
     abbrev out_at : ℕ → ℕ
     out_at holder = cond (holder == replica) 0 (out setup replica (part_of history replica) holder conit)
 
-    unseen_within : (origin : ℕ) → origin < setup.replicas → unsigned_abs (net_sum (unseen history origin replica) conit) ≤ out_at origin
+    unseen_within : (origin : ℕ)
+        → origin < setup.replicas
+        → unsigned_abs (net_sum (unseen history origin replica) conit) ≤ out_at origin
     unseen_within origin origin_in = ⊎_elim
         (λ (same : origin ≡ replica).
         let nothing : unseen history origin replica ≡ [] = subst (λ o. unseen history o replica ≡ []) (sym same) (own_unseen replica) in

@@ -1,8 +1,8 @@
 -- What a part that can be keeps: its logs have their writes in their places and within their limits, and its covers stand within its logs.
-use Rattle.std.proofs.Common.{◌≡◌, ◌≢◌, ℕ, ◌+◌, ◌-◌, ◌<◌, ◌≤◌, ◌==◌, Bool, true, List, [], ◌∷◌, ◌++◌, length, get_or, drop, map, filter, All, Option, None, Some, refl, sym, ap, ◌∙◌, subst, ⊎_elim, le_trans, arith}
-use Rattle.std.specs.List.{range_with_len, filter_map}
+use Rattle.std.proofs.Common.{◌≡◌, ℕ, ◌+◌, ◌-◌, ◌<◌, ◌≤◌, ◌==◌, true, List, [], ◌∷◌, ◌++◌, length, get_or, drop, map, filter, All, Option, None, Some, refl, sym, ap, ◌∙◌, subst, ⊎_elim, le_trans, arith}
+use Rattle.std.specs.List.{range_with_len}
 use Rattle.std.proofs.lemmas.Bool.{cases_lt, eqb-true}
-use Rattle.std.proofs.lemmas.List.{length_push, length-append, length-drop, drop_all, append-nil, get_or_append_left, get_or-append-add, get_or-drop, get_or-map, get_or_past, length-map}
+use Rattle.std.proofs.lemmas.List.{length_push, length-append, length-drop, get_or_append_left, get_or-append-add, get_or-drop, get_or-map, get_or_past}
 use Rattle.std.proofs.lemmas.List.Elements.{All-nil, All-push, All-append, All-weaker, All-filter, All-drop, filter_passes}
 use Rattle.std.proofs.lemmas.List.FromFn.{get_or-range_with_len}
 use Rattle.std.proofs.lemmas.Option.{same_Some}
@@ -17,7 +17,7 @@ use Rattle.tact_base.specs.declared.write.Write.{Write}
 use Rattle.tact_base.specs.Setup.{Setup}
 use Rattle.run_model.specs.Histories.{last_moment, taken_by_act}
 use Rattle.run_model.specs.OwnWrites.{own}
-use Rattle.run_model.specs.Taking.{OriginState, origin_state, after_taking, told_have, told_cover, told_first, told_writes, log_of, have, clock}
+use Rattle.run_model.specs.Taking.{OriginState, origin_state, told_cover, told_first, told_writes, log_of, have, clock}
 use Rattle.run_model.specs.Order.{point}
 use Rattle.run_model.specs.Ranges.{IsWriteInRange, IsMessageInRange, IsEntryInRange}
 use Rattle.run_model.specs.Runs.{IsDue, Fits, FitsIfTaken, MayFollow, IsPart}
@@ -58,11 +58,20 @@ pub record PartSound (setup : Setup) (replica : ℕ) (part : List Entry) : Type 
   pub last_most : last_moment part ≤ MOMENT_MAX
   pub few : length part ≤ HISTORY_MAX
   pub entries : All (IsEntryInRange setup) part
-  pub logs : (origin : ℕ) → origin < setup.replicas → (origin ≡ replica → ⊥) → IsSoundLog setup (clock part) origin (origin_state part origin).log
-  pub covers : (origin : ℕ) → origin < setup.replicas → (origin ≡ replica → ⊥) → IsSoundCover (clock part) (length (origin_state part origin).log) (origin_state part origin).cover
+  pub logs : (origin : ℕ)
+      → origin < setup.replicas
+      → (origin ≡ replica → ⊥)
+      → IsSoundLog setup (clock part) origin (origin_state part origin).log
+  pub covers : (origin : ℕ)
+      → origin < setup.replicas
+      → (origin ≡ replica → ⊥)
+      → IsSoundCover (clock part) (length (origin_state part origin).log) (origin_state part origin).cover
 
 -- a log goes on being so while the clock rises
-IsSoundLog-rises : (setup : Setup) (low high origin : ℕ) (log : List Write) → low ≤ high → IsSoundLog setup low origin log → IsSoundLog setup high origin log
+IsSoundLog-rises : (setup : Setup) (low high origin : ℕ) (log : List Write)
+    → low ≤ high
+    → IsSoundLog setup low origin log
+    → IsSoundLog setup high origin log
 IsSoundLog-rises setup low high origin log rises sound = record {
   origins = sound.origins;
   indices = sound.indices;
@@ -72,7 +81,10 @@ IsSoundLog-rises setup low high origin log rises sound = record {
 }
 
 -- the covers of a message in range, those past its replicas among them
-told_stamps : (setup : Setup) (message : Message) → IsMessageInRange setup message → (origin : ℕ) → (told_cover message origin).stamp ≤ STAMP_MAX
+told_stamps : (setup : Setup) (message : Message)
+    → IsMessageInRange setup message
+    → (origin : ℕ)
+    → (told_cover message origin).stamp ≤ STAMP_MAX
 told_stamps setup message in_range origin = ⊎_elim
     (λ (within : origin < setup.replicas). (in_range.told origin within).stamp)
     (λ (past : setup.replicas ≤ origin).
@@ -85,7 +97,9 @@ module _ (setup : Setup) (part : List Entry) (entry : Entry) (sound : PartSound 
   abbrev longer : List Entry
   longer = part ++ entry ∷ []
 
-  asked_more : (accepted : Option Write) → accepted_in entry ≡ accepted → All (IsAskedInRange setup) (own longer)
+  asked_more : (accepted : Option Write)
+      → accepted_in entry ≡ accepted
+      → All (IsAskedInRange setup) (own longer)
   asked_more None none = subst (All (IsAskedInRange setup)) (sym (own-push_none part entry none)) sound.asked
   asked_more (Some write) some =
       subst (All (IsAskedInRange setup)) (sym (own-push_some part entry write some))
@@ -97,10 +111,15 @@ module _ (setup : Setup) (part : List Entry) (entry : Entry) (sound : PartSound 
       (λ write some. omega (arith, (accepted_is_next setup part entry write due some).stamp, due.clock_below))
       (λ message some. told_stamps setup message (taken_in_range setup entry.replica entry.act message due.in_range.act some))
 
-  fits_taken : (message : Message) → taken_by entry ≡ Some message → Fits setup entry.replica part message
+  fits_taken : (message : Message)
+      → taken_by entry ≡ Some message
+      → Fits setup entry.replica part message
   fits_taken message some = go entry.act fits some
     where
-      go : (done : Act) → FitsIfTaken setup entry.replica part done → taken_by_act done ≡ Some message → Fits setup entry.replica part message
+      go : (done : Act)
+          → FitsIfTaken setup entry.replica part done
+          → taken_by_act done ≡ Some message
+          → Fits setup entry.replica part message
       go (act.Take taken) fits some = subst (Fits setup entry.replica part) (same_Some taken message some) fits
       go (act.Call client number asked given) fits some = cc
       go (act.Send sent) fits some = cc
@@ -130,7 +149,8 @@ module _ (setup : Setup) (part : List Entry) (entry : Entry) (sound : PartSound 
       has : have entry.replica part origin ≡ length kept.log
       has = ap length (log_of-other entry.replica part origin other)
 
-      log_more : told_first message origin ≤ length kept.log → IsSoundLog setup (clock longer) origin (kept.log ++ drop held told)
+      log_more : told_first message origin ≤ length kept.log
+          → IsSoundLog setup (clock longer) origin (kept.log ++ drop held told)
       log_more reaches = record {
         origins = All-append IsOfOrigin kept.log (drop held told) log_before.origins
             (All-drop IsOfOrigin held told
@@ -186,11 +206,15 @@ module _ (setup : Setup) (part : List Entry) (entry : Entry) (sound : PartSound 
           (λ fits. record { count = fits; stamp = told-le-clock part entry message takes origin; moment = (in_range.told origin within).moment })
           (record { count = le_trans before.count (log_after-le kept.log (told_first message origin) told); stamp = le_trans before.stamp (clock-le-push part entry); moment = before.moment })
 
-    kept_log : (taken : Option Message) → taken_by entry ≡ taken → IsSoundLog setup (clock longer) origin (origin_state longer origin).log
+    kept_log : (taken : Option Message)
+        → taken_by entry ≡ taken
+        → IsSoundLog setup (clock longer) origin (origin_state longer origin).log
     kept_log None none = subst (λ (k : OriginState). IsSoundLog setup (clock longer) origin k.log) (sym (origin_state-push_none part entry origin none)) log_before
     kept_log (Some message) some = subst (λ (k : OriginState). IsSoundLog setup (clock longer) origin k.log) (sym (origin_state-push_some part entry origin message some)) (log_after_take message some)
 
-    kept_cover : (taken : Option Message) → taken_by entry ≡ taken → IsSoundCover (clock longer) (length (origin_state longer origin).log) (origin_state longer origin).cover
+    kept_cover : (taken : Option Message)
+        → taken_by entry ≡ taken
+        → IsSoundCover (clock longer) (length (origin_state longer origin).log) (origin_state longer origin).cover
     kept_cover None none =
         let before = sound.covers origin within other in
         subst (λ (k : OriginState). IsSoundCover (clock longer) (length k.log) k.cover) (sym (origin_state-push_none part entry origin none))
@@ -229,7 +253,9 @@ PartSound-nil setup replica = record {
 }
 
 -- Every part that can be is so.
-pub PartSound-part : (setup : Setup) (replica : ℕ) (part : List Entry) → IsPart setup replica part → PartSound setup replica part
+pub PartSound-part : (setup : Setup) (replica : ℕ) (part : List Entry)
+    → IsPart setup replica part
+    → PartSound setup replica part
 PartSound-part setup replica part = from_right (λ part. IsPart setup replica part → PartSound setup replica part)
     (λ is. PartSound-nil setup replica)
     (λ before entry sound is.

@@ -1,18 +1,16 @@
 -- What a part that can be says of each log and each cover, its own among them.
-use Rattle.std.proofs.Common.{◌≡◌, ℕ, ◌<◌, ◌≤◌, List, length, All, refl, sym, ap, subst, ⊎_elim, arith}
+use Rattle.std.proofs.Common.{◌≡◌, ℕ, ◌<◌, ◌≤◌, List, length, All, sym, ap, subst, ⊎_elim, arith}
 use Rattle.std.proofs.lemmas.Bool.{cases_eq}
-use Rattle.tact_base.specs.declared.limits.TheConstants.{MOMENT_MAX, STAMP_MAX, HISTORY_MAX}
-use Rattle.tact_base.specs.declared.write.Cover.{Cover}
-use Rattle.tact_base.specs.declared.write.Write.{Write}
+use Rattle.tact_base.specs.declared.limits.TheConstants.{MOMENT_MAX}
 use Rattle.tact_base.specs.Setup.{Setup}
 use Rattle.run_model.specs.OwnWrites.{own}
-use Rattle.run_model.specs.Taking.{origin_state, log_of, have, clock, cover_of}
+use Rattle.run_model.specs.Taking.{log_of, have, clock, cover_of}
 use Rattle.run_model.specs.Ranges.{IsWriteInRange}
 use Rattle.run_model.specs.declared.entry.Entry.{Entry}
 use Rattle.run_model.proofs.PartLemmas.{accepted_in}
 use Rattle.tact_base.proofs.ListLemmas.{length-filter_map}
 use Rattle.run_model.proofs.Accepted.{log_of-same, log_of-other}
-use Rattle.run_model.proofs.SoundViews.{own_cover, cover_of-same, cover_of-other}
+use Rattle.run_model.proofs.SoundViews.{cover_of-same, cover_of-other}
 use Rattle.run_promises.proofs.PartSound.{IsSoundLog, IsSoundCover, PartSound}
 
 module _ (setup : Setup) (replica : ℕ) (part : List Entry) (sound : PartSound setup replica part) where
@@ -36,7 +34,9 @@ module _ (setup : Setup) (replica : ℕ) (part : List Entry) (sound : PartSound 
   }
 
   -- each log
-  pub PartSound-log : (origin : ℕ) → origin < setup.replicas → IsSoundLog setup (clock part) origin (log_of replica part origin)
+  pub PartSound-log : (origin : ℕ)
+      → origin < setup.replicas
+      → IsSoundLog setup (clock part) origin (log_of replica part origin)
   PartSound-log origin within = ⊎_elim
       (λ (same : origin ≡ replica).
       subst (λ o. IsSoundLog setup (clock part) o (log_of replica part o)) (sym same)
@@ -46,7 +46,11 @@ module _ (setup : Setup) (replica : ℕ) (part : List Entry) (sound : PartSound 
       (cases_eq origin replica)
 
   -- each cover
-  pub PartSound-cover : (at : ℕ) → at ≤ MOMENT_MAX → (origin : ℕ) → origin < setup.replicas → IsSoundCover (clock part) (have replica part origin) (cover_of replica part at origin)
+  pub PartSound-cover : (at : ℕ)
+      → at ≤ MOMENT_MAX
+      → (origin : ℕ)
+      → origin < setup.replicas
+      → IsSoundCover (clock part) (have replica part origin) (cover_of replica part at origin)
   PartSound-cover at at_most origin within = ⊎_elim
       (λ (same : origin ≡ replica).
       subst (λ o. IsSoundCover (clock part) (have replica part o) (cover_of replica part at o)) (sym same)

@@ -1,28 +1,30 @@
 -- In a run what a peer hasn't seen is within the share lent for it.
-use Rattle.std.proofs.Common.{◌≡◌, ℕ, ◌+◌, ◌<◌, ◌≤◌, Bool, true, false, cond, nat_le, List, [], ◌∷◌, filter, sum_by, refl, sym, ◌∙◌, le_trans, arith}
+use Rattle.std.proofs.Common.{◌≡◌, ℕ, ◌≤◌, true, nat_le, List, filter, le_trans, arith}
 use Rattle.std.proofs.lemmas.Bool.{leb-true, le-leb}
-use Rattle.std.proofs.lemmas.List.Sums.{sum_by-cons}
-use Rattle.tact_base.proofs.OrderSums.{sum_by-weights_on}
-use Rattle.tact_base.specs.Sums.{above_zero, below_zero, on_conit, weights_on}
+use Rattle.tact_base.specs.Sums.{above_zero, below_zero, weights_on}
 use Rattle.tact_base.specs.declared.conit_list.Weight.{Weight}
 use Rattle.tact_base.specs.declared.write.Write.{Write}
 use Rattle.tact_base.specs.Setup.{Setup}
 use Rattle.run_model.specs.Histories.{part_of}
 use Rattle.run_model.specs.OwnWrites.{own}
 use Rattle.run_model.specs.Taking.{known, have}
-use Rattle.run_model.specs.Missing.{maybe_missed}
 use Rattle.run_model.specs.Promises.{IsWithin}
-use Rattle.run_model.specs.Reference.{unseen}
 use Rattle.run_model.specs.declared.entry.Entry.{Entry}
 use Rattle.run_model.proofs.Sound.{Sound}
 use Rattle.tact_base.proofs.FilterSums.{weights_on-filter-le}
 use Rattle.run_promises.proofs.KeepsShares.{KeepsShares}
 
 -- a later first place passes fewer
-from_later : (early late index : ℕ) → early ≤ late → nat_le late index ≡ true → nat_le early index ≡ true
+from_later : (early late index : ℕ)
+    → early ≤ late
+    → nat_le late index ≡ true
+    → nat_le early index ≡ true
 from_later early late index below passes = le-leb early index (le_trans below (leb-true late index passes))
 
-pub IsWithin-from : (setup : Setup) (history : List Entry) → Sound setup history → ((replica : ℕ) → KeepsShares setup replica (part_of history replica)) → IsWithin setup history
+pub IsWithin-from : (setup : Setup) (history : List Entry)
+    → Sound setup history
+    → ((replica : ℕ) → KeepsShares setup replica (part_of history replica))
+    → IsWithin setup history
 IsWithin-from setup history sound shares replica peer conit replica_in peer_in other conit_in =
     let writes = own (part_of history replica) in
     let told = known (part_of history replica) peer replica in

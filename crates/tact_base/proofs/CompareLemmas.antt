@@ -51,7 +51,9 @@ module _ (a b : Write) where
   pub before_cases : (comes_before a b ≡ true) ⊎ ((comes_before b a ≡ true) ⊎ AreTied a b)
   before_cases = go (write_cmp a b) refl
     where
-      go : (o : Ordering) → write_cmp a b ≡ o → (is_lt o ≡ true) ⊎ ((comes_before b a ≡ true) ⊎ AreTied a b)
+      go : (o : Ordering)
+          → write_cmp a b ≡ o
+          → (is_lt o ≡ true) ⊎ ((comes_before b a ≡ true) ⊎ AreTied a b)
       go Less is = inl refl
       go Equal is = inr (inr (write_tied a b is))
       go Greater is = inr (inl (ap is_lt (write_total.antisymm b a ∙ ap ordering_reverse is)))
@@ -92,7 +94,10 @@ pub before_tied : (a b : Write) → AreTied a b → comes_before a b ≡ false
 before_tied a b tied = rw (tied.stamp, tied.origin, tied.index) (before_itself b)
 
 -- what comes before the second comes before what doesn't come before the second
-pub before_upto : (a b c : Write) → comes_before a b ≡ true → comes_before c b ≡ false → comes_before a c ≡ true
+pub before_upto : (a b c : Write)
+    → comes_before a b ≡ true
+    → comes_before c b ≡ false
+    → comes_before a c ≡ true
 before_upto a b c first later = go (comes_before a c) refl
   where
     go : (is : Bool) → comes_before a c ≡ is → is ≡ true
@@ -100,7 +105,10 @@ before_upto a b c first later = go (comes_before a c) refl
     go false h = absurd (false≢true (sym (before_order.chain a c b h later) ∙ first))
 
 -- what comes before what doesn't come before the third comes before the third
-pub before_from : (a b c : Write) → comes_before b a ≡ false → comes_before b c ≡ true → comes_before a c ≡ true
+pub before_from : (a b c : Write)
+    → comes_before b a ≡ false
+    → comes_before b c ≡ true
+    → comes_before a c ≡ true
 before_from a b c first later = go (comes_before a c) refl
   where
     go : (is : Bool) → comes_before a c ≡ is → is ≡ true
@@ -108,9 +116,15 @@ before_from a b c first later = go (comes_before a c) refl
     go false h = absurd (false≢true (sym (before_order.chain b a c first h) ∙ later))
 
 -- the order is transitive
-pub before_trans : (a b c : Write) → comes_before a b ≡ true → comes_before b c ≡ true → comes_before a c ≡ true
+pub before_trans : (a b c : Write)
+    → comes_before a b ≡ true
+    → comes_before b c ≡ true
+    → comes_before a c ≡ true
 before_trans a b c first later = before_upto a b c first (before_one_way b c later)
 
 -- and so is its other side
-pub not_before_trans : (a b c : Write) → comes_before b a ≡ false → comes_before c b ≡ false → comes_before c a ≡ false
+pub not_before_trans : (a b c : Write)
+    → comes_before b a ≡ false
+    → comes_before c b ≡ false
+    → comes_before c a ≡ false
 not_before_trans a b c first later = before_order.chain c b a later first

@@ -16,7 +16,9 @@ use Rattle.tact_base.specs.ConitList.{IsConitList, first_unordered, first_out_of
 use Rattle.tact_base.specs.declared.conit_list.ListFault.TheVariants.{TooMany, Unordered, Range}
 
 -- each part of a choice that gives nothing
-if_none : {A : Type 0} (b : Bool) (x : A) (o : Option A) → cond b (Some x) o ≡ None → (b ≡ false) × (o ≡ None)
+if_none : {A : Type 0} (b : Bool) (x : A) (o : Option A)
+    → cond b (Some x) o ≡ None
+    → (b ≡ false) × (o ≡ None)
 if_none true x o e = cc
 if_none false x o e = (refl, e)
 
@@ -29,7 +31,9 @@ map_none f (Some x) e = cc
 map_none f None e = refl
 
 -- no element passes
-pub position-None : {A : Type 0} (p : A → Bool) (xs : List A) → position p xs ≡ None → All (λ x. p x ≡ false) xs
+pub position-None : {A : Type 0} (p : A → Bool) (xs : List A)
+    → position p xs ≡ None
+    → All (λ x. p x ≡ false) xs
 position-None p xs none k d within =
     let past = (if_none_2 (nat_lt (position_or_len p xs) (length xs)) (position_or_len p xs) none) in
     let far : length xs ≤ position_or_len p xs = grind (arith, nat_tests) in
@@ -57,7 +61,9 @@ module _ {T : Type 0} (conit : T → ℕ) (in_limits : T → Bool) (items : List
       not_not false e = sym e
 
   -- their conits rise
-  pub IsConitList-rising : (k : ℕ) (d : T) → k + 1 < length items → conit (get_or items k d) < conit (get_or items (k + 1) d)
+  pub IsConitList-rising : (k : ℕ) (d : T)
+      → k + 1 < length items
+      → conit (get_or items k d) < conit (get_or items (k + 1) d)
   IsConitList-rising k d within =
       let rest = (if_none (ltb 4 (length items)) TooMany (option_or (option_map Unordered (first_unordered conit in_limits items)) (option_map Range (first_out_of_limits conit in_limits items))) good).1 in
       let none = map_none suc _ (map_none Unordered (first_unordered conit in_limits items) (or_none (option_map Unordered (first_unordered conit in_limits items)) _ rest).0) in
@@ -74,7 +80,9 @@ module _ {T : Type 0} (conit : T → ℕ) (in_limits : T → Bool) (items : List
       let on = filter (λ item. conit item == c) items in
       one on (AllPairs-filter (λ x y. conit x < conit y) (λ item. conit item == c) items (far items IsConitList-rising)) (filter_passes (λ item. conit item == c) items)
     where
-      far : (xs : List T) → ((k : ℕ) (d : T) → k + 1 < length xs → conit (get_or xs k d) < conit (get_or xs (k + 1) d)) → AllPairs (λ x y. conit x < conit y) xs
+      far : (xs : List T)
+          → ((k : ℕ) (d : T) → k + 1 < length xs → conit (get_or xs k d) < conit (get_or xs (k + 1) d))
+          → AllPairs (λ x y. conit x < conit y) xs
       far xs up i (suc j) d before within =
           let step : conit (get_or xs j d) < conit (get_or xs (suc j) d) = rw add-one at (up j d (omega arith)) in
           elim (cases_eq i j) [
@@ -83,7 +91,10 @@ module _ {T : Type 0} (conit : T → ℕ) (in_limits : T → Bool) (items : List
           ]
       far xs up i zero d before within = absurd (omega arith)
 
-      one : (xs : List T) → AllPairs (λ x y. conit x < conit y) xs → All (λ x. (conit x == c) ≡ true) xs → length xs ≤ 1
+      one : (xs : List T)
+          → AllPairs (λ x y. conit x < conit y) xs
+          → All (λ x. (conit x == c) ≡ true) xs
+          → length xs ≤ 1
       one [] pairs same = omega arith
       one (x ∷ []) pairs same = omega arith
       one (x ∷ y ∷ xs) pairs same =

@@ -1,5 +1,5 @@
 -- A cover after a told one, the least stamp over covers, and the least replica that has it.
-use Rattle.std.proofs.Common.{◌≡◌, ℕ, ◌<◌, ◌≤◌, min, suc, zero, ltb, ◌==◌, Bool, true, false, cond, nat_le, List, [], ◌∷◌, length, get_or, set, map, fold, All, refl, ap, ⊎_elim, get_or-set_same, get_or-set_other, arith}
+use Rattle.std.proofs.Common.{◌≡◌, ℕ, ◌<◌, ◌≤◌, min, suc, ltb, ◌==◌, Bool, true, false, cond, nat_le, List, [], ◌∷◌, length, get_or, set, map, fold, All, refl, ap, ⊎_elim, get_or-set_same, get_or-set_other, arith}
 use Rattle.std.specs.List.{IsFirstBest}
 use Rattle.std.proofs.lemmas.List.{get_or-map, length-map, length-set}
 use Rattle.std.proofs.lemmas.List.Elements.{All-nil, All-cons}
@@ -9,7 +9,8 @@ use Rattle.tact_base.specs.declared.write.Cover.{Cover}
 use Rattle.tact_base.specs.Covers.{is_later, later_cover, cover_after, least_of, least_stamp, slowest}
 
 -- the least of numbers
-least_from : (n : ℕ) (numbers : List ℕ) → (fold min n numbers ≤ n) × All (λ x. fold min n numbers ≤ x) numbers
+least_from : (n : ℕ) (numbers : List ℕ)
+    → (fold min n numbers ≤ n) × All (λ x. fold min n numbers ≤ x) numbers
 least_from n [] = (omega arith, All-nil (λ x. n ≤ x))
 least_from n (first ∷ numbers) =
     let rest = least_from (min n first) numbers in
@@ -36,19 +37,27 @@ fold_min-below m a (x ∷ xs) first rest =
     fold_min-below m (min a x) xs (omega arith) (λ k within. rest (suc k) (omega arith))
 
 -- and at least what is at most each
-pub least_of-ge : (m : ℕ) (xs : List ℕ) → 0 < length xs → ((k : ℕ) → k < length xs → m ≤ get_or xs k 0) → m ≤ least_of xs
+pub least_of-ge : (m : ℕ) (xs : List ℕ)
+    → 0 < length xs
+    → ((k : ℕ) → k < length xs → m ≤ get_or xs k 0)
+    → m ≤ least_of xs
 least_of-ge m [] some each = elim some [ ]
 least_of-ge m (x ∷ xs) some each = fold_min-below m x xs (each 0 (omega arith)) (λ k within. each (suc k) (omega arith))
 
 abbrev stamp_of : Cover → ℕ
 stamp_of cover = cover.stamp
 
-pub least_stamp-le : (covers : List Cover) (k : ℕ) (d : Cover) → k < length covers → least_stamp covers ≤ (get_or covers k d).stamp
+pub least_stamp-le : (covers : List Cover) (k : ℕ) (d : Cover)
+    → k < length covers
+    → least_stamp covers ≤ (get_or covers k d).stamp
 least_stamp-le covers k d within =
     let long = length-map covers stamp_of in
     rw (← get_or-map stamp_of covers k d 0 within) (least_of-le (map stamp_of covers) k (omega arith))
 
-pub least_stamp-ge : (m : ℕ) (covers : List Cover) (d : Cover) → 0 < length covers → ((k : ℕ) → k < length covers → m ≤ (get_or covers k d).stamp) → m ≤ least_stamp covers
+pub least_stamp-ge : (m : ℕ) (covers : List Cover) (d : Cover)
+    → 0 < length covers
+    → ((k : ℕ) → k < length covers → m ≤ (get_or covers k d).stamp)
+    → m ≤ least_stamp covers
 least_stamp-ge m covers d some each =
     let long = length-map covers stamp_of in
     least_of-ge m (map stamp_of covers) (omega arith)
@@ -68,10 +77,16 @@ module _ (covers : List Cover) (b : ℕ) (d : Cover) (first : IsFirstBest (λ x 
       (λ within. eq-eqb _ _ least_stamp-first)
 
 -- a cover after a told one is the told one, within the log, or the kept one
-pub cover_after-cases : (P : Cover → Type 0) (have : ℕ) (kept told : Cover) → (told.count ≤ have → P told) → P kept → P (cover_after have kept told)
+pub cover_after-cases : (P : Cover → Type 0) (have : ℕ) (kept told : Cover)
+    → (told.count ≤ have → P told)
+    → P kept
+    → P (cover_after have kept told)
 cover_after-cases P have kept told of_told of_kept = go (nat_le told.count have) refl (is_later kept told)
   where
-    go : (fits : Bool) → nat_le told.count have ≡ fits → (later : Bool) → P (cond fits (cond later told kept) kept)
+    go : (fits : Bool)
+        → nat_le told.count have ≡ fits
+        → (later : Bool)
+        → P (cond fits (cond later told kept) kept)
     go true is true = of_told (leb-true told.count have is)
     go true is false = of_kept
     go false is later = of_kept

@@ -17,7 +17,8 @@ module _ {A : Type 0} (P : List A → Type 0) (start : P []) (more : (xs : List 
   from_right xs = from_right_onto [] xs start
 
 -- the step of a fold
-pub fold-push : {A B : Type 0} (h : B → A → B) (b : B) (xs : List A) (x : A) → fold h b (xs ++ x ∷ []) ≡ h (fold h b xs) x
+pub fold-push : {A B : Type 0} (h : B → A → B) (b : B) (xs : List A) (x : A)
+    → fold h b (xs ++ x ∷ []) ≡ h (fold h b xs) x
 fold-push h b xs x = fold-append h b xs (x ∷ [])
 
 module _ {A : Type 0} (P : A → Type 0) where
@@ -34,21 +35,29 @@ module _ {A : Type 0} (P : A → Type 0) where
   All-one x p = All-cons P x [] p (All-nil P)
 
   -- each element of what is joined
-  pub All-flat_map : {X : Type 0} (f : X → List A) (xs : List X) → All (λ x. All P (f x)) xs → All P (flat_map f xs)
+  pub All-flat_map : {X : Type 0} (f : X → List A) (xs : List X)
+      → All (λ x. All P (f x)) xs
+      → All P (flat_map f xs)
   All-flat_map f [] all = All-nil P
   All-flat_map f (x ∷ xs) all =
       All-append P (f x) (flat_map f xs) (All-head (λ x. All P (f x)) x xs all) (All-flat_map f xs (All-tail (λ x. All P (f x)) x xs all))
 
-  pub All-from_flat_map : {X : Type 0} (f : X → List A) (xs : List X) → All P (flat_map f xs) → All (λ x. All P (f x)) xs
+  pub All-from_flat_map : {X : Type 0} (f : X → List A) (xs : List X)
+      → All P (flat_map f xs)
+      → All (λ x. All P (f x)) xs
   All-from_flat_map f [] all = All-nil (λ x. All P (f x))
   All-from_flat_map f (x ∷ xs) all =
       All-cons (λ x. All P (f x)) x xs (All-append_left (f x) (flat_map f xs) all) (All-from_flat_map f xs (All-append_right (f x) (flat_map f xs) all))
 
-  pub All-from_map : {X : Type 0} (f : X → A) (xs : List X) → All P (map f xs) → All (λ x. P (f x)) xs
+  pub All-from_map : {X : Type 0} (f : X → A) (xs : List X)
+      → All P (map f xs)
+      → All (λ x. P (f x)) xs
   All-from_map f xs all k d within = rw (get_or-map f xs k d (f d) within) at (all k (f d) (rw (length-map xs f) within))
 
 -- each number of a range
-pub All-range : (P : ℕ → Type 0) (start len : ℕ) → ((i : ℕ) → start ≤ i → i < start + len → P i) → All P (range_with_len start len)
+pub All-range : (P : ℕ → Type 0) (start len : ℕ)
+    → ((i : ℕ) → start ≤ i → i < start + len → P i)
+    → All P (range_with_len start len)
 All-range P start zero each = All-nil P
 All-range P start (suc len) each =
     All-cons P start (range_with_len (start + 1) len) (each start (omega arith) (omega arith))
@@ -72,13 +81,16 @@ module _ {A : Type 0} (p : A → Bool) where
       rw (here, filter_none xs (All-tail (λ x. p x ≡ false) x xs all))
 
   -- a filter of what is joined
-  pub filter-flat_map : {X : Type 0} (f : X → List A) (xs : List X) → filter p (flat_map f xs) ≡ flat_map (λ x. filter p (f x)) xs
+  pub filter-flat_map : {X : Type 0} (f : X → List A) (xs : List X)
+      → filter p (flat_map f xs) ≡ flat_map (λ x. filter p (f x)) xs
   filter-flat_map f [] = refl
   filter-flat_map f (x ∷ xs) = filter-append p (f x) (flat_map f xs) ∙ ap (λ rest. filter p (f x) ++ rest) (filter-flat_map f xs)
 
 module _ {A X : Type 0} where
   -- two functions that agree at each element join to the same list
-  pub flat_map_agree : (f g : X → List A) (xs : List X) → All (λ x. f x ≡ g x) xs → flat_map f xs ≡ flat_map g xs
+  pub flat_map_agree : (f g : X → List A) (xs : List X)
+      → All (λ x. f x ≡ g x) xs
+      → flat_map f xs ≡ flat_map g xs
   flat_map_agree f g [] all = refl
   flat_map_agree f g (x ∷ xs) all =
       rw (All-head (λ x. f x ≡ g x) x xs all, flat_map_agree f g xs (All-tail (λ x. f x ≡ g x) x xs all))
@@ -89,7 +101,11 @@ module _ {A X : Type 0} where
       rw (All-head (λ x. f x ≡ []) x xs all, flat_map_none f xs (All-tail (λ x. f x ≡ []) x xs all))
 
 -- over a range, where all but one number give nothing
-pub flat_map_at : {A : Type 0} (f : ℕ → List A) (start len at : ℕ) → start ≤ at → at < start + len → ((i : ℕ) → i ≢ at → f i ≡ []) → flat_map f (range_with_len start len) ≡ f at
+pub flat_map_at : {A : Type 0} (f : ℕ → List A) (start len at : ℕ)
+    → start ≤ at
+    → at < start + len
+    → ((i : ℕ) → i ≢ at → f i ≡ [])
+    → flat_map f (range_with_len start len) ≡ f at
 flat_map_at f start zero at low high none = absurd (omega arith)
 flat_map_at f start (suc len) at low high none = ⊎_elim
     (λ (here : start ≡ at).
@@ -100,10 +116,14 @@ flat_map_at f start (suc len) at low high none = ⊎_elim
     (cases_eq start at)
 
 -- what a function gives of the numbers below a bound, read within and past it
-pub get_or-map_range : {A : Type 0} (f : ℕ → A) (len at : ℕ) (d : A) → at < len → get_or (map f (range_with_len 0 len)) at d ≡ f at
+pub get_or-map_range : {A : Type 0} (f : ℕ → A) (len at : ℕ) (d : A)
+    → at < len
+    → get_or (map f (range_with_len 0 len)) at d ≡ f at
 get_or-map_range f len at d within = get_or-map-range_with_len f 0 len at at d within (omega arith)
 
-pub get_or-map_range_past : {A : Type 0} (f : ℕ → A) (len at : ℕ) (d : A) → len ≤ at → get_or (map f (range_with_len 0 len)) at d ≡ d
+pub get_or-map_range_past : {A : Type 0} (f : ℕ → A) (len at : ℕ) (d : A)
+    → len ≤ at
+    → get_or (map f (range_with_len 0 len)) at d ≡ d
 get_or-map_range_past f len at d past = get_or_past (map f (range_with_len 0 len)) at d (omega (arith, length-map-range_with_len f 0 len))
 
 -- the first few of joined lists, where the second is taken by what the first leaves

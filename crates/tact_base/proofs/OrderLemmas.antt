@@ -23,15 +23,20 @@ pub Apart-IsPermutation : (xs ys : List Write) → IsPermutation xs ys → Apart
 Apart-IsPermutation = AllPairs-IsPermutation AreApart AreApart-sym
 
 -- writes of which each has its place for its index
-pub Apart-from_indexes : (writes : List Write) → ((k : ℕ) (d : Write) → k < length writes → (get_or writes k d).index ≡ k) → Apart writes
+pub Apart-from_indexes : (writes : List Write)
+    → ((k : ℕ) (d : Write) → k < length writes → (get_or writes k d).index ≡ k)
+    → Apart writes
 Apart-from_indexes writes indexed i j d less within origin index =
     let one = indexed i d (omega arith) in
     let other = indexed j d within in
     omega arith
 
 -- the logs of different origins
-pub Apart-flat_map : (log : ℕ → List Write) (origins : List ℕ) → AllPairs (λ a b. a ≢ b) origins → All (λ origin. Apart (log origin)) origins
-    → All (λ origin. All (λ write. write.origin ≡ origin) (log origin)) origins → Apart (flat_map log origins)
+pub Apart-flat_map : (log : ℕ → List Write) (origins : List ℕ)
+    → AllPairs (λ a b. a ≢ b) origins
+    → All (λ origin. Apart (log origin)) origins
+    → All (λ origin. All (λ write. write.origin ≡ origin) (log origin)) origins
+    → Apart (flat_map log origins)
 Apart-flat_map log [] different apart own = AllPairs-nil AreApart
 Apart-flat_map log (origin ∷ origins) different apart own =
     let others = AllPairs-first (λ a b. a ≢ b) origin origins different in
@@ -46,19 +51,27 @@ Apart-flat_map log (origin ∷ origins) different apart own =
     (All-head (λ origin. All (λ write. write.origin ≡ origin) (log origin)) origin origins own))
 
 -- A write goes before a first that it comes before, and else behind it.
-pub with_write_ahead : (write first : Write) (rest : List Write) → comes_before write first ≡ true → with_write write (first ∷ rest) ≡ write ∷ first ∷ rest
+pub with_write_ahead : (write first : Write) (rest : List Write)
+    → comes_before write first ≡ true
+    → with_write write (first ∷ rest) ≡ write ∷ first ∷ rest
 with_write_ahead write first rest ahead = rw ahead refl
 
-pub with_write_behind : (write first : Write) (rest : List Write) → comes_before write first ≡ false → with_write write (first ∷ rest) ≡ first ∷ with_write write rest
+pub with_write_behind : (write first : Write) (rest : List Write)
+    → comes_before write first ≡ false
+    → with_write write (first ∷ rest) ≡ first ∷ with_write write rest
 with_write_behind write first rest behind = rw behind refl
 
 -- a write before all of a list goes to its front
-pub with_write_first : (write : Write) (writes : List Write) → All (λ later. comes_before write later ≡ true) writes → with_write write writes ≡ write ∷ writes
+pub with_write_first : (write : Write) (writes : List Write)
+    → All (λ later. comes_before write later ≡ true) writes
+    → with_write write writes ≡ write ∷ writes
 with_write_first write [] before = refl
 with_write_first write (first ∷ rest) before = with_write_ahead write first rest (All-head (λ later. comes_before write later ≡ true) first rest before)
 
 -- and one between a front and the rest goes there
-pub with_write_between : (write : Write) (front rest : List Write) → All (λ earlier. comes_before write earlier ≡ false) front → All (λ later. comes_before write later ≡ true) rest
+pub with_write_between : (write : Write) (front rest : List Write)
+    → All (λ earlier. comes_before write earlier ≡ false) front
+    → All (λ later. comes_before write later ≡ true) rest
     → with_write write (front ++ rest) ≡ front ++ write ∷ rest
 with_write_between write [] rest behind before = with_write_first write rest before
 with_write_between write (first ∷ front) rest behind before =
@@ -66,13 +79,16 @@ with_write_between write (first ∷ front) rest behind before =
     ∙ ap (λ (l : List Write). first ∷ l) (with_write_between write front rest (All-tail (λ earlier. comes_before write earlier ≡ false) first front behind) before)
 
 -- as std says where it goes
-pub with_write-insert : (write : Write) (writes : List Write) (i : ℕ) → All (λ earlier. comes_before write earlier ≡ false) (take i writes) → All (λ later. comes_before write later ≡ true) (drop i writes)
+pub with_write-insert : (write : Write) (writes : List Write) (i : ℕ)
+    → All (λ earlier. comes_before write earlier ≡ false) (take i writes)
+    → All (λ later. comes_before write later ≡ true) (drop i writes)
     → with_write write writes ≡ insert writes i write
 with_write-insert write writes i behind before =
     ap (with_write write) (sym (take-append-drop i writes)) ∙ with_write_between write (take i writes) (drop i writes) behind before
 
 -- a write put into its place
-pub IsPermutation-with_write : (write : Write) (writes : List Write) → IsPermutation (write ∷ writes) (with_write write writes)
+pub IsPermutation-with_write : (write : Write) (writes : List Write)
+    → IsPermutation (write ∷ writes) (with_write write writes)
 IsPermutation-with_write write [] = IsPermutation-refl (write ∷ [])
 IsPermutation-with_write write (first ∷ rest) =
     let later : IsPermutation (write ∷ first ∷ rest) (first ∷ with_write write rest) =
@@ -95,14 +111,20 @@ IsPermutation-in_order (write ∷ writes) =
 pub length-in_order : (writes : List Write) → length (in_order writes) ≡ length writes
 length-in_order writes = length_permutation writes (in_order writes) (IsPermutation-in_order writes)
 
-pub Contains-in_order : (writes : List Write) (write : Write) → Contains writes write → Contains (in_order writes) write
+pub Contains-in_order : (writes : List Write) (write : Write)
+    → Contains writes write
+    → Contains (in_order writes) write
 Contains-in_order writes write = Contains-permutation writes (in_order writes) write (IsPermutation-in_order writes)
 
-pub Contains-from_in_order : (writes : List Write) (write : Write) → Contains (in_order writes) write → Contains writes write
+pub Contains-from_in_order : (writes : List Write) (write : Write)
+    → Contains (in_order writes) write
+    → Contains writes write
 Contains-from_in_order writes write =
     Contains-permutation (in_order writes) writes write (IsPermutation-sym writes (in_order writes) (IsPermutation-in_order writes))
 
-pub All-in_order : (P : Write → Type 0) (writes : List Write) → All P writes → All P (in_order writes)
+pub All-in_order : (P : Write → Type 0) (writes : List Write)
+    → All P writes
+    → All P (in_order writes)
 All-in_order P writes = All-permutation P writes (in_order writes) (IsPermutation-in_order writes)
 
 -- by recursion: no later write comes before an earlier one
@@ -110,11 +132,16 @@ abbrev pub IsSortedByPlace : List Write → Type 0
 IsSortedByPlace [] = Unit {0}
 IsSortedByPlace (write ∷ writes) = All (λ later. comes_before later write ≡ false) writes × IsSortedByPlace writes
 
-pub IsSortedByPlace-with_write : (write : Write) (writes : List Write) → IsSortedByPlace writes → IsSortedByPlace (with_write write writes)
+pub IsSortedByPlace-with_write : (write : Write) (writes : List Write)
+    → IsSortedByPlace writes
+    → IsSortedByPlace (with_write write writes)
 IsSortedByPlace-with_write write [] ordered = (All-nil (λ later. comes_before later write ≡ false), tt)
 IsSortedByPlace-with_write write (first ∷ rest) ordered = go (IsSortedByPlace-with_write write rest ordered.1) (comes_before write first) refl
   where
-    go : IsSortedByPlace (with_write write rest) → (is : Bool) → comes_before write first ≡ is → IsSortedByPlace (if is then write ∷ first ∷ rest else first ∷ with_write write rest)
+    go : IsSortedByPlace (with_write write rest)
+        → (is : Bool)
+        → comes_before write first ≡ is
+        → IsSortedByPlace (if is then write ∷ first ∷ rest else first ∷ with_write write rest)
     go rest_ordered true is =
         let later = before_one_way write first is in (
           All-cons (λ later. comes_before later write ≡ false) first rest later
@@ -132,13 +159,17 @@ IsSortedByPlace-in_order [] = tt
 IsSortedByPlace-in_order (write ∷ writes) = IsSortedByPlace-with_write write (in_order writes) (IsSortedByPlace-in_order writes)
 
 -- the same as std says it
-pub IsSorted-from_ordered : (writes : List Write) → IsSortedByPlace writes → IsSorted write_cmp writes
+pub IsSorted-from_ordered : (writes : List Write)
+    → IsSortedByPlace writes
+    → IsSorted write_cmp writes
 IsSorted-from_ordered [] ordered k d low within = absurd (omega arith)
 IsSorted-from_ordered (write ∷ []) ordered k d low within = absurd (omega arith)
 IsSorted-from_ordered (write ∷ next ∷ rest) ordered zero d low within = All-head (λ later. comes_before later write ≡ false) next rest ordered.0
 IsSorted-from_ordered (write ∷ next ∷ rest) ordered (suc k) d low within = rw suc-add (IsSorted-from_ordered (next ∷ rest) ordered.1 k d (omega arith) (omega arith))
 
-pub IsSortedByPlace-from_sorted : (writes : List Write) → IsSorted write_cmp writes → IsSortedByPlace writes
+pub IsSortedByPlace-from_sorted : (writes : List Write)
+    → IsSorted write_cmp writes
+    → IsSortedByPlace writes
 IsSortedByPlace-from_sorted [] sorted = tt
 IsSortedByPlace-from_sorted (write ∷ writes) sorted = (
   λ k d within. sorted_far comes_before before_order (write ∷ writes) sorted 0 (suc k) d (omega arith) (omega arith),
@@ -154,12 +185,18 @@ abbrev pub IsRising : List Write → Type 0
 IsRising [] = Unit {0}
 IsRising (write ∷ writes) = All (λ later. comes_before write later ≡ true) writes × IsRising writes
 
-pub IsRising-with_write : (write : Write) (writes : List Write) → All (AreApart write) writes → IsRising writes → IsRising (with_write write writes)
+pub IsRising-with_write : (write : Write) (writes : List Write)
+    → All (AreApart write) writes
+    → IsRising writes
+    → IsRising (with_write write writes)
 IsRising-with_write write [] apart rising = (All-nil (λ later. comes_before write later ≡ true), tt)
 IsRising-with_write write (first ∷ rest) apart rising =
     go (IsRising-with_write write rest (All-tail (AreApart write) first rest apart) rising.1) (comes_before write first) refl
   where
-    go : IsRising (with_write write rest) → (is : Bool) → comes_before write first ≡ is → IsRising (if is then write ∷ first ∷ rest else first ∷ with_write write rest)
+    go : IsRising (with_write write rest)
+        → (is : Bool)
+        → comes_before write first ≡ is
+        → IsRising (if is then write ∷ first ∷ rest else first ∷ with_write write rest)
     go rest_rising true is = (
       All-cons (λ later. comes_before write later ≡ true) first rest is
           (All-weaker (λ later. comes_before first later ≡ true) (λ later. comes_before write later ≡ true) (λ x h. before_trans write first x is h) rest rising.0),
@@ -183,7 +220,12 @@ IsRising-in_order (write ∷ writes) apart =
     (IsRising-in_order writes (AllPairs-rest AreApart write writes apart))
 
 -- two rising lists that contain each other's first begin alike
-first_same : (a b : Write) (xs ys : List Write) → IsRising (a ∷ xs) → IsRising (b ∷ ys) → Contains (b ∷ ys) a → Contains (a ∷ xs) b → a ≡ b
+first_same : (a b : Write) (xs ys : List Write)
+    → IsRising (a ∷ xs)
+    → IsRising (b ∷ ys)
+    → Contains (b ∷ ys) a
+    → Contains (a ∷ xs) b
+    → a ≡ b
 first_same a b xs ys rising other in_other in_one =
     ⊎_elim (λ (is : b ≡ a). sym is)
     (λ (behind : Contains ys a).
@@ -196,16 +238,25 @@ first_same a b xs ys rising other in_other in_one =
     (Contains-cases b a ys in_other)
 
 -- two lists begin alike, the one rises and the other contains it: so it is behind the first
-rest_contained : (a b : Write) (xs ys : List Write) → a ≡ b → IsRising (a ∷ xs)
-    → ((write : Write) → Contains (a ∷ xs) write → Contains (b ∷ ys) write) → (write : Write) → Contains xs write → Contains ys write
+rest_contained : (a b : Write) (xs ys : List Write)
+    → a ≡ b
+    → IsRising (a ∷ xs)
+    → ((write : Write) → Contains (a ∷ xs) write → Contains (b ∷ ys) write)
+    → (write : Write)
+    → Contains xs write
+    → Contains ys write
 rest_contained a b xs ys same rising contained write within =
     ⊎_elim (λ (is : b ≡ write).
     absurd (false≢true (sym (before_itself write) ∙ rw (same ∙ is) at (All-contains (λ later. comes_before a later ≡ true) xs write rising.0 within))))
     (λ h. h) (Contains-cases b write ys (contained write (Contains-later a write xs within)))
 
 -- rising lists with the same writes are equal
-pub rising_same : (xs ys : List Write) → IsRising xs → IsRising ys
-    → ((write : Write) → Contains xs write → Contains ys write) → ((write : Write) → Contains ys write → Contains xs write) → xs ≡ ys
+pub rising_same : (xs ys : List Write)
+    → IsRising xs
+    → IsRising ys
+    → ((write : Write) → Contains xs write → Contains ys write)
+    → ((write : Write) → Contains ys write → Contains xs write)
+    → xs ≡ ys
 rising_same [] [] rising other contained back = refl
 rising_same [] (y ∷ ys) rising other contained back = absurd (Contains-none y (back y (Contains-first y y ys refl)))
 rising_same (x ∷ xs) [] rising other contained back = absurd (Contains-none x (contained x (Contains-first x x xs refl)))
@@ -215,14 +266,21 @@ rising_same (x ∷ xs) (y ∷ ys) rising other contained back =
     (rising_same xs ys rising.1 other.1 (rest_contained x y xs ys same rising contained) (rest_contained y x ys xs (sym same) other back))
 
 -- Lists with the same writes, no two alike in origin and index, are one list in order.
-pub in_order_same : (xs ys : List Write) → Apart xs → Apart ys
-    → ((write : Write) → Contains xs write → Contains ys write) → ((write : Write) → Contains ys write → Contains xs write) → in_order xs ≡ in_order ys
+pub in_order_same : (xs ys : List Write)
+    → Apart xs
+    → Apart ys
+    → ((write : Write) → Contains xs write → Contains ys write)
+    → ((write : Write) → Contains ys write → Contains xs write)
+    → in_order xs ≡ in_order ys
 in_order_same xs ys apart other contained back =
     rising_same (in_order xs) (in_order ys) (IsRising-in_order xs apart) (IsRising-in_order ys other)
     (λ write h. Contains-in_order ys write (contained write (Contains-from_in_order xs write h)))
     (λ write h. Contains-in_order xs write (back write (Contains-from_in_order ys write h)))
 
-pub in_order_moved : (xs ys : List Write) → Apart xs → IsPermutation xs ys → in_order xs ≡ in_order ys
+pub in_order_moved : (xs ys : List Write)
+    → Apart xs
+    → IsPermutation xs ys
+    → in_order xs ≡ in_order ys
 in_order_moved xs ys apart moved =
     in_order_same xs ys apart (Apart-IsPermutation xs ys moved apart)
     (λ write. Contains-permutation xs ys write moved) (λ write. Contains-permutation ys xs write (IsPermutation-sym xs ys moved))
@@ -234,7 +292,9 @@ in_order_rising (write ∷ writes) rising =
     ap (with_write write) (in_order_rising writes rising.1) ∙ with_write_first write writes rising.0
 
 -- as std says that the writes in order rise
-pub IsStrictlySortedBy-from_rising : (writes : List Write) → IsRising writes → IsStrictlySortedBy write_cmp writes
+pub IsStrictlySortedBy-from_rising : (writes : List Write)
+    → IsRising writes
+    → IsStrictlySortedBy write_cmp writes
 unfolding IsStrictlySortedBy
 IsStrictlySortedBy-from_rising [] rising = tt
 IsStrictlySortedBy-from_rising (write ∷ writes) rising = (
@@ -243,15 +303,23 @@ IsStrictlySortedBy-from_rising (write ∷ writes) rising = (
   IsStrictlySortedBy-from_rising writes rising.1,
 )
 
-pub IsStrictlySortedBy-in_order : (writes : List Write) → Apart writes → IsStrictlySortedBy write_cmp (in_order writes)
+pub IsStrictlySortedBy-in_order : (writes : List Write)
+    → Apart writes
+    → IsStrictlySortedBy write_cmp (in_order writes)
 IsStrictlySortedBy-in_order writes apart = IsStrictlySortedBy-from_rising (in_order writes) (IsRising-in_order writes apart)
 
 -- two writes, the first before the second, can be put in in any order
-with_both : (a b : Write) (writes : List Write) → comes_before a b ≡ true → with_write a (with_write b writes) ≡ with_write b (with_write a writes)
+with_both : (a b : Write) (writes : List Write)
+    → comes_before a b ≡ true
+    → with_write a (with_write b writes) ≡ with_write b (with_write a writes)
 with_both a b [] before = with_write_ahead a b [] before ∙ sym (with_write_behind b a [] (before_one_way a b before))
 with_both a b (first ∷ rest) before = go (with_both a b rest before) (comes_before b first) refl (comes_before a first) refl
   where
-    go : with_write a (with_write b rest) ≡ with_write b (with_write a rest) → (second : Bool) → comes_before b first ≡ second → (one : Bool) → comes_before a first ≡ one
+    go : with_write a (with_write b rest) ≡ with_write b (with_write a rest)
+        → (second : Bool)
+        → comes_before b first ≡ second
+        → (one : Bool)
+        → comes_before a first ≡ one
         → with_write a (if second then b ∷ first ∷ rest else first ∷ with_write b rest) ≡ with_write b (if one then a ∷ first ∷ rest else first ∷ with_write a rest)
     go same true b_first true a_first =
         with_write_ahead a b (first ∷ rest) before
@@ -264,12 +332,15 @@ with_both a b (first ∷ rest) before = go (with_both a b rest before) (comes_be
         with_write_behind a first (with_write b rest) a_first
         ∙ (ap (λ (l : List Write). first ∷ l) same ∙ sym (with_write_behind b first (with_write a rest) b_first))
 
-pub with_write_comm : (a b : Write) (writes : List Write) → AreApart a b → with_write a (with_write b writes) ≡ with_write b (with_write a writes)
+pub with_write_comm : (a b : Write) (writes : List Write)
+    → AreApart a b
+    → with_write a (with_write b writes) ≡ with_write b (with_write a writes)
 with_write_comm a b writes apart =
     ⊎_elim (with_both a b writes) (λ (back : comes_before b a ≡ true). sym (with_both b a writes back)) (before_cases_apart a b apart)
 
 -- One more write, anywhere, apart from those before it: it is put into its place.
-pub in_order_middle : (front : List Write) (write : Write) (back : List Write) → All (λ earlier. AreApart earlier write) front
+pub in_order_middle : (front : List Write) (write : Write) (back : List Write)
+    → All (λ earlier. AreApart earlier write) front
     → in_order (front ++ write ∷ back) ≡ with_write write (in_order (front ++ back))
 in_order_middle [] write back apart = refl
 in_order_middle (first ∷ front) write back apart =
@@ -277,6 +348,8 @@ in_order_middle (first ∷ front) write back apart =
     ∙ with_write_comm first write (in_order (front ++ back)) (All-head (λ earlier. AreApart earlier write) first front apart)
 
 -- one more write at the end
-pub in_order_push : (writes : List Write) (write : Write) → All (λ earlier. AreApart earlier write) writes → in_order (writes ++ write ∷ []) ≡ with_write write (in_order writes)
+pub in_order_push : (writes : List Write) (write : Write)
+    → All (λ earlier. AreApart earlier write) writes
+    → in_order (writes ++ write ∷ []) ≡ with_write write (in_order writes)
 in_order_push writes write apart =
     in_order_middle writes write [] apart ∙ ap (λ (l : List Write). with_write write (in_order l)) (append-nil writes)

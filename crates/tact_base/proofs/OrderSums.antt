@@ -1,6 +1,5 @@
 -- The sums of weights don't depend on the order of the writes.
-use Rattle.std.proofs.Common.{◌≡◌, ℕ, ◌+◌, ℤ, pos, negsuc, ◌+ℤ◌, ◌-ℤ◌, List, [], ◌∷◌, flat_map, map, sum_by, ◌==◌, IsPermutation, refl, sym, ap, ap₂, ◌∙◌, arith}
-use Rattle.std.proofs.lemmas.Int.{ints}
+use Rattle.std.proofs.Common.{◌≡◌, ℕ, ◌+◌, ℤ, pos, ◌-ℤ◌, List, [], ◌∷◌, flat_map, sum_by, ◌==◌, IsPermutation, refl, sym, ap, ap₂, ◌∙◌}
 use Rattle.std.proofs.lemmas.List.Sorted.{sum_by-IsPermutation}
 use Rattle.std.proofs.lemmas.List.Sums.{sum_by-append, sum_by-cons}
 use Rattle.tact_base.specs.Sums.{above_zero, below_zero, on_conit, weights_on, plus_sum, minus_sum, order_sum, net_sum, signed_sum}
@@ -12,20 +11,24 @@ use Rattle.tact_base.proofs.SumsLemmas.{signed_sum-parts}
 use Rattle.tact_base.proofs.OrderLemmas.{IsPermutation-in_order}
 
 -- a sum over joined lists
-pub sum_by-flat_map : {X Y : Type 0} (f : Y → ℕ) (g : X → List Y) (xs : List X) → sum_by f (flat_map g xs) ≡ sum_by (λ x. sum_by f (g x)) xs
+pub sum_by-flat_map : {X Y : Type 0} (f : Y → ℕ) (g : X → List Y) (xs : List X)
+    → sum_by f (flat_map g xs) ≡ sum_by (λ x. sum_by f (g x)) xs
 sum_by-flat_map f g [] = refl
 sum_by-flat_map f g (x ∷ xs) =
     sum_by-append f (g x) (flat_map g xs)
     ∙ (ap (λ (n : ℕ). sum_by f (g x) + n) (sum_by-flat_map f g xs) ∙ sym (sum_by-cons (λ x. sum_by f (g x)) x xs))
 
 -- a sum over the weights that writes have on a conit, write by write
-pub sum_by-weights_on : (f : Weight → ℕ) (writes : List Write) (conit : ℕ) → sum_by f (weights_on writes conit) ≡ sum_by (λ write. sum_by f (on_conit conit write.weights)) writes
+pub sum_by-weights_on : (f : Weight → ℕ) (writes : List Write) (conit : ℕ)
+    → sum_by f (weights_on writes conit) ≡ sum_by (λ write. sum_by f (on_conit conit write.weights)) writes
 sum_by-weights_on f writes conit =
     ap (sum_by f) (filter-flat_map (λ weight. weight.conit == conit) (λ (write : Write). write.weights) writes)
     ∙ sum_by-flat_map f (λ (write : Write). on_conit conit write.weights) writes
 
 -- so it is the same in another order
-weights-IsPermutation : (f : Weight → ℕ) (xs ys : List Write) (conit : ℕ) → IsPermutation xs ys → sum_by f (weights_on ys conit) ≡ sum_by f (weights_on xs conit)
+weights-IsPermutation : (f : Weight → ℕ) (xs ys : List Write) (conit : ℕ)
+    → IsPermutation xs ys
+    → sum_by f (weights_on ys conit) ≡ sum_by f (weights_on xs conit)
 weights-IsPermutation f xs ys conit moved =
     sum_by-weights_on f ys conit
     ∙ (sum_by-IsPermutation (λ write. sum_by f (on_conit conit write.weights)) xs ys moved ∙ sym (sum_by-weights_on f xs conit))

@@ -36,43 +36,66 @@ HasCounts-from_good s h =
     }
 
 -- a choice that gives none, where one side gives some
-none_from_cond : {A : Type 0} (b : Bool) (x : Option A) (y : A) → cond b x (Some y) ≡ None → (b ≡ true) × (x ≡ None)
+none_from_cond : {A : Type 0} (b : Bool) (x : Option A) (y : A)
+    → cond b x (Some y) ≡ None
+    → (b ≡ true) × (x ≡ None)
 none_from_cond true x y h = (refl, h)
 none_from_cond false x y h = cc
 
 -- a setup without a fault has good counts and no row at fault
-pub IsSetup-parts : (s : Setup) → IsSetup s → (are_counts_good s ≡ true) × (first_row_fault s ≡ None)
+pub IsSetup-parts : (s : Setup)
+    → IsSetup s
+    → (are_counts_good s ≡ true) × (first_row_fault s ≡ None)
 unfolding config_fault
 IsSetup-parts s h = none_from_cond (are_counts_good s) (first_row_fault s) BadCount h
 
 pub HasCounts-from_IsSetup : (s : Setup) → IsSetup s → HasCounts s
 HasCounts-from_IsSetup s h = HasCounts-from_good s (IsSetup-parts s h).0
 
-pub config_fault-at_counts : (s : Setup) → are_counts_good s ≡ false → config_fault s.replicas s.conits s.alphas s.loans ≡ Some BadCount
+pub config_fault-at_counts : (s : Setup)
+    → are_counts_good s ≡ false
+    → config_fault s.replicas s.conits s.alphas s.loans ≡ Some BadCount
 unfolding config_fault
 config_fault-at_counts s h = cond-false (are_counts_good s) (first_row_fault s) (Some BadCount) h
 
-pub config_fault-at_rows : (s : Setup) → are_counts_good s ≡ true → config_fault s.replicas s.conits s.alphas s.loans ≡ first_row_fault s
+pub config_fault-at_rows : (s : Setup)
+    → are_counts_good s ≡ true
+    → config_fault s.replicas s.conits s.alphas s.loans ≡ first_row_fault s
 unfolding config_fault
 config_fault-at_rows s h = cond-true (are_counts_good s) (first_row_fault s) (Some BadCount) h
 
 -- where an owner's numbers on a conit stand is within the lists
-pub place_in : (s : Setup) (owner conit : ℕ) → owner < s.replicas → conit < s.conits → place_of s owner conit < s.replicas * s.conits
+pub place_in : (s : Setup) (owner conit : ℕ)
+    → owner < s.replicas
+    → conit < s.conits
+    → place_of s owner conit < s.replicas * s.conits
 place_in s owner conit o c = omega (arith, mul-add-lt owner s.conits conit s.replicas o c)
 
-pub row_in : (s : Setup) → HasCounts s → (place : ℕ) → place < s.replicas * s.conits → place * s.replicas + s.replicas ≤ length s.loans
+pub row_in : (s : Setup)
+    → HasCounts s
+    → (place : ℕ)
+    → place < s.replicas * s.conits
+    → place * s.replicas + s.replicas ≤ length s.loans
 row_in s h place p = rw h.loans (row_fits place s.replicas (s.replicas * s.conits) s.replicas p (omega arith))
 
 pub places_are_few : (s : Setup) → HasCounts s → s.replicas * s.conits ≤ 128
 places_are_few s h = omega (arith, mul-le s.replicas s.conits 8 16 h.replicas_high h.conits_high)
 
-pub length-loans_of : (s : Setup) → HasCounts s → (owner conit : ℕ) → owner < s.replicas → conit < s.conits → length (loans_of s owner conit) ≡ s.replicas
+pub length-loans_of : (s : Setup)
+    → HasCounts s
+    → (owner conit : ℕ)
+    → owner < s.replicas
+    → conit < s.conits
+    → length (loans_of s owner conit) ≡ s.replicas
 length-loans_of s h owner conit o c =
     let fits = row_in s h (place_of s owner conit) (place_in s owner conit o c) in
     simp (length-take, length-drop) (omega arith)
 
 -- the place of the owner and the conit that a place stands for
-pub place_of-parts : (s : Setup) → HasCounts s → (place : ℕ) → place_of s (place / s.conits) (place % s.conits) ≡ place
+pub place_of-parts : (s : Setup)
+    → HasCounts s
+    → (place : ℕ)
+    → place_of s (place / s.conits) (place % s.conits) ≡ place
 place_of-parts s h place = div-add-mod' place s.conits
 
 -- an owner and a conit, as a row's fault takes them
@@ -83,27 +106,40 @@ row_of s pair = row_fault pair.0 pair.1 (alpha_of s pair.0 pair.1) (loans_of s p
 abbrev pub first_of : Setup → List (ℕ × ℕ) → Option ConfigFault
 first_of s pairs = slice_get (filter_map (row_of s) pairs) 0
 
-first_of-cons_some : (s : Setup) (pair : ℕ × ℕ) (pairs : List (ℕ × ℕ)) (fault : ConfigFault) → row_of s pair ≡ Some fault → first_of s (pair ∷ pairs) ≡ Some fault
+first_of-cons_some : (s : Setup) (pair : ℕ × ℕ) (pairs : List (ℕ × ℕ)) (fault : ConfigFault)
+    → row_of s pair ≡ Some fault
+    → first_of s (pair ∷ pairs) ≡ Some fault
 first_of-cons_some s pair pairs fault h = rw h refl
 
-first_of-cons_none : (s : Setup) (pair : ℕ × ℕ) (pairs : List (ℕ × ℕ)) → row_of s pair ≡ None → first_of s (pair ∷ pairs) ≡ first_of s pairs
+first_of-cons_none : (s : Setup) (pair : ℕ × ℕ) (pairs : List (ℕ × ℕ))
+    → row_of s pair ≡ None
+    → first_of s (pair ∷ pairs) ≡ first_of s pairs
 first_of-cons_none s pair pairs h = rw h refl
 
 length-owners_and_conits : (s : Setup) → length (owners_and_conits s) ≡ s.replicas * s.conits
 length-owners_and_conits s = length-map-range_with_len _ 0 (s.replicas * s.conits)
 
-get_or-owners_and_conits : (s : Setup) (place : ℕ) → place < s.replicas * s.conits → get_or (owners_and_conits s) place (0, 0) ≡ (place / s.conits, place % s.conits)
+get_or-owners_and_conits : (s : Setup) (place : ℕ)
+    → place < s.replicas * s.conits
+    → get_or (owners_and_conits s) place (0, 0) ≡ (place / s.conits, place % s.conits)
 get_or-owners_and_conits s place p = get_or-map-range_with_len _ 0 (s.replicas * s.conits) place place (0, 0) p (omega arith)
 
 -- one row on, from a place that has no fault, and at one that has
-pub first_of-drop_none : (s : Setup) (place : ℕ) → place < s.replicas * s.conits → row_of s (place / s.conits, place % s.conits) ≡ None → first_of s (drop (place + 1) (owners_and_conits s)) ≡ first_of s (drop place (owners_and_conits s))
+pub first_of-drop_none : (s : Setup) (place : ℕ)
+    → place < s.replicas * s.conits
+    → row_of s (place / s.conits, place % s.conits) ≡ None
+    → first_of s (drop (place + 1) (owners_and_conits s)) ≡ first_of s (drop place (owners_and_conits s))
 first_of-drop_none s place p h =
     let within : place < length (owners_and_conits s) = rw (length-owners_and_conits s) p in
     let next = at_drop_more (first_of s) (owners_and_conits s) place (0, 0) within in
     let at : row_of s (get_or (owners_and_conits s) place (0, 0)) ≡ None = rw (get_or-owners_and_conits s place p) h in
     sym (next ∙ first_of-cons_none s _ _ at)
 
-pub first_of-drop_at : (s : Setup) (place : ℕ) (fault : Option ConfigFault) → place < s.replicas * s.conits → row_of s (place / s.conits, place % s.conits) ≡ fault → is_some fault ≡ true → first_of s (drop place (owners_and_conits s)) ≡ fault
+pub first_of-drop_at : (s : Setup) (place : ℕ) (fault : Option ConfigFault)
+    → place < s.replicas * s.conits
+    → row_of s (place / s.conits, place % s.conits) ≡ fault
+    → is_some fault ≡ true
+    → first_of s (drop place (owners_and_conits s)) ≡ fault
 first_of-drop_at s place None p h some = cc
 first_of-drop_at s place (Some fault) p h some =
     let within : place < length (owners_and_conits s) = rw (length-owners_and_conits s) p in
@@ -111,13 +147,20 @@ first_of-drop_at s place (Some fault) p h some =
     let at : row_of s (get_or (owners_and_conits s) place (0, 0)) ≡ Some fault = rw (get_or-owners_and_conits s place p) h in
     next ∙ first_of-cons_some s _ _ fault at
 
-pub first_of-drop_all : (s : Setup) (place : ℕ) → s.replicas * s.conits ≤ place → first_of s (drop place (owners_and_conits s)) ≡ None
+pub first_of-drop_all : (s : Setup) (place : ℕ)
+    → s.replicas * s.conits ≤ place
+    → first_of s (drop place (owners_and_conits s)) ≡ None
 first_of-drop_all s place p = at_drop_all (first_of s) (owners_and_conits s) place (rw (length-owners_and_conits s) p)
 
-pub row_of-at_place : (s : Setup) (place : ℕ) → row_of s (place / s.conits, place % s.conits) ≡ row_fault (place / s.conits) (place % s.conits) (get_or s.alphas place 0) (slice_range s.loans (place * s.replicas) (place * s.replicas + s.replicas))
+pub row_of-at_place : (s : Setup) (place : ℕ)
+    → row_of s (place / s.conits, place % s.conits) ≡ row_fault (place / s.conits) (place % s.conits) (get_or s.alphas place 0) (slice_range s.loans (place * s.replicas) (place * s.replicas + s.replicas))
 row_of-at_place s place = ap (λ at. row_fault (place / s.conits) (place % s.conits) (get_or s.alphas at 0) (slice_range s.loans (at * s.replicas) (at * s.replicas + s.replicas))) (div-add-mod' place s.conits)
 
-pub owner_in_row : (s : Setup) → HasCounts s → (place : ℕ) → place < s.replicas * s.conits → place / s.conits < length (slice_range s.loans (place * s.replicas) (place * s.replicas + s.replicas))
+pub owner_in_row : (s : Setup)
+    → HasCounts s
+    → (place : ℕ)
+    → place < s.replicas * s.conits
+    → place / s.conits < length (slice_range s.loans (place * s.replicas) (place * s.replicas + s.replicas))
 owner_in_row s h place p =
     let owner : place / s.conits < s.replicas = div_below place s.conits s.replicas (omega (arith, h.conits_low)) p in
     let fits = row_in s h place p in
@@ -128,11 +171,20 @@ none_from_is_some None h = refl
 none_from_is_some (Some x) h = cc
 
 -- where the first is none, each is
-none_at : {X Y : Type 0} (f : X → Option Y) (xs : List X) (k : ℕ) (d : X) → slice_get (filter_map f xs) 0 ≡ None → k < length xs → f (get_or xs k d) ≡ None
+none_at : {X Y : Type 0} (f : X → Option Y) (xs : List X) (k : ℕ) (d : X)
+    → slice_get (filter_map f xs) 0 ≡ None
+    → k < length xs
+    → f (get_or xs k d) ≡ None
 none_at f [] k d h p = absurd (omega arith)
 none_at f (x ∷ xs) k d h p = none_at_cons f x xs k d (none_at f xs) (f x) refl h p
   where
-    none_at_cons : {X Y : Type 0} (f : X → Option Y) (x : X) (xs : List X) (k : ℕ) (d : X) → ((k : ℕ) (d : X) → slice_get (filter_map f xs) 0 ≡ None → k < length xs → f (get_or xs k d) ≡ None) → (o : Option Y) → f x ≡ o → slice_get (cons_option o (filter_map f xs)) 0 ≡ None → k < suc (length xs) → f (get_or (x ∷ xs) k d) ≡ None
+    none_at_cons : {X Y : Type 0} (f : X → Option Y) (x : X) (xs : List X) (k : ℕ) (d : X)
+        → ((k : ℕ) (d : X) → slice_get (filter_map f xs) 0 ≡ None → k < length xs → f (get_or xs k d) ≡ None)
+        → (o : Option Y)
+        → f x ≡ o
+        → slice_get (cons_option o (filter_map f xs)) 0 ≡ None
+        → k < suc (length xs)
+        → f (get_or (x ∷ xs) k d) ≡ None
     none_at_cons f x xs k d rest (Some y) e h p = cc
     none_at_cons f x xs zero d rest None e h p = e
     none_at_cons f x xs (suc k) d rest None e h p = rest k d h (omega arith)
@@ -144,13 +196,17 @@ pub record HasRow (s : Setup) (owner conit : ℕ) : Type 0 where
   pub total : sum (loans_of s owner conit) ≤ alpha_of s owner conit
 
 -- of a choice among three that gives none, no test holds
-none_from_tests : {A : Type 0} (a b c : Bool) (x y z : A) → cond a (Some x) (cond b (Some y) (cond c (Some z) None)) ≡ None → (a ≡ false) × (b ≡ false) × (c ≡ false)
+none_from_tests : {A : Type 0} (a b c : Bool) (x y z : A)
+    → cond a (Some x) (cond b (Some y) (cond c (Some z) None)) ≡ None
+    → (a ≡ false) × (b ≡ false) × (c ≡ false)
 none_from_tests false false false x y z h = (refl, refl, refl)
 none_from_tests true b c x y z h = cc
 none_from_tests false true c x y z h = cc
 none_from_tests false false true x y z h = cc
 
-HasRow-from_fault : (s : Setup) (owner conit : ℕ) → row_fault owner conit (alpha_of s owner conit) (loans_of s owner conit) ≡ None → HasRow s owner conit
+HasRow-from_fault : (s : Setup) (owner conit : ℕ)
+    → row_fault owner conit (alpha_of s owner conit) (loans_of s owner conit) ≡ None
+    → HasRow s owner conit
 HasRow-from_fault s owner conit h =
     let tests = none_from_tests _ _ _ (AlphaOver owner conit) (OwnLoan owner conit) (LoansOver owner conit) h in
     record {
@@ -159,7 +215,12 @@ HasRow-from_fault s owner conit h =
       total = ltb-false _ _ tests.2;
     }
 
-pub HasRow-from_IsSetup : (s : Setup) → IsSetup s → (owner conit : ℕ) → owner < s.replicas → conit < s.conits → HasRow s owner conit
+pub HasRow-from_IsSetup : (s : Setup)
+    → IsSetup s
+    → (owner conit : ℕ)
+    → owner < s.replicas
+    → conit < s.conits
+    → HasRow s owner conit
 HasRow-from_IsSetup s h owner conit o c =
     let place = place_of s owner conit in
     let p = place_in s owner conit o c in
@@ -169,12 +230,17 @@ HasRow-from_IsSetup s h owner conit o c =
     HasRow-from_fault s owner conit parts
 
 -- one owner and conit on, of a text that has a part for each
-pub flat_map_more_rows : (s : Setup) (f : ℕ × ℕ → List ℕ) (front text : List ℕ) (place : ℕ) → place < s.replicas * s.conits → text ≡ front ++ flat_map f (take place (owners_and_conits s)) → text ++ f (place / s.conits, place % s.conits) ≡ front ++ flat_map f (take (place + 1) (owners_and_conits s))
+pub flat_map_more_rows : (s : Setup) (f : ℕ × ℕ → List ℕ) (front text : List ℕ) (place : ℕ)
+    → place < s.replicas * s.conits
+    → text ≡ front ++ flat_map f (take place (owners_and_conits s))
+    → text ++ f (place / s.conits, place % s.conits) ≡ front ++ flat_map f (take (place + 1) (owners_and_conits s))
 flat_map_more_rows s f front text place p e =
     let within : place < length (owners_and_conits s) = rw (length-owners_and_conits s) p in
     let more = take_more (owners_and_conits s) place (0, 0) within in
     let at = get_or-owners_and_conits s place p in
     rw (more, at, e) (flat_map_more f front (take place (owners_and_conits s)) (place / s.conits, place % s.conits))
 
-pub take_all_rows : (s : Setup) (place : ℕ) → s.replicas * s.conits ≤ place → take place (owners_and_conits s) ≡ owners_and_conits s
+pub take_all_rows : (s : Setup) (place : ℕ)
+    → s.replicas * s.conits ≤ place
+    → take place (owners_and_conits s) ≡ owners_and_conits s
 take_all_rows s place p = take_all place (owners_and_conits s) (rw (length-owners_and_conits s) p)

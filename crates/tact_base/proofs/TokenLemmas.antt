@@ -12,12 +12,14 @@ use Rattle.tact_base.specs.declared.numbers.NumberFault.TheVariants.{Empty, NotD
 use Rattle.tact_base.specs.declared.tokens.TokenFault.TheVariants.{OutOfRange}
 
 -- further digits make a number no smaller
-fold-le : (digits : List ℕ) (value : ℕ) → value ≤ fold (λ value digit. 10 * value + (digit - 48)) value digits
+fold-le : (digits : List ℕ) (value : ℕ)
+    → value ≤ fold (λ value digit. 10 * value + (digit - 48)) value digits
 fold-le [] value = omega arith
 fold-le (digit ∷ digits) value = omega (arith, fold-le digits (10 * value + (digit - 48)))
 
 -- the first digits of a number say no more than all
-pub decimal_value-take-le : (k : ℕ) (digits : List ℕ) → decimal_value (take k digits) ≤ decimal_value digits
+pub decimal_value-take-le : (k : ℕ) (digits : List ℕ)
+    → decimal_value (take k digits) ≤ decimal_value digits
 decimal_value-take-le k digits =
     let value = decimal_value (take k digits) in
     let whole : fold (λ value digit. 10 * value + (digit - 48)) value (drop k digits) ≡ decimal_value digits =
@@ -25,7 +27,9 @@ decimal_value-take-le k digits =
     omega (arith, fold-le (drop k digits) value)
 
 -- where all are digits, all are the digits at the front
-pub take_while-all : (token : List ℕ) → list_all is_ascii_digit token ≡ true → take_while is_ascii_digit token ≡ token
+pub take_while-all : (token : List ℕ)
+    → list_all is_ascii_digit token ≡ true
+    → take_while is_ascii_digit token ≡ token
 take_while-all token digits =
     let n = prefix_len is_ascii_digit token in
     take_all n token (⊎_elim
@@ -53,7 +57,8 @@ module _ (token : List ℕ) (most : ℕ) (number : is_number token ≡ true) whe
   number_of_digits = rw (lt-ltb 0 (length token) number_some, number_digits)
 
   -- it is in its field's range
-  pub whole_number-within : decimal_value token ≤ most → whole_number token most ≡ Ok (decimal_value token)
+  pub whole_number-within : decimal_value token ≤ most
+      → whole_number token most ≡ Ok (decimal_value token)
   whole_number-within within = rw (number_of_digits, le-leb (decimal_value token) most within)
 
   -- it is out of its field's range
@@ -61,7 +66,9 @@ module _ (token : List ℕ) (most : ℕ) (number : is_number token ≡ true) whe
   whole_number-above above = rw (number_of_digits, lt-leb (decimal_value token) most above)
 
   -- what is read at its front is it, or it is too large
-  pub read_whole : (read : Result ℕ NumberFault) (after : ℕ) → most < 2 ^ 64 → ReadsNumber token 0 read after →
+  pub read_whole : (read : Result ℕ NumberFault) (after : ℕ)
+      → most < 2 ^ 64
+      → ReadsNumber token 0 read after →
       MatchResult read (λ value. value ≡ decimal_value token) (λ _. most < decimal_value token)
   read_whole (Ok value) after fits reads = reads.2 ∙ ap decimal_value (take_while-all token number_digits)
   read_whole (Err Empty) after fits reads = let some = number_some in omega arith

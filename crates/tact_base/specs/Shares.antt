@@ -1,5 +1,5 @@
 -- How an amount meets a share (this project's own rule).
-use Rattle.std.specs.Prelude.{ℕ, ◌+◌, nat_lt, Option, None, Some, if◌then◌else◌}
+use Rattle.std.specs.Prelude.{ℕ, ◌+◌, nat_lt, if◌then◌else◌}
 use Rattle.tact_base.specs.declared.fit.Fit.{Fit}
 use Rattle.tact_base.specs.declared.fit.Fit.TheVariants.{Fits, TooHeavy, WaitHeld, WaitShare}
 

@@ -4,7 +4,11 @@ pub enum Fit {
     /// It is within each share, with what is reserved and what the peer may miss.
     Fits,
     /// By itself it passes the share of the peer's bound.
-    TooHeavy { peer: u32, weight: u64, share: u64 },
+    TooHeavy {
+        peer: u32,
+        weight: u64,
+        share: u64,
+    },
     /// With what is reserved it passes the share of the peer's bound.
     WaitHeld {
         peer: u32,

@@ -14,8 +14,6 @@ mod roomy_list;
 mod setup;
 mod slowest;
 mod sums;
-#[cfg(test)]
-mod tests;
 mod tokens;
 mod write;
 
@@ -29,9 +27,9 @@ pub use laws::{
     order_keeps_sums,
 };
 pub use limits::{
-    ALPHA_MAX, AMOUNT_MAX, CLIENTS, CONITS_MAX, HISTORY_MAX, INPUT_MAX, KEY_MAX, LENT_MAX, LINE_MAX,
-    LIST_MAX, MESSAGE_WRITES, MOMENT_MAX, REPLICAS_MAX, REPLICAS_MIN, SCRIPT_LINES, STAMP_MAX,
-    SUMMED_WRITES, VALUE_MAX, WEIGHT_MAX,
+    ALPHA_MAX, AMOUNT_MAX, CLIENTS, CONITS_MAX, HISTORY_MAX, INPUT_MAX, KEY_MAX, LENT_MAX,
+    LINE_MAX, LIST_MAX, MESSAGE_WRITES, MOMENT_MAX, REPLICAS_MAX, REPLICAS_MIN, SCRIPT_LINES,
+    STAMP_MAX, SUMMED_WRITES, VALUE_MAX, WEIGHT_MAX,
 };
 pub use numbers::{NumberFault, print_number, print_signed, read_number};
 pub use roomy_list::RoomyList;

@@ -3,7 +3,8 @@ use Rattle.std.specs.List.{IsFirstBest}
 use Rattle.tact_base.proofs.CoversLemmas.{least_stamp-first, slowest-first}
 use Rattle.tact_base.proofs.slowest.slowest_of.Goals as goal
 
-first : (c : goal.After-loop-replica) → IsFirstBest (λ x y. nat_lt x.stamp y.stamp) c.args.covers.now (length c.args.covers.now) c.loop-replica.slowest
+first : (c : goal.After-loop-replica)
+    → IsFirstBest (λ x y. nat_lt x.stamp y.stamp) c.args.covers.now (length c.args.covers.now) c.loop-replica.slowest
 first c =
     let end : length c.args.covers.now ≡ c.loop-replica.replica = omega arith in
     rw end c.loop-replica.invariant

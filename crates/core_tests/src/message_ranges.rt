@@ -1,7 +1,9 @@
-use super::*;
+//! Messages in range of a setup, and each way in which one isn't.
+
+use run_model::{Config, Message, is_message_in_range};
 use std::alloc::Global;
 use std::test::Fail;
-use tact_base::{Cover, Covers, Items, Numbers, Weight, WriteList};
+use tact_base::{Cover, Covers, Items, Numbers, Op, Weight, Weights, Write, WriteList};
 
 const ADD: Op = Op::Add { key: 7, delta: 1 };
 

@@ -1,8 +1,9 @@
-use super::*;
-use crate::{Message, Sums};
+//! The text of entries, and of a record's first and last lines.
+
+use run_model::{Act, Config, Entry, Line, Message, Reply, Request, Sums, end_of, head_of, line_of};
 use std::alloc::Global;
 use std::test::Fail;
-use tact_base::{Covers, Needs, Numbers, Weights, WriteList};
+use tact_base::{Bytes, Covers, Need, Needs, Numbers, Op, Weight, Weights, WriteList};
 
 const ADD: Op = Op::Add { key: 7, delta: 1 };
 
@@ -273,5 +274,43 @@ fn prints_other_acts(rt: HostRuntime) -> Result<(), Fail> {
         let due = format!(in alloc; "e 0 100 {text}\n")?;
         assert_eq!(rt; line.items(), due.as_bytes());
     }
+    Ok(())
+}
+
+#[test]
+fn begins_and_ends_records(rt: HostRuntime) -> Result<(), Fail> {
+    let cases = [
+        (
+            1,
+            [10, 10].as_slice(),
+            [0, 5, 5, 0].as_slice(),
+            "tact 1 2 1\nbound 0 0 10 0 5\nbound 1 0 10 5 0\nend 7\n",
+        ),
+        (
+            2,
+            [1, 2, 3, 4].as_slice(),
+            [0, 1, 0, 2, 3, 0, 4, 0].as_slice(),
+            "tact 1 2 2\nbound 0 0 1 0 1\nbound 0 1 2 0 2\nbound 1 0 3 3 0\nbound 1 1 4 4 0\nend 7\n",
+        ),
+    ];
+    for (conits, alphas, loans, text) in cases {
+        let config = Config::new(rt.alloc(), 2, conits, alphas, loans)?;
+        let mut out = Bytes::new(rt.alloc());
+        head_of(&config, &mut out)?;
+        end_of(7, &mut out)?;
+        assert_eq!(rt; out.items(), text.as_bytes());
+    }
+    Ok(())
+}
+
+#[test]
+fn copies_lines(rt: HostRuntime) -> Result<(), Fail> {
+    let firsts = Numbers::from_slice(rt.alloc(), &[1, 2])?;
+    let line = Line::Send {
+        from: 0,
+        to: 1,
+        firsts,
+    };
+    assert_eq!(rt; line.clone()?, line);
     Ok(())
 }

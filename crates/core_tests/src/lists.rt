@@ -1,121 +1,12 @@
-use super::*;
+//! Lists, weights and needs.
+
 use std::fmt::Debug;
 use std::process::Abort;
 use std::test::Fail;
-
-#[test]
-fn reads_a_number_at_a_place(rt: HostRuntime) {
-    let cases: [(&[u8], usize, Result<u64, NumberFault>, usize); 10] = [
-        (
-            b"18446744073709551615",
-            0,
-            Ok(18_446_744_073_709_551_615),
-            20,
-        ),
-        (
-            b"18446744073709551616",
-            0,
-            Err(NumberFault::TooLarge(19)),
-            0,
-        ),
-        (
-            b"a 99999999999999999999",
-            2,
-            Err(NumberFault::TooLarge(21)),
-            2,
-        ),
-        (b"x", 0, Err(NumberFault::NotDigit(0)), 0),
-        (b"-1", 0, Err(NumberFault::NotDigit(0)), 0),
-        (b"", 0, Err(NumberFault::Empty), 0),
-        (b"12", 2, Err(NumberFault::Empty), 2),
-        (b"0000000000000000000000001", 0, Ok(1), 25),
-        (b"007x", 1, Ok(7), 3),
-        (b"7:8", 2, Ok(8), 3),
-    ];
-    for (bytes, start, want, after) in cases {
-        assert!(rt; start <= bytes.len());
-        let mut place = start;
-        assert_eq!(rt; read_number(bytes, &mut place), want);
-        assert_eq!(rt; place, after);
-    }
-}
-
-#[test]
-fn reads_a_whole_token(rt: HostRuntime) {
-    let cases: [(&[u8], u64, Result<u64, TokenFault>); 10] = [
-        (b"0", 0, Ok(0)),
-        (b"0010", 10, Ok(10)),
-        (b"11", 10, Err(TokenFault::OutOfRange)),
-        (b"18446744073709551615", u64::MAX, Ok(u64::MAX)),
-        (
-            b"18446744073709551616",
-            u64::MAX,
-            Err(TokenFault::OutOfRange),
-        ),
-        (
-            b"99999999999999999999x",
-            u64::MAX,
-            Err(TokenFault::NotNumber),
-        ),
-        (b"", 9, Err(TokenFault::NotNumber)),
-        (b"-0", 9, Err(TokenFault::NotNumber)),
-        (b"+1", 9, Err(TokenFault::NotNumber)),
-        (b"1 ", 9, Err(TokenFault::NotNumber)),
-    ];
-    for (token, most, want) in cases {
-        assert_eq!(rt; whole_number(token, most), want);
-    }
-}
-
-#[test]
-fn reads_a_whole_signed_token(rt: HostRuntime) {
-    let cases: [(&[u8], i64, Result<i64, TokenFault>); 14] = [
-        (b"1000000", 1_000_000, Ok(1_000_000)),
-        (b"-1000000", 1_000_000, Ok(-1_000_000)),
-        (b"1000001", 1_000_000, Err(TokenFault::OutOfRange)),
-        (b"-1000001", 1_000_000, Err(TokenFault::OutOfRange)),
-        (b"9223372036854775807", i64::MAX, Ok(i64::MAX)),
-        (b"-9223372036854775807", i64::MAX, Ok(-i64::MAX)),
-        (
-            b"-9223372036854775808",
-            i64::MAX,
-            Err(TokenFault::OutOfRange),
-        ),
-        (
-            b"-18446744073709551616",
-            i64::MAX,
-            Err(TokenFault::OutOfRange),
-        ),
-        (b"-0", 0, Ok(0)),
-        (b"-007", 7, Ok(-7)),
-        (b"-", 9, Err(TokenFault::NotNumber)),
-        (b"--1", 9, Err(TokenFault::NotNumber)),
-        (b"1-", 9, Err(TokenFault::NotNumber)),
-        (b"", 9, Err(TokenFault::NotNumber)),
-    ];
-    for (token, size, want) in cases {
-        assert!(rt; size >= 0);
-        assert_eq!(rt; whole_signed(token, size as u64), want);
-    }
-}
-
-#[test]
-fn prints_numbers(rt: HostRuntime) -> Result<(), Fail> {
-    let mut out = Bytes::new(rt.alloc());
-    for value in [0, 10, u64::MAX] {
-        print_number(&mut out, value)?;
-    }
-    assert_eq!(rt; out.items(), b"01018446744073709551615".as_slice());
-    let mut out = Bytes::new(rt.alloc());
-    for value in [i64::MIN, -1, 0, i64::MAX] {
-        print_signed(&mut out, value)?;
-    }
-    assert_eq!(rt;
-        out.items(),
-        b"-9223372036854775808-109223372036854775807".as_slice()
-    );
-    Ok(())
-}
+use tact_base::{
+    ConitList, Cover, ListFault, Need, Needs, Numbers, OnConit, Op, Place, Row, Weight, Weights, Write,
+    WriteList, first_index,
+};
 
 fn weight(conit: u32, nweight: i64, oweight: u64) -> Weight {
     Weight {
@@ -280,4 +171,62 @@ fn copies_writes(rt: HostRuntime) -> Result<(), Fail> {
     assert_eq!(rt; copy.len(), 4);
     assert_eq!(rt; &copy.items()[2..], list.items());
     Ok(())
+}
+
+#[test]
+fn makes_lists_of_a_length(rt: HostRuntime) -> Result<(), Fail> {
+    let squares = Numbers::from_fn(rt.alloc(), 4, |at| u64::from(at) * u64::from(at))?;
+    assert_eq!(rt; squares.items(), [0, 1, 4, 9].as_slice());
+    let nines = Numbers::filled(rt.alloc(), 9, 3)?;
+    assert_eq!(rt; nines.items(), [9, 9, 9].as_slice());
+    Ok(())
+}
+
+#[test]
+fn orders_places(rt: HostRuntime) {
+    let place = |stamp, origin, index| Place {
+        stamp,
+        origin,
+        index,
+    };
+    for (first, second) in [
+        (place(1, 7, 9), place(2, 0, 0)),
+        (place(1, 0, 9), place(1, 1, 0)),
+        (place(1, 1, 0), place(1, 1, 1)),
+    ] {
+        assert!(rt; first < second, "{first:?} before {second:?}");
+    }
+}
+
+#[test]
+fn keeps_the_later_cover(rt: HostRuntime) {
+    let cover = |count, stamp, moment| Cover {
+        count,
+        stamp,
+        moment,
+    };
+    let kept = cover(2, 5, 7);
+    for (told, after) in [
+        (kept, kept),
+        (cover(3, 6, 8), cover(3, 6, 8)),
+        (cover(2, 6, 7), cover(2, 6, 7)),
+        (cover(1, 6, 8), kept),
+        (cover(3, 4, 8), kept),
+        (cover(3, 6, 6), kept),
+    ] {
+        assert_eq!(rt; kept.later(told), after, "after {told:?}");
+    }
+}
+
+#[test]
+fn begins_past_what_the_receiver_has(rt: HostRuntime) {
+    for (origin, have, known, given, first) in [
+        (0, 5, 2, 0, 2),
+        (0, 5, 2, 3, 3),
+        (0, 5, 9, 0, 5),
+        (0, 5, 0, 0, 0),
+        (1, 5, 0, 0, 5),
+    ] {
+        assert_eq!(rt; first_index(1, origin, have, known, given), first);
+    }
 }

@@ -1,0 +1,14 @@
+//! Tests of the ground and the core, by subject. Nothing else stands here: their crates are proved once
+//! without them.
+#![tactic(auto)]
+
+#[cfg(test)]
+mod lists;
+#[cfg(test)]
+mod message_ranges;
+#[cfg(test)]
+mod numbers;
+#[cfg(test)]
+mod setups;
+#[cfg(test)]
+mod texts;
