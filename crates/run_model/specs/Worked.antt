@@ -350,6 +350,44 @@ admission_of_one_replica_text =
     ++ codes "# need 0 num 0/10 order 0/0 stale 0/0\n"
     ++ codes "end 2\n"
 
+-- two conits, of which each owner lends another part of another alpha
+abbrev pub two_conits : Setup × List Line
+two_conits = (
+  setup 2 2 (10 ∷ 20 ∷ 6 ∷ 3 ∷ []) (0 ∷ 4 ∷ 0 ∷ 7 ∷ 6 ∷ 0 ∷ 2 ∷ 0 ∷ []),
+  line.Write 0 0 (op.Add 7 (pos 1)) (weight 0 (pos 6) 2 ∷ weight 1 (negsuc 1) 1 ∷ [])
+      ∷ line.Write 0 0 (op.Add 7 (pos 1)) (weight 0 (negsuc 5) 0 ∷ weight 1 (negsuc 0) 1 ∷ [])
+      ∷ line.Write 1 0 (op.Add 7 (pos 1)) (weight 0 (pos 5) 1 ∷ [])
+      ∷ line.Lend 0 1 0 6
+      ∷ line.Read 0 1 7 (need 0 10 2 0 ∷ need 1 7 1 0 ∷ [])
+      ∷ line.Send 0 1 (0 ∷ 0 ∷ [])
+      ∷ line.Take 1 0 0
+      ∷ line.Write 1 0 (op.Add 7 (pos 1)) (weight 0 (pos 5) 1 ∷ [])
+      ∷ line.Read 1 0 7 (need 0 6 5 0 ∷ need 1 2 1 0 ∷ [])
+      ∷ line.Back 1 0 0 6
+      ∷ line.Back 1 0 0 5
+      ∷ line.Ref 1 ∷ [],
+)
+
+abbrev pub two_conits_text : List ℕ
+two_conits_text =
+    codes "e 0 0 call 0 0 write add 7 1 0:6:2 1:-2:1 = done 0 1\n"
+    ++ codes "e 0 0 call 0 1 write add 7 1 0:-6:0 1:-1:1 = wait-share 1 1 2 0 1 2\n"
+    ++ codes "e 1 0 call 0 0 write add 7 1 0:5:1 = too-heavy 0 0 5 4\n"
+    ++ codes "e 0 0 lend 1 0 6\n"
+    ++ codes "e 0 0 call 1 0 read 7 0:10:2:0 1:7:1:0 = value 1 6 -2\n"
+    ++ codes "# need 0 num 0/10 order 2/2 stale 0/0\n"
+    ++ codes "# need 1 num 0/7 order 1/1 stale 0/0\n"
+    ++ codes "e 0 0 send 1 0 0 0\n"
+    ++ codes "e 1 0 take 0 0\n"
+    ++ codes "e 1 0 call 0 1 write add 7 1 0:5:1 = done 0 2\n"
+    ++ codes "e 1 0 call 0 2 read 7 0:6:5:0 1:2:1:0 = value 2 11 -2\n"
+    ++ codes "# need 0 num 0/6 order 1/5 stale 0/0\n"
+    ++ codes "# need 1 num 0/2 order 0/1 stale 0/0\n"
+    ++ codes "# back 1 0 0 6 free 5\n"
+    ++ codes "e 1 0 back 0 0 5\n"
+    ++ codes "# ref 1 -2\n"
+    ++ codes "end 10\n"
+
 -- a restart changes nothing but the count of entries
 abbrev pub restarts : Setup × List Line
 restarts = (

@@ -1,10 +1,11 @@
 //! Worked scripts: what the definitions make of them.
 ghost use Rattle.std.specs.Prelude.{◌≡◌};
 ghost use Rattle.run_model.specs.WorkedBoard.{bulletin_board, bulletin_board_text};
-ghost use Rattle.run_model.specs.Worked.{text_of, one_over_the_share, one_over_the_share_text, another_peer_still_misses, another_peer_still_misses_text, too_heavy, too_heavy_text, signs, signs_text, a_repeat, a_repeat_text, a_gap, a_gap_text, an_old_acknowledgement, an_old_acknowledgement_text, equal_stamps, equal_stamps_text, rollback, rollback_text, order_bound, order_bound_text, staleness, staleness_text, a_lost_return, a_lost_return_text, loans, loans_text, allowances, allowances_text, admission_of_one_replica, admission_of_one_replica_text, restarts, restarts_text};
+ghost use Rattle.run_model.specs.Worked.{text_of, one_over_the_share, one_over_the_share_text, another_peer_still_misses, another_peer_still_misses_text, too_heavy, too_heavy_text, signs, signs_text, a_repeat, a_repeat_text, a_gap, a_gap_text, an_old_acknowledgement, an_old_acknowledgement_text, equal_stamps, equal_stamps_text, rollback, rollback_text, order_bound, order_bound_text, staleness, staleness_text, a_lost_return, a_lost_return_text, loans, loans_text, allowances, allowances_text, admission_of_one_replica, admission_of_one_replica_text, restarts, restarts_text, two_conits, two_conits_text};
 
 /// The text of each worked script is what the definitions of histories, replies, messages and errors make
-/// of it. Each text was written down apart from them, and the checker computes the other side.
+/// of it, without the lines that a record begins with. Each text was written down apart from them, and the
+/// checker computes the other side.
 pub fn worked_scripts()
     ensures one_over_the_share { text_of one_over_the_share ≡ one_over_the_share_text }
     ensures another_peer_still_misses { text_of another_peer_still_misses ≡ another_peer_still_misses_text }
@@ -22,5 +23,6 @@ pub fn worked_scripts()
     ensures allowances { text_of allowances ≡ allowances_text }
     ensures admission_of_one_replica { text_of admission_of_one_replica ≡ admission_of_one_replica_text }
     ensures restarts { text_of restarts ≡ restarts_text }
+    ensures two_conits { text_of two_conits ≡ two_conits_text }
     ensures bulletin_board { text_of bulletin_board ≡ bulletin_board_text }
 {}

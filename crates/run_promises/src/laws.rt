@@ -1,5 +1,5 @@
 //! What is true of every run. Each function states it by its clauses, for all histories, and does nothing.
-ghost use Rattle.std.specs.Prelude.{ℕ, suc, List};
+ghost use Rattle.std.specs.Prelude.{ℕ, List};
 ghost use Rattle.tact_base.specs.Setup.{Setup, IsSetup};
 ghost use Rattle.run_model.specs.Histories.{part_of};
 ghost use Rattle.run_model.specs.Promises.{IsKept};

@@ -23,5 +23,6 @@ returns c = record {
   allowances = refl;
   admission_of_one_replica = refl;
   restarts = refl;
+  two_conits = refl;
   bulletin_board = text_of-bulletin_board;
 }
