@@ -4,7 +4,9 @@ ghost use Rattle.tact_base.specs.Setup.{are_counts_good, row_fault, first_row_fa
 
 use std::alloc::Global;
 use std::marker::Model;
-use tact_base::{ALPHA_MAX, CONITS_MAX, ConfigFault, NoMemory, Numbers, REPLICAS_MAX, REPLICAS_MIN};
+use tact_base::{
+    ALPHA_MAX, CONITS_MAX, ConfigFault, NoMemory, Numbers, REPLICAS_MAX, REPLICAS_MIN,
+};
 
 /// What a run is made for: the counts of replicas and conits, and for each owner and conit its alpha and
 /// the part of it that each holder is lent at the opening. Alphas and loans are in units of weight.

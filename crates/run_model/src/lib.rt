@@ -24,7 +24,7 @@ pub use laws::runs_agree;
 pub use ranges::is_message_in_range;
 pub use script_line::Line;
 pub use status::{ByteKind, InputKind, LineKind, LoadKind, Status, UsageKind};
+pub use tact_base::ConfigFault;
 pub use text::line_of;
 pub use tokens::{all_or_nothing, put_number, put_row, put_token};
-pub use tact_base::ConfigFault;
 pub use worked::worked_scripts;

@@ -239,4 +239,3 @@ fn print_need(need: &Need, out: &mut Bytes) -> Result<(), NoMemory>
     put_part(need.order, out)?;
     put_part(need.stale, out)
 }
-

@@ -178,6 +178,37 @@ module _ (setup : Setup) (history : List Entry) (sound : Sound setup history) (a
       unmapped None none = refl
       unmapped (Some one) none = cc
 
+-- what refuses a read for a need is no value
+need_refusal-no_value : (setup : Setup) (replica : ℕ) (part : List Entry) (moment : ℕ) (need : Need) (given : Reply)
+    → need_refusal setup replica part moment need ≡ Some given
+    → is_value given ≡ false
+need_refusal-no_value setup replica part moment need given some =
+    go (hindrance need (outs_of setup replica part need.conit) (order_sum (tentative setup replica part) need.conit) (slowest (covers_of setup replica part moment)) (first_late (covers_of setup replica part moment) replica (wanted_moment moment need))) some
+  where
+    go : (hindered : Option Hindrance)
+        → option_map (waiting_by need moment) hindered ≡ Some given
+        → is_value given ≡ false
+    go None some = cc
+    go (Some hindered) some = subst (λ g. is_value g ≡ false) (same_Some (waiting_by need moment hindered) given some) (waiting_by-no_value need moment hindered)
+
+-- a read that is answered with a value is refused for no need
+pub answered-unrefused : (setup : Setup) (replica : ℕ) (part : List Entry) (moment key : ℕ) (needs : List Need) (answer : ℤ) (sums : List ℤ)
+    → reply.Value answer sums ≡ reply_of setup replica part moment (request.Read key needs)
+    → first_some (need_refusal setup replica part moment) needs ≡ None
+answered-unrefused setup replica part moment key needs answer sums is =
+    let refusals = need_refusal setup replica part moment in
+    go (first_some refusals needs) (first_some-each refusals (λ given. is_value given ≡ false) (need_refusal-no_value setup replica part moment) needs) is
+  where
+    go : (first : Option Reply)
+        → ((given : Reply) → first ≡ Some given → is_value given ≡ false)
+        → reply.Value answer sums ≡ unwrap_or first (reply.Value (image setup replica part key) (map (λ (need : Need). value setup replica part need.conit) needs))
+        → first ≡ None
+    go None no_value is = refl
+    go (Some given) no_value is =
+        let yes : is_value given ≡ true = sym (ap is_value is) in
+        let no : is_value given ≡ false = no_value given refl in
+        cc
+
 -- A read that is answered with a value.
 module _ (setup : Setup) (history : List Entry) (entry : Entry) (sound : Sound setup history) (agree : LoansAgree setup history) (within : IsWithin setup history)
     (lawful : IsLawful setup history entry) (accepts : accepted_in entry ≡ None) (takes : taken_by entry ≡ None) where
@@ -202,34 +233,11 @@ module _ (setup : Setup) (history : List Entry) (entry : Entry) (sound : Sound s
       → reply.Value answer sums ≡ reply_of setup reader read_part entry.moment (request.Read key needs)
       → All (IsMet setup (history ++ entry ∷ []) reader entry.moment) needs
   meets key needs answer sums in_range is =
-      let refusals = need_refusal setup reader read_part entry.moment in
-      let none : first_some refusals needs ≡ None = unrefused (first_some refusals needs) (first_some-each refusals (λ given. is_value given ≡ false) no_value needs) is in
-      let each : All (λ need. need_refusal setup reader read_part entry.moment need ≡ None) needs = first_some-none refusals needs none in
+      let none = answered-unrefused setup reader read_part entry.moment key needs answer sums is in
+      let each : All (λ need. need_refusal setup reader read_part entry.moment need ≡ None) needs = first_some-none (need_refusal setup reader read_part entry.moment) needs none in
       λ k d inside.
       IsMet-after (get_or needs k d)
       (IsMet-before setup history sound agree within reader entry.moment lawful.due.in_range.replica (get_or needs k d) (in_range.1.each k d inside) (each k d inside))
-    where
-      no_value : (need : Need) (given : Reply)
-          → need_refusal setup reader read_part entry.moment need ≡ Some given
-          → is_value given ≡ false
-      no_value need given some =
-          go (hindrance need (outs_of setup reader read_part need.conit) (order_sum (tentative setup reader read_part) need.conit) (slowest (covers_of setup reader read_part entry.moment)) (first_late (covers_of setup reader read_part entry.moment) reader (wanted_moment entry.moment need))) some
-        where
-          go : (hindered : Option Hindrance)
-              → option_map (waiting_by need entry.moment) hindered ≡ Some given
-              → is_value given ≡ false
-          go None some = cc
-          go (Some hindered) some = subst (λ g. is_value g ≡ false) (same_Some (waiting_by need entry.moment hindered) given some) (waiting_by-no_value need entry.moment hindered)
-
-      unrefused : (first : Option Reply)
-          → ((given : Reply) → first ≡ Some given → is_value given ≡ false)
-          → reply.Value answer sums ≡ unwrap_or first (reply.Value (image setup reader read_part key) (map (λ (need : Need). value setup reader read_part need.conit) needs))
-          → first ≡ None
-      unrefused None no_value is = refl
-      unrefused (Some given) no_value is =
-          let yes : is_value given ≡ true = sym (ap is_value is) in
-          let no : is_value given ≡ false = no_value given refl in
-          cc
 
 -- Whatever an act is, where it is a read that is answered its needs are met.
 MeetsNeeds-due : (setup : Setup) (history : List Entry) (replica moment : ℕ) (done : Act)

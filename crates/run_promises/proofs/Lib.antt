@@ -14,3 +14,6 @@ pub mod Quiet
 pub mod NumErrors
 pub mod Answered
 pub mod Kept
+pub mod Staying
+pub mod StrictReads
+pub mod FreeCalls

@@ -59,7 +59,7 @@ module _ (setup : Setup) (history : List Entry) (entry : Entry) (accepts : accep
       map_agree (cover_of replica (part_of further replica) at) (cover_of replica (part_of history replica) at) (replicas_of setup)
       (all-numbers (cover_of replica (part_of further replica) at) (cover_of replica (part_of history replica) at) (quiet-cover_of replica at) (replicas_of setup))
 
-  quiet-seen : (replica : ℕ)
+  pub quiet-seen : (replica : ℕ)
       → seen setup replica (part_of further replica) ≡ seen setup replica (part_of history replica)
   quiet-seen replica =
       ap in_order (flat_map_agree (log_of replica (part_of further replica)) (log_of replica (part_of history replica)) (replicas_of setup)
@@ -69,7 +69,7 @@ module _ (setup : Setup) (history : List Entry) (entry : Entry) (accepts : accep
       → tentative setup replica (part_of further replica) ≡ tentative setup replica (part_of history replica)
   quiet-tentative replica = ap₂ tentative_past (ap least_stamp (quiet-covers_of replica 0)) (quiet-seen replica)
 
-  quiet-all_writes : all_writes setup further ≡ all_writes setup history
+  pub quiet-all_writes : all_writes setup further ≡ all_writes setup history
   quiet-all_writes =
       flat_map_agree (λ r. own (part_of further r)) (λ r. own (part_of history r)) (replicas_of setup) (all-numbers (λ r. own (part_of further r)) (λ r. own (part_of history r)) quiet-own (replicas_of setup))
 
