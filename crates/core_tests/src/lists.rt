@@ -4,8 +4,8 @@ use std::fmt::Debug;
 use std::process::Abort;
 use std::test::Fail;
 use tact_base::{
-    ConitList, Cover, ListFault, Need, Needs, Numbers, OnConit, Op, Place, Row, Weight, Weights, Write,
-    WriteList, first_index,
+    ConitList, Cover, ListFault, Need, Needs, Numbers, OnConit, Op, Place, Row, Weight, Weights,
+    Write, WriteList, first_index,
 };
 
 fn weight(conit: u32, nweight: i64, oweight: u64) -> Weight {

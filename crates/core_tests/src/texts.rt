@@ -1,6 +1,8 @@
 //! The text of entries, and of a record's first and last lines.
 
-use run_model::{Act, Config, Entry, Line, Message, Reply, Request, Sums, end_of, head_of, line_of};
+use run_model::{
+    Act, Config, Entry, Line, Message, Reply, Request, Sums, end_of, head_of, line_of,
+};
 use std::alloc::Global;
 use std::test::Fail;
 use tact_base::{Bytes, Covers, Need, Needs, Numbers, Op, Weight, Weights, WriteList};

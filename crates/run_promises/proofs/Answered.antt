@@ -1,5 +1,5 @@
 -- In a run each answered access keeps its three bounds.
-use Rattle.std.proofs.Common.{◌≡◌, ℕ, ◌+◌, ◌-◌, ◌<◌, ◌≤◌, ◌==◌, Bool, true, false, not, ◌&&◌, cond, nat_le, nat_lt, ℤ, List, [], ◌∷◌, ◌++◌, length, get_or, map, flat_map, sum, All, Option, None, Some, unwrap_or, refl, sym, ap, ap₂, ◌∙◌, subst, le_trans, zero-add, arith}
+use Rattle.std.proofs.Common.{◌≡◌, ℕ, ◌<◌, ◌≤◌, ◌==◌, Bool, true, false, not, ◌&&◌, cond, nat_le, nat_lt, ℤ, List, [], ◌∷◌, ◌++◌, length, get_or, map, sum, All, Option, None, Some, unwrap_or, refl, sym, ap, ap₂, ◌∙◌, subst, le_trans, zero-add, arith}
 use Rattle.std.specs.List.{range_with_len, enumerate_from, find}
 use Rattle.std.specs.Option.{option_map}
 use Rattle.std.specs.Prelude.{Any}

@@ -1,5 +1,5 @@
 -- In a run loans total exactly.
-use Rattle.std.proofs.Common.{◌≡◌, ℕ, ◌-◌, ◌≤◌, List, map, sum, sum_by, All, sym, arith}
+use Rattle.std.proofs.Common.{◌≡◌, ℕ, ◌≤◌, List, All, sym, arith}
 use Rattle.std.proofs.lemmas.List.Sums.{sum-map}
 use Rattle.tact_base.specs.Setup.{Setup, peers_of}
 use Rattle.run_model.specs.Histories.{part_of}

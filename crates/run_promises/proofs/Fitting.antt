@@ -1,15 +1,14 @@
 -- In a run each taken message fits where it is taken, and so each part is one that can be.
-use Rattle.std.proofs.Common.{◌≡◌, ℕ, ◌+◌, ◌-◌, ◌<◌, ◌≤◌, ◌==◌, List, length, get_or, drop, map, filter, slice_index, All, Some, refl, sym, ap, ◌∙◌, subst, lt_of_le_of_lt, arith}
-use Rattle.std.specs.List.{range_with_len}
+use Rattle.std.proofs.Common.{◌≡◌, ℕ, ◌+◌, ◌-◌, ◌<◌, ◌≤◌, ◌==◌, List, length, get_or, drop, slice_index, All, Some, refl, sym, ap, ◌∙◌, subst, lt_of_le_of_lt, arith}
 use Rattle.std.proofs.lemmas.List.{length-drop, get_or-drop, get_or-map}
 use Rattle.std.proofs.lemmas.List.Elements.{All-filter, All-drop, All-contains}
 use Rattle.std.proofs.lemmas.List.FromFn.{get_or-range_with_len}
 use Rattle.std.proofs.lemmas.Option.{same_Some}
 use Rattle.tact_base.specs.declared.write.Write.{Write}
 use Rattle.tact_base.specs.Setup.{Setup}
-use Rattle.run_model.specs.Histories.{part_of, sent_in, taken_by_act, EachAfter}
+use Rattle.run_model.specs.Histories.{part_of, sent_in, taken_by_act}
 use Rattle.run_model.specs.OwnWrites.{own}
-use Rattle.run_model.specs.Taking.{told_have, told_cover, told_first, told_writes, log_of, have, cover_of}
+use Rattle.run_model.specs.Taking.{told_have, told_cover, told_first, told_writes, have, cover_of}
 use Rattle.run_model.specs.Loans.{lent, returned as returned_to}
 use Rattle.run_model.specs.Order.{point}
 use Rattle.run_model.specs.Ranges.{IsMessageInRange, IsActInRange}

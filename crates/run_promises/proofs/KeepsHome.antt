@@ -1,10 +1,10 @@
 -- In a run no owner lends more than its alpha.
-use Rattle.std.proofs.Common.{◌≡◌, ℕ, ◌+◌, ◌-◌, ◌<◌, ◌≤◌, ◌==◌, ◌&&◌, Bool, true, false, cond, List, [], ◌∷◌, ◌++◌, map, sum, sum_by, slice_index, refl, subst, ⊎_elim, arith}
+use Rattle.std.proofs.Common.{◌≡◌, ℕ, ◌+◌, ◌<◌, ◌≤◌, ◌==◌, ◌&&◌, Bool, true, false, cond, List, [], ◌∷◌, ◌++◌, map, sum, sum_by, slice_index, refl, subst, ⊎_elim, arith}
 use Rattle.std.proofs.lemmas.Bool.{cases_eq, ne_eqb}
 use Rattle.std.proofs.lemmas.List.Sums.{sum-map, sum_by-le-sum_by}
 use Rattle.tact_base.specs.Setup.{Setup, IsSetup, alpha_of, loans_of, loan_of, peers_of}
 use Rattle.run_model.specs.Histories.{part_of}
-use Rattle.run_model.specs.Loans.{lent, out, home, lent_by_act}
+use Rattle.run_model.specs.Loans.{out, home, lent_by_act}
 use Rattle.run_model.specs.Runs.{IsDue, IsActDue, IsRun}
 use Rattle.run_model.specs.declared.entry.Act.{Act}
 use Rattle.run_model.specs.declared.entry.Act.TheVariants as act

@@ -1,5 +1,5 @@
 -- How far a replica's value is off is at most what the others may have accepted unseen, and that is within what it has out.
-use Rattle.std.proofs.Common.{◌≡◌, ℕ, ◌+◌, ◌-◌, ◌<◌, ◌≤◌, ◌==◌, true, false, cond, nat_le, unsigned_abs, ℤ, pos, ◌+ℤ◌, ◌-ℤ◌, List, [], ◌∷◌, ◌++◌, length, get_or, map, filter, flat_map, sum, sum_by, All, refl, sym, ap, ap₂, ◌∙◌, subst, ⊎_elim, arith}
+use Rattle.std.proofs.Common.{◌≡◌, ℕ, ◌+◌, ◌<◌, ◌≤◌, ◌==◌, true, false, cond, nat_le, unsigned_abs, ℤ, pos, ◌+ℤ◌, ◌-ℤ◌, List, [], ◌∷◌, ◌++◌, length, get_or, filter, flat_map, sum, sum_by, All, refl, sym, ap, ap₂, ◌∙◌, subst, ⊎_elim, arith}
 use Rattle.std.proofs.lemmas.Bool.{cases_eq, ne_eqb, lt-leb, le-leb}
 use Rattle.std.proofs.lemmas.Int.{ints}
 use Rattle.std.proofs.lemmas.List.{length-append, get_or-append-add}
@@ -11,7 +11,7 @@ use Rattle.tact_base.proofs.SumsLemmas.{net_sum-append, net_sum-parts}
 use Rattle.tact_base.specs.Sums.{net_sum, plus_sum, minus_sum}
 use Rattle.tact_base.specs.declared.write.Write.{Write}
 use Rattle.tact_base.specs.Setup.{Setup, replicas_of}
-use Rattle.run_model.specs.Histories.{part_of, IsPrefix}
+use Rattle.run_model.specs.Histories.{part_of}
 use Rattle.run_model.specs.OwnWrites.{own}
 use Rattle.run_model.specs.Taking.{log_of}
 use Rattle.run_model.specs.Loans.{share, out}

@@ -1,6 +1,5 @@
 -- What a part that can be keeps: its logs have their writes in their places and within their limits, and its covers stand within its logs.
-use Rattle.std.proofs.Common.{◌≡◌, ℕ, ◌+◌, ◌-◌, ◌<◌, ◌≤◌, ◌==◌, true, List, [], ◌∷◌, ◌++◌, length, get_or, drop, map, filter, All, Option, None, Some, refl, sym, ap, ◌∙◌, subst, ⊎_elim, le_trans, arith}
-use Rattle.std.specs.List.{range_with_len}
+use Rattle.std.proofs.Common.{◌≡◌, ℕ, ◌+◌, ◌-◌, ◌<◌, ◌≤◌, ◌==◌, true, List, [], ◌∷◌, ◌++◌, length, get_or, drop, All, Option, None, Some, refl, sym, ap, ◌∙◌, subst, ⊎_elim, le_trans, arith}
 use Rattle.std.proofs.lemmas.Bool.{cases_lt, eqb-true}
 use Rattle.std.proofs.lemmas.List.{length_push, length-append, length-drop, get_or_append_left, get_or-append-add, get_or-drop, get_or-map, get_or_past}
 use Rattle.std.proofs.lemmas.List.Elements.{All-nil, All-push, All-append, All-weaker, All-filter, All-drop, filter_passes}
@@ -17,7 +16,7 @@ use Rattle.tact_base.specs.declared.write.Write.{Write}
 use Rattle.tact_base.specs.Setup.{Setup}
 use Rattle.run_model.specs.Histories.{last_moment, taken_by_act}
 use Rattle.run_model.specs.OwnWrites.{own}
-use Rattle.run_model.specs.Taking.{OriginState, origin_state, told_cover, told_first, told_writes, log_of, have, clock}
+use Rattle.run_model.specs.Taking.{OriginState, origin_state, told_cover, told_first, told_writes, have, clock}
 use Rattle.run_model.specs.Order.{point}
 use Rattle.run_model.specs.Ranges.{IsWriteInRange, IsMessageInRange, IsEntryInRange}
 use Rattle.run_model.specs.Runs.{IsDue, Fits, FitsIfTaken, MayFollow, IsPart}

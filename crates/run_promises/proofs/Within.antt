@@ -1,7 +1,7 @@
 -- In a run what a peer hasn't seen is within the share lent for it.
-use Rattle.std.proofs.Common.{◌≡◌, ℕ, ◌≤◌, true, nat_le, List, filter, le_trans, arith}
+use Rattle.std.proofs.Common.{◌≡◌, ℕ, ◌≤◌, true, nat_le, List, le_trans, arith}
 use Rattle.std.proofs.lemmas.Bool.{leb-true, le-leb}
-use Rattle.tact_base.specs.Sums.{above_zero, below_zero, weights_on}
+use Rattle.tact_base.specs.Sums.{above_zero, below_zero}
 use Rattle.tact_base.specs.declared.conit_list.Weight.{Weight}
 use Rattle.tact_base.specs.declared.write.Write.{Write}
 use Rattle.tact_base.specs.Setup.{Setup}

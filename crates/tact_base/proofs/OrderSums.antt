@@ -1,8 +1,8 @@
 -- The sums of weights don't depend on the order of the writes.
-use Rattle.std.proofs.Common.{◌≡◌, ℕ, ◌+◌, ℤ, pos, ◌-ℤ◌, List, [], ◌∷◌, flat_map, sum_by, ◌==◌, IsPermutation, refl, sym, ap, ap₂, ◌∙◌}
+use Rattle.std.proofs.Common.{◌≡◌, ℕ, ◌+◌, pos, ◌-ℤ◌, List, [], ◌∷◌, flat_map, sum_by, ◌==◌, IsPermutation, refl, sym, ap, ap₂, ◌∙◌}
 use Rattle.std.proofs.lemmas.List.Sorted.{sum_by-IsPermutation}
 use Rattle.std.proofs.lemmas.List.Sums.{sum_by-append, sum_by-cons}
-use Rattle.tact_base.specs.Sums.{above_zero, below_zero, on_conit, weights_on, plus_sum, minus_sum, order_sum, net_sum, signed_sum}
+use Rattle.tact_base.specs.Sums.{above_zero, below_zero, on_conit, weights_on, plus_sum, minus_sum, order_sum, net_sum}
 use Rattle.tact_base.specs.WriteOrder.{in_order}
 use Rattle.tact_base.specs.declared.conit_list.Weight.{Weight}
 use Rattle.tact_base.specs.declared.write.Write.{Write}
