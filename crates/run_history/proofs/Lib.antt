@@ -1,0 +1,11 @@
+pub mod TickLemmas
+pub mod RunLemmas
+pub mod SeatLemmas
+pub mod Drawing
+pub mod Looking
+pub mod Enrolling
+pub mod Cutting
+pub mod Joining
+pub mod Meeting
+pub mod Closed
+pub mod Standing

@@ -1,0 +1,47 @@
+-- A seat that took in a note and then looked.
+use Rattle.std.proofs.Common.{◌≡◌, ℕ, List, [], ◌∷◌, ◌++◌, All, refl, sym, ap, ◌∙◌, subst}
+use Rattle.std.proofs.lemmas.List.{append-nil}
+use Rattle.std.proofs.lemmas.List.Elements.{All-head, All-tail}
+use Rattle.run_model.specs.Config.{Setup}
+use Rattle.run_model.specs.Histories.{mine, IsPrefix}
+use Rattle.run_model.specs.declared.entry.Entry.{Entry}
+use Rattle.run_history.specs.declared.view.Part.{Part}
+use Rattle.run_history.specs.declared.view.View.{View}
+use Rattle.run_history.specs.Steps.{part_of, first_pairs, IsClerk, IsNote, IsLooked, joined, Meets}
+use Rattle.run_history.specs.Ticks.{drawn_by, entries_of}
+use Rattle.run_history.proofs.TickLemmas.{entries_of-drawn_by}
+
+pub meets : (setup : Setup) (before other : View) (found : ℕ) (after : View) → IsLooked setup (joined before other) found after → Meets setup before other after
+meets setup before other found after looked =
+    let IsFront : List Entry → Type 0 = λ old. IsPrefix old after.seen in
+    let olds = before.olds ++ other.olds in
+    record {
+      first = All-head IsFront before.seen (other.seen ∷ olds) looked.fronts;
+      second = All-head IsFront other.seen olds (All-tail IsFront before.seen (other.seen ∷ olds) looked.fronts);
+      run = looked.run;
+    }
+
+module _ (setup : Setup) (replica : ℕ) (before other : View) (found : ℕ) (after : View)
+    (clerk : IsClerk replica before) (note : IsNote other) (looked : IsLooked setup (joined before other) found after) where
+  abbrev pairs : List (ℕ × Entry)
+  pairs = first_pairs before.parts
+
+  both_parts : before.parts ++ other.parts ≡ part_of replica pairs ∷ []
+  both_parts = ap (λ parts. before.parts ++ parts) note.none ∙ append-nil before.parts ∙ clerk.part
+
+  parts_after : after.parts ≡ part_of replica pairs ∷ []
+  parts_after = ap (λ (view : View). view.parts) looked.is ∙ both_parts
+
+  pub pairs_after : first_pairs after.parts ≡ pairs
+  pairs_after = ap first_pairs parts_after
+
+  pub clerk_after : IsClerk replica after
+  clerk_after =
+      let IsDrawnPart : Part → Type 0 = λ part. part.pairs ≡ drawn_by after.seen part.replica in
+      let drawn : pairs ≡ drawn_by after.seen replica =
+      All-head IsDrawnPart (part_of replica pairs) [] (subst (All IsDrawnPart) both_parts looked.parts) in
+      record {
+        closed = ap (λ (view : View). view.opens) looked.is ∙ clerk.closed;
+        part = parts_after ∙ ap (λ pairs. part_of replica pairs ∷ []) (sym pairs_after);
+        own = sym (entries_of-drawn_by after.seen replica) ∙ ap entries_of (sym drawn ∙ sym pairs_after);
+      }

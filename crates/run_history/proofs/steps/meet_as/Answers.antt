@@ -1,0 +1,9 @@
+use Rattle.std.proofs.Common.{◌≡◌, ap, subst}
+use Rattle.run_history.specs.Steps.{IsLooked, joined}
+use Rattle.run_history.proofs.Meeting.{meets}
+use Rattle.run_history.proofs.steps.meet_as.Goals as goal
+
+pub returns-clause-seen : goal.returns-clause-seen
+returns-clause-seen g c =
+    let looked = subst (λ before. IsLooked g.T.Told.setup before c.look_as.result c.look_as.new.seat.me.0) (ap (λ me. me.0) c.join_as.ensures.seat.1) c.look_as.ensures.looked in
+    meets g.T.Told.setup c.args.seat.now.me.0 c.args.other.me.0 c.look_as.result c.look_as.new.seat.me.0 looked
