@@ -1,10 +1,9 @@
 -- What closing gathers is the whole history.
-use Rattle.std.proofs.Common.{◌≡◌, ◌≢◌, ◌⊎◌, ℕ, ◌<◌, List, [], ◌∷◌, ◌++◌, All, Contains, length, map, slice_get, Some, refl, sym, ap, ◌∙◌, subst, ⊎_elim, arith}
-use Rattle.std.specs.List.{flat_map}
+use Rattle.std.proofs.Common.{◌≡◌, ℕ, ◌<◌, List, [], ◌∷◌, ◌++◌, All, Contains, map, slice_get, Some, refl, sym, ap, ◌∙◌, subst, ⊎_elim, arith}
 use Rattle.std.proofs.lemmas.List.{map-append}
-use Rattle.std.proofs.lemmas.List.Elements.{All-head, All-tail, All-weaker, All-append, All-contains, Contains-append_left, Contains-append_right}
+use Rattle.std.proofs.lemmas.List.Elements.{All-weaker, All-append, All-contains, Contains-append_left}
 use Rattle.std.proofs.lemmas.Option.{slice_get_within, get_or_from_slice_get}
-use Rattle.tact_base.proofs.ElementLemmas.{Contains-first, Contains-later, Contains-cases, Contains-none, Contains-flat_map, Contains-from_flat_map, All-from_contains}
+use Rattle.tact_base.proofs.ElementLemmas.{Contains-first, Contains-later, Contains-cases, Contains-none, Contains-flat_map, Contains-from_flat_map}
 use Rattle.tact_base.proofs.ListLemmas.{All-one, All-from_map}
 use Rattle.run_model.specs.Config.{Setup}
 use Rattle.run_model.specs.Histories.{IsPrefix}
@@ -14,13 +13,13 @@ use Rattle.run_history.specs.declared.view.Part.{Part}
 use Rattle.run_history.specs.declared.view.View.{View}
 use Rattle.run_history.specs.Closing.{all_drawn, AreAllThere, Gathers}
 use Rattle.run_history.specs.Seats.{ClerkView}
-use Rattle.run_history.specs.Steps.{part_of, first_pairs, IsClerk, IsLooked, joined, nothing_known}
+use Rattle.run_history.specs.Steps.{part_of, IsLooked, joined, nothing_known}
 use Rattle.run_history.specs.Ticks.{drawn_by, IsMerge}
 use Rattle.run_history.proofs.RunLemmas.{replicas_in_run}
 use Rattle.run_history.proofs.TickLemmas.{Contains-drawn_by, drawn_by-Contains}
 
 -- what is among the numbers that a function gives is given by an element
-from_map : {X : Type 0} (f : X → ℕ) (xs : List X) (n : ℕ) → Contains (map f xs) n → (x : X) × Contains xs x × (f x ≡ n)
+pub from_map : {X : Type 0} (f : X → ℕ) (xs : List X) (n : ℕ) → Contains (map f xs) n → (x : X) × Contains xs x × (f x ≡ n)
 from_map f [] n within = absurd (Contains-none n within)
 from_map f (x ∷ xs) n within = ⊎_elim
     (λ (same : f x ≡ n). (x, Contains-first x x xs refl, same))

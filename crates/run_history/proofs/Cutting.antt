@@ -1,11 +1,10 @@
 -- Cutting a view in two keeps the history rule, and so does a seat that comes and knows nothing.
-use Rattle.std.proofs.Common.{◌≡◌, ◌≢◌, ℕ, ◌<◌, false, List, [], ◌∷◌, ◌++◌, All, Contains, map, length, slice_index, slice_set, refl, sym, ap, ◌∙◌, subst, ⊎_elim, arith}
+use Rattle.std.proofs.Common.{◌≡◌, ◌≢◌, ℕ, ◌<◌, false, List, [], ◌∷◌, ◌++◌, All, Contains, length, slice_index, slice_set, refl, sym, ap, ◌∙◌, subst, ⊎_elim}
 use Rattle.std.proofs.lemmas.Bool.{cases_eq}
-use Rattle.std.proofs.lemmas.List.{length-set}
 use Rattle.std.proofs.lemmas.List.Elements.{All-weaker, All-nil}
 use mathlib.Core.Option.{some, some-injective}
 use lib.ListN.{get_elem?}
-use Rattle.atomic_table.specs.Table.{State, Me, Enters, Splits}
+use Rattle.atomic_table.specs.Table.{State, Enters, Splits}
 use Rattle.atomic_table.proofs.Lists.{at_last, set_again}
 use Rattle.run_model.specs.Config.{Setup}
 use Rattle.run_model.specs.Histories.{IsPrefix}
@@ -54,11 +53,12 @@ notes setup id view state kept at =
 
 pub comes : (setup : Setup) (slots : ℕ) (then : ℕ → View → Type 0) → ((found : ℕ) → then found nothing_known)
     → Enters (λ (state : State (Unit {0}) View). IsOneHistory setup state.words state.views) slots 0 then
-comes setup slots then told state kept homes in_word =
-    (nothing_known,
-    rule_with setup state.words state.views nothing_known kept
-    (partless_fits state.words kept.seat_of kept.history (length state.views) nothing_known (kept.history, refl) (All-nil (λ old. IsPrefix old [])) refl refl),
-    told (slice_index state.words 0))
+comes setup slots then told state kept homes in_word = (
+  nothing_known,
+  rule_with setup state.words state.views nothing_known kept
+      (partless_fits state.words kept.seat_of kept.history (length state.views) nothing_known (kept.history, refl) (All-nil (λ old. IsPrefix old [])) refl refl),
+  told (slice_index state.words 0),
+)
 
 -- parts of other seats, and parts that move
 module _ (words : List ℕ) (seat_of : ℕ → ℕ) (history : List Entry) (from to : ℕ) where

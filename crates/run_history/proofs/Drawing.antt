@@ -1,13 +1,11 @@
 -- The draw keeps the history rule.
-use Rattle.std.proofs.Common.{◌≡◌, ◌≢◌, ℕ, ◌+◌, ◌*◌, ◌%◌, ◌^◌, ◌<◌, ◌≤◌, List, [], ◌∷◌, ◌++◌, All, AllPairs, Contains, map, length, get_or, set, slice_index, slice_set, refl, sym, ap, ◌∙◌, subst, arith, length-append}
-use Rattle.std.proofs.lemmas.Bool.{cases_eq}
+use Rattle.std.proofs.Common.{◌≡◌, ◌≢◌, ℕ, ◌+◌, ◌*◌, ◌%◌, ◌^◌, ◌≤◌, List, [], ◌∷◌, ◌++◌, All, Contains, map, length, slice_index, slice_set, refl, sym, ap, ◌∙◌, subst, arith, length-append}
 use Rattle.std.proofs.lemmas.List.{append_assoc, map-append, length-set, get_or-set_same, get_or-set_other}
 use Rattle.std.proofs.lemmas.List.Elements.{All-head, All-weaker}
 use mathlib.Core.Option.{some}
 use lib.ListN.{get_elem?}
 use Rattle.atomic_table.specs.Table.{State, Me, Allows, keeps}
 use Rattle.tact_base.specs.declared.limits.TheConstants.{HISTORY_MAX}
-use Rattle.tact_base.proofs.ElementLemmas.{AllPairs-nil}
 use Rattle.tact_base.proofs.ListLemmas.{All-one}
 use Rattle.run_model.specs.Config.{Setup}
 use Rattle.run_model.specs.Histories.{mine, IsPrefix}
@@ -18,9 +16,9 @@ use Rattle.run_model.proofs.PartLemmas.{mine-push_same, mine-push_other}
 use Rattle.run_model.proofs.PrefixLemmas.{EachAfter-push}
 use Rattle.run_history.specs.declared.view.Part.{Part}
 use Rattle.run_history.specs.declared.view.View.{View}
-use Rattle.run_history.specs.Rule.{FitsPart, FitsSeat, HasPart, IsOneHistory}
+use Rattle.run_history.specs.Rule.{FitsPart, FitsSeat, IsOneHistory}
 use Rattle.run_history.specs.Steps.{part_of, first_pairs, IsClerk, IsDrawn}
-use Rattle.run_history.specs.Ticks.{drawn_by, entries_of, EndsWith}
+use Rattle.run_history.specs.Ticks.{entries_of}
 use Rattle.run_history.proofs.RunLemmas.{IsLawful-more, run_is_short}
 use Rattle.run_history.proofs.SeatLemmas.{each_set, begins_itself, HasPart-set}
 use Rattle.run_history.proofs.TickLemmas.{drawn_by-push_same, drawn_by-push_other}
@@ -121,9 +119,11 @@ module _ (setup : Setup) (entry : Entry) (words : List ℕ) (views : List View) 
   here_fits = record {
     front = begins_itself after;
     fronts = All-weaker (λ old. IsPrefix old view.seen) (λ old. IsPrefix old after)
-        (λ old front. ((front.0 ++ fits.front.0) ++ entry ∷ [],
-        ap (λ whole. whole ++ entry ∷ []) (fits.front.1 ∙ ap (λ seen. seen ++ fits.front.0) front.1 ∙ append_assoc old front.0 fits.front.0)
-        ∙ append_assoc old (front.0 ++ fits.front.0) (entry ∷ [])))
+        (λ old front. (
+          (front.0 ++ fits.front.0) ++ entry ∷ [],
+          ap (λ whole. whole ++ entry ∷ []) (fits.front.1 ∙ ap (λ seen. seen ++ fits.front.0) front.1 ∙ append_assoc old front.0 fits.front.0)
+              ∙ append_assoc old (front.0 ++ fits.front.0) (entry ∷ []),
+        ))
         view.olds fits.fronts;
     fitting = All-one (FitsPart words' kept.seat_of after id after) (part_of entry.replica (own ++ (length history, entry) ∷ [])) (record {
       drawn = ap (λ pairs. pairs ++ (length history, entry) ∷ []) own_fits.drawn ∙ sym (drawn_by-push_same history entry entry.replica refl);
@@ -171,9 +171,13 @@ module _ (setup : Setup) (entry : Entry) (words : List ℕ) (views : List View) 
 pub draws : (setup : Setup) (entry : Entry) (slots id : ℕ) (me : Me (Unit {0}) View) → IsClerk entry.replica me.0 → IsLawful setup me.0.seen entry
     → Allows (λ (state : State (Unit {0}) View). IsOneHistory setup state.words state.views) slots id me 0 (λ n. (n + 1) % 2 ^ 64)
     (λ found after. (after.1 ≡ me.1) × IsDrawn setup entry me.0 found after.0)
-draws setup entry slots id me clerk lawful state kept homes at in_word =
-    (drawn_view me.0 entry kept.history, keeps, tt, rule_after setup entry state.words state.views kept id me.0 at clerk lawful,
-    (refl, drawn setup entry state.words state.views kept id me.0 at clerk lawful))
+draws setup entry slots id me clerk lawful state kept homes at in_word = (
+  drawn_view me.0 entry kept.history,
+  keeps,
+  tt,
+  rule_after setup entry state.words state.views kept id me.0 at clerk lawful,
+  (refl, drawn setup entry state.words state.views kept id me.0 at clerk lawful),
+)
 
 -- the same, where what the clerk drew says that the entry is due
 pub draws_due : (setup : Setup) (entry : Entry) (slots id : ℕ) (me : Me (Unit {0}) View) → IsClerk entry.replica me.0

@@ -1,10 +1,13 @@
 -- The history rule at the start, and enrolling keeps it.
-use Rattle.std.proofs.Common.{◌≡◌, ◌≢◌, ℕ, zero, suc, ◌+◌, ◌%◌, ◌^◌, ◌<◌, ◌≤◌, ◌==◌, cond, true, List, [], ◌∷◌, ◌++◌, All, AllPairs, Contains, map, length, slice_index, slice_set, refl, sym, ap, ◌∙◌, subst, ⊎_elim, arith, eq-eqb, ne_eqb}
+use Rattle.std.proofs.Common.{◌≡◌, ◌≢◌, ℕ, zero, suc, ◌+◌, ◌%◌, ◌^◌, ◌<◌, ◌≤◌, ◌==◌, cond, true, List, [], ◌∷◌, ◌++◌, AllPairs, Contains, map, length, slice_index, slice_set, refl, sym, ap, ◌∙◌, subst, ⊎_elim, arith, eq-eqb, ne_eqb}
 use Rattle.std.proofs.lemmas.Bool.{cases_eq}
 use Rattle.std.proofs.lemmas.List.{length-set, get_or-set_same, get_or-set_other}
 use Rattle.std.proofs.lemmas.List.Elements.{All-weaker, All-nil}
+use Rattle.std.proofs.lemmas.List.FromFn.{map-range_with_len_more}
+use Rattle.std.specs.List.{range_with_len}
 use mathlib.Core.Option.{some, some-injective, some-ne-none}
 use lib.ListN.{get_elem?}
+use Rattle.atomic_table.specs.Seated.{TableId}
 use Rattle.atomic_table.specs.Table.{State, Me, Allows, keeps}
 use Rattle.tact_base.proofs.ElementLemmas.{Contains-first, Contains-none}
 use Rattle.tact_base.proofs.ListLemmas.{All-one}
@@ -17,7 +20,8 @@ use Rattle.run_model.proofs.PrefixLemmas.{EachAfter-nil, IsPrefix-filter}
 use Rattle.run_history.specs.declared.view.Part.{Part}
 use Rattle.run_history.specs.declared.view.View.{View}
 use Rattle.run_history.specs.Rule.{FitsPart, FitsSeat, HasPart, IsOneHistory}
-use Rattle.run_history.specs.Steps.{part_of, opener, IsEnrolled}
+use Rattle.run_history.specs.Seats.{ClerkView, fresh_clerk}
+use Rattle.run_history.specs.Steps.{part_of, first_pairs, seen_in, pairs_in, opener, IsEnrolled}
 use Rattle.run_history.specs.Ticks.{drawn_by, entries_of}
 use Rattle.run_history.proofs.SeatLemmas.{each_set, begins_itself, at_put, HasPart-set}
 use Rattle.run_history.proofs.TickLemmas.{entries_of-drawn_by}
@@ -190,7 +194,29 @@ module _ (setup : Setup) (words : List ℕ) (views : List View) (kept : IsOneHis
 pub enrols : (setup : Setup) (slots id : ℕ) (me : Me (Unit {0}) View) → me.0.opens ≡ true → me.0.parts ≡ [] → me.0.enrolled < setup.replicas
     → Allows (λ (state : State (Unit {0}) View). IsOneHistory setup state.words state.views) slots id me 1 (λ n. (n + 1) % 2 ^ 64)
     (λ found after. (after.1 ≡ me.1) × IsEnrolled me.0 found after.0)
-enrols setup slots id me opens empty room state kept homes at in_word =
-    (record me.0 { enrolled = slice_index state.words 1 + 1; parts = part_of (slice_index state.words 1) [] ∷ [] }, keeps, tt,
-    rule_after_enrol setup state.words state.views kept id me.0 at opens empty room,
-    (refl, enrolled_view setup state.words state.views kept id me.0 at opens empty room))
+enrols setup slots id me opens empty room state kept homes at in_word = (
+  record me.0 { enrolled = slice_index state.words 1 + 1; parts = part_of (slice_index state.words 1) [] ∷ [] },
+  keeps,
+  tt,
+  rule_after_enrol setup state.words state.views kept id me.0 at opens empty room,
+  (refl, enrolled_view setup state.words state.views kept id me.0 at opens empty room),
+)
+
+-- what contracts see of a clerk that just enrolled
+pub fresh_clerk_is : (of table : TableId) (replica : ℕ) (views : List View) (view : View) → of ≡ table → views ≡ view ∷ [] → view.seen ≡ []
+    → view.parts ≡ part_of replica [] ∷ []
+    → record { table = of; replica = replica; seen = seen_in views; pairs = pairs_in views } ≡ fresh_clerk table replica
+fresh_clerk_is of table replica views view same only seen part =
+    let Clerk : TableId → List Entry → List (ℕ × Entry) → ClerkView = λ table seen pairs. record { table = table; replica = replica; seen = seen; pairs = pairs } in
+    ap (λ table. Clerk table (seen_in views) (pairs_in views)) same
+    ∙ ap (λ views. Clerk table (seen_in views) (pairs_in views)) only
+    ∙ ap (λ seen. Clerk table seen (first_pairs view.parts)) seen
+    ∙ ap (λ parts. Clerk table [] (first_pairs parts)) part
+
+-- the clerks, with one more
+pub fresh_clerks_more : (table : TableId) (replica : ℕ) (clerks after : List ClerkView) (clerk : ClerkView)
+    → clerks ≡ map (fresh_clerk table) (range_with_len 0 replica) → after ≡ clerks ++ clerk ∷ [] → clerk ≡ fresh_clerk table replica
+    → after ≡ map (fresh_clerk table) (range_with_len 0 (replica + 1))
+fresh_clerks_more table replica clerks after clerk before pushed is =
+    pushed ∙ ap (λ clerks. clerks ++ clerk ∷ []) before ∙ ap (λ last. map (fresh_clerk table) (range_with_len 0 replica) ++ last ∷ []) is
+    ∙ sym (map-range_with_len_more (fresh_clerk table) 0 replica replica (omega arith))

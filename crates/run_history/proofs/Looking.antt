@@ -1,6 +1,6 @@
 -- The look keeps the history rule.
-use Rattle.std.proofs.Common.{◌≡◌, ◌≢◌, ℕ, List, [], ◌∷◌, ◌++◌, All, Contains, slice_index, slice_set, refl, sym, ap, ◌∙◌, subst}
-use Rattle.std.proofs.lemmas.List.{append_assoc, set-get_or}
+use Rattle.std.proofs.Common.{◌≡◌, ℕ, List, All, slice_index, slice_set, refl, sym, subst}
+use Rattle.std.proofs.lemmas.List.{set-get_or}
 use Rattle.std.proofs.lemmas.List.Elements.{All-weaker}
 use mathlib.Core.Option.{some}
 use lib.ListN.{get_elem?}
@@ -74,6 +74,10 @@ module _ (setup : Setup) (words : List ℕ) (views : List View) (kept : IsOneHis
 pub looks : (setup : Setup) (slots id : ℕ) (me : Me (Unit {0}) View)
     → Allows (λ (state : State (Unit {0}) View). IsOneHistory setup state.words state.views) slots id me 0 (λ n. n)
     (λ found after. (after.1 ≡ me.1) × IsLooked setup me.0 found after.0)
-looks setup slots id me state kept homes at in_word =
-    (record me.0 { seen = kept.history }, keeps, tt, rule_after_look setup state.words state.views kept id me.0 at,
-    (refl, looked setup state.words state.views kept id me.0 at))
+looks setup slots id me state kept homes at in_word = (
+  record me.0 { seen = kept.history },
+  keeps,
+  tt,
+  rule_after_look setup state.words state.views kept id me.0 at,
+  (refl, looked setup state.words state.views kept id me.0 at),
+)

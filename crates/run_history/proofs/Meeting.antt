@@ -1,9 +1,9 @@
 -- A seat that took in a note and then looked.
-use Rattle.std.proofs.Common.{◌≡◌, ℕ, List, [], ◌∷◌, ◌++◌, All, refl, sym, ap, ◌∙◌, subst}
+use Rattle.std.proofs.Common.{◌≡◌, ℕ, List, [], ◌∷◌, ◌++◌, All, sym, ap, ◌∙◌, subst}
 use Rattle.std.proofs.lemmas.List.{append-nil}
 use Rattle.std.proofs.lemmas.List.Elements.{All-head, All-tail}
 use Rattle.run_model.specs.Config.{Setup}
-use Rattle.run_model.specs.Histories.{mine, IsPrefix}
+use Rattle.run_model.specs.Histories.{IsPrefix}
 use Rattle.run_model.specs.declared.entry.Entry.{Entry}
 use Rattle.run_history.specs.declared.view.Part.{Part}
 use Rattle.run_history.specs.declared.view.View.{View}

@@ -1,5 +1,5 @@
 -- A front of a history, and the length of a run.
-use Rattle.std.proofs.Common.{◌≡◌, ℕ, zero, suc, ◌+◌, ◌*◌, ◌<◌, ◌≤◌, ◌==◌, nat_lt, Bool, true, false, cond, if◌then◌else◌, List, [], ◌∷◌, ◌++◌, All, Contains, filter, length, refl, sym, ap, ◌∙◌, subst, ⊎_elim, arith, length-append}
+use Rattle.std.proofs.Common.{◌≡◌, ℕ, zero, suc, ◌+◌, ◌*◌, ◌<◌, ◌≤◌, ◌==◌, nat_lt, true, List, [], ◌∷◌, ◌++◌, All, filter, length, refl, sym, ap, ◌∙◌, subst, arith, length-append}
 use Rattle.std.proofs.lemmas.Bool.Decides.{nat_tests}
 use Rattle.std.proofs.lemmas.List.Elements.{All-weaker, Contains-append_left, filter-append, filter_map-append}
 use Rattle.tact_base.specs.declared.limits.TheConstants.{HISTORY_MAX}
@@ -39,7 +39,7 @@ IsLawful-more setup seen history entry prefix whole lawful = record {
 }
 
 -- in a run no part is longer than it may be
-parts_are_short : (setup : Setup) (history : List Entry) → IsRun setup history → (replica : ℕ) → length (mine history replica) ≤ HISTORY_MAX
+pub parts_are_short : (setup : Setup) (history : List Entry) → IsRun setup history → (replica : ℕ) → length (mine history replica) ≤ HISTORY_MAX
 parts_are_short setup = over_runs setup (λ history. (replica : ℕ) → length (mine history replica) ≤ HISTORY_MAX)
     (λ replica. omega arith)
     (λ before entry run lawful short.

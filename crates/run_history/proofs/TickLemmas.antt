@@ -1,5 +1,5 @@
 -- What a replica drew of a history, entry by entry, and the merge of parts by tick.
-use Rattle.std.proofs.Common.{◌≡◌, ℕ, ◌+◌, ◌<◌, ◌==◌, Bool, true, false, cond, if◌then◌else◌, List, [], ◌∷◌, ◌++◌, All, Contains, filter, length, map, get_or, slice_get, Some, refl, sym, ap, ◌∙◌, subst, eq-eqb, ne_eqb, arith}
+use Rattle.std.proofs.Common.{◌≡◌, ℕ, ◌+◌, ◌<◌, ◌==◌, Bool, true, false, cond, if◌then◌else◌, List, [], ◌∷◌, ◌++◌, Contains, filter, length, map, get_or, slice_get, Some, refl, sym, ap, ◌∙◌, eq-eqb, ne_eqb, arith}
 use Rattle.std.specs.List.{enumerate_from}
 use Rattle.std.proofs.lemmas.List.{append-nil}
 use Rattle.std.proofs.lemmas.List.Elements.{filter-append}
@@ -36,9 +36,11 @@ module _ {A : Type 0} where
   pub Contains-enumerate : (xs : List A) (k : ℕ) (x : A) → slice_get xs k ≡ Some x → Contains (enumerate_from 0 xs) (k, x)
   Contains-enumerate xs k x is =
       let within : k < length xs = slice_get_within xs k x is in
-      let place : 0 + k ≡ k = omega arith in
-      (k, omega (arith, length-enumerate_from 0 xs),
-      get_or-enumerate_from 0 xs k (k, x) within ∙ ap (λ n. (n, get_or xs k x)) place ∙ ap (λ y. (k, y)) (get_or_from_slice_get xs k x x is))
+      let place : 0 + k ≡ k = omega arith in (
+        k,
+        omega (arith, length-enumerate_from 0 xs),
+        get_or-enumerate_from 0 xs k (k, x) within ∙ ap (λ n. (n, get_or xs k x)) place ∙ ap (λ y. (k, y)) (get_or_from_slice_get xs k x x is),
+      )
 
   pub enumerate-Contains : (xs : List A) (k : ℕ) (x : A) → Contains (enumerate_from 0 xs) (k, x) → slice_get xs k ≡ Some x
   enumerate-Contains xs k x (i, within, is) =

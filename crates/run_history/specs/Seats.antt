@@ -1,5 +1,5 @@
 -- What contracts see of a desk, of its clerks and of its notes.
-use Rattle.std.specs.Prelude.{◌≡◌, ℕ, List, [], map, ◌∷◌, length}
+use Rattle.std.specs.Prelude.{ℕ, List, [], map}
 use Rattle.atomic_table.specs.Seated.{TableId}
 use Rattle.run_model.specs.Config.{Setup}
 use Rattle.run_model.specs.Histories.{replicas_of}

@@ -1,5 +1,5 @@
 -- What seats know, how views are cut and joined, and what the steps of the history table tell.
-use Rattle.std.specs.Prelude.{◌≡◌, ℕ, ◌+◌, Bool, true, false, nat_lt, if◌then◌else◌, List, [], ◌∷◌, ◌++◌, All, AllPairs, ◌≢◌, length}
+use Rattle.std.specs.Prelude.{◌≡◌, ℕ, ◌+◌, true, false, nat_lt, if◌then◌else◌, List, [], ◌∷◌, ◌++◌, All, AllPairs, ◌≢◌, length}
 use Rattle.run_model.specs.Config.{Setup}
 use Rattle.run_model.specs.Histories.{mine, IsPrefix}
 use Rattle.run_model.specs.Runs.{IsRun}

@@ -1,8 +1,6 @@
 -- Histories by tick: the tick of an entry is its place in the history.
 use Rattle.std.specs.Prelude.{◌≡◌, ℕ, ◌==◌, ◌↔◌, List, [], ◌∷◌, ◌++◌, Contains, filter, length, map, slice_get, Some}
 use Rattle.std.specs.List.{enumerate_from}
-use Rattle.run_model.specs.Config.{Setup}
-use Rattle.run_model.specs.Histories.{IsPrefix}
 use Rattle.run_model.specs.declared.entry.Entry.{Entry}
 
 -- what a replica drew of a history: its entries, each with its tick

@@ -45,7 +45,8 @@ impl Clerk {
 
     /// The replica whose entries it draws.
     pub fn replica(&self) -> u32
-        ensures { result ≡ self.now.replica }
+        ensures replica { result ≡ self.now.replica }
+        ensures own { mine self.now.seen self.now.replica ≡ entries_of self.now.pairs }
     {
         self.replica
     }
@@ -99,7 +100,12 @@ impl Clerk {
     {
         let mut seat = mem::replace(&mut self.badge, Badge::blank()).into_seat::<()>();
         let Note { badge } = note;
-        learn_as::<Brand>(&desk.table, &mut seat, self.replica, badge.into_seat::<()>());
+        learn_as::<Brand>(
+            &desk.table,
+            &mut seat,
+            self.replica,
+            badge.into_seat::<()>(),
+        );
         self.badge = seat.into_badge();
     }
 }

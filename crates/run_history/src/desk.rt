@@ -1,10 +1,11 @@
-ghost use Rattle.std.specs.Prelude.{◌≡◌, ◌∷◌, [], All, IfOk, length};
+ghost use Rattle.std.specs.Prelude.{◌≡◌, ◌∷◌, [], All, IfOk, length, map};
+ghost use Rattle.std.specs.List.{range_with_len};
 ghost use Rattle.run_model.specs.Histories.{IsPrefix};
 ghost use Rattle.run_model.specs.Promises.{IsKept};
 ghost use Rattle.run_model.specs.Runs.{IsRun};
 ghost use Rattle.run_history.specs.Closing.{all_drawn, AreAllThere, Gathers};
 ghost use Rattle.run_history.specs.Seats.{fresh_clerk, fresh_clerks};
-ghost use Rattle.run_history.specs.Steps.{IsLooked};
+ghost use Rattle.run_history.specs.Steps.{IsLooked, opener};
 ghost use Rattle.run_history.specs.Ticks.{drawn_by, IsMerge};
 
 use crate::clerk::Clerk;
@@ -42,11 +43,7 @@ impl Desk {
     {
         let replicas = config.replicas();
         let (table, mut seat) = Table::of_words(alloc, &[0, 0], config)?;
-        let mut clerks = Vec::new(alloc);
-        for replica in 0..replicas {
-            let badge = enrol_as(&table, &mut seat, replica).into_badge();
-            clerks.push(Clerk { replica, badge })?;
-        }
+        let clerks = enrol_all(alloc, &table, &mut seat, replicas)?;
         Ok((Desk { table }, clerks))
     }
 
@@ -68,6 +65,26 @@ impl Desk {
             badge: seat.into_badge(),
         }
     }
+}
+
+// Enrols the clerks of all replicas, in rising order, with the first seat.
+fn enrol_all(
+    alloc: Global,
+    table: &Table,
+    seat: &mut Seat,
+    replicas: u32,
+) -> Result<Vec<Clerk>, NoMemory>
+    requires table { (seat.old.table_id ≡ table.now.shared.table_id) × (table.now.shared.table_id.words ≡ 2) }
+    requires opener { seat.old.me.0 ≡ opener table.now.shared.key }
+    requires replicas { replicas ≡ table.now.shared.key.replicas }
+    ensures { IfOk result (λ clerks. clerks.items ≡ map (fresh_clerk table.now.shared.table_id) (range_with_len 0 replicas)) }
+{
+    let mut clerks = Vec::new(alloc);
+    for replica in 0..replicas {
+        let badge = enrol_as(table, seat, replica).into_badge();
+        clerks.push(Clerk { replica, badge })?;
+    }
+    Ok(clerks)
 }
 
 // A seat that takes in all that clerks have.

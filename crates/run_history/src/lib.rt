@@ -4,6 +4,7 @@
 mod clerk;
 mod desk;
 mod history;
+mod laws;
 mod note;
 mod plays;
 mod steps;
@@ -12,4 +13,5 @@ mod view;
 pub use clerk::Clerk;
 pub use desk::Desk;
 pub use history::History;
+pub use laws::rule_of_history;
 pub use note::Note;

@@ -1,6 +1,5 @@
-use Rattle.std.proofs.Common.{◌≡◌, ap, subst}
-use Rattle.run_history.specs.declared.view.View.{View}
-use Rattle.run_history.specs.Steps.{IsLooked, joined}
+use Rattle.std.proofs.Common.{ap, subst}
+use Rattle.run_history.specs.Steps.{IsLooked}
 use Rattle.run_history.proofs.Meeting.{meets, pairs_after, clerk_after}
 use Rattle.run_history.proofs.steps.learn_as.Goals as goal
 
