@@ -1,7 +1,7 @@
 ghost use Rattle.std.specs.Prelude.{◌≡◌, ◌∷◌, ◌++◌, []};
 ghost use Rattle.run_model.specs.Histories.{mine, IsPrefix};
 ghost use Rattle.run_model.specs.Runs.{IsDue, IsRun, WasSent};
-ghost use Rattle.run_history.specs.Steps.{IsClerk, seen_in, pairs_in, first_pairs, part_of};
+ghost use Rattle.run_history.specs.Steps.{part_of};
 ghost use Rattle.run_history.specs.Ticks.{entries_of, EndsWith};
 
 use crate::desk::Desk;

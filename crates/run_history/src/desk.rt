@@ -5,7 +5,7 @@ ghost use Rattle.run_model.specs.Promises.{IsKept};
 ghost use Rattle.run_model.specs.Runs.{IsRun};
 ghost use Rattle.run_history.specs.Closing.{all_drawn, AreAllThere, Gathers};
 ghost use Rattle.run_history.specs.Seats.{fresh_clerk, fresh_clerks};
-ghost use Rattle.run_history.specs.Steps.{IsLooked, opener};
+ghost use Rattle.run_history.specs.Steps.{opener};
 ghost use Rattle.run_history.specs.Ticks.{drawn_by, IsMerge};
 
 use crate::clerk::Clerk;
