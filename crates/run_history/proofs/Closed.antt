@@ -5,7 +5,7 @@ use Rattle.std.proofs.lemmas.List.Elements.{All-weaker, All-append, All-contains
 use Rattle.std.proofs.lemmas.Option.{slice_get_within, get_or_from_slice_get}
 use Rattle.tact_base.proofs.ElementLemmas.{Contains-first, Contains-later, Contains-cases, Contains-none, Contains-flat_map, Contains-from_flat_map}
 use Rattle.tact_base.proofs.ListLemmas.{All-one, All-from_map}
-use Rattle.run_model.specs.Config.{Setup}
+use Rattle.tact_base.specs.Setup.{Setup}
 use Rattle.run_model.specs.Histories.{IsPrefix}
 use Rattle.run_model.specs.Runs.{IsRun}
 use Rattle.run_model.specs.declared.entry.Entry.{Entry}
@@ -13,7 +13,7 @@ use Rattle.run_history.specs.declared.view.Part.{Part}
 use Rattle.run_history.specs.declared.view.View.{View}
 use Rattle.run_history.specs.Closing.{all_drawn, AreAllThere, Gathers}
 use Rattle.run_history.specs.Seats.{ClerkView}
-use Rattle.run_history.specs.Steps.{part_of, IsLooked, joined, nothing_known}
+use Rattle.run_history.specs.Steps.{part_with, IsLooked, joined, nothing_known}
 use Rattle.run_history.specs.Ticks.{drawn_by, IsMerge}
 use Rattle.run_history.proofs.RunLemmas.{replicas_in_run}
 use Rattle.run_history.proofs.TickLemmas.{Contains-drawn_by, drawn_by-Contains}
@@ -56,13 +56,13 @@ pub gathers_none : Gathers [] nothing_known
 gathers_none = record { closed = refl; parts = refl; seen = λ k d within. absurd (omega arith) }
 
 pub gathers_more : (clerks : List ClerkView) (clerk : ClerkView) (view other : View) → Gathers clerks view
-    → clerk.seen ≡ other.seen → other.parts ≡ part_of clerk.replica clerk.pairs ∷ [] → Gathers (clerks ++ clerk ∷ []) (joined view other)
+    → clerk.seen ≡ other.seen → other.parts ≡ part_with clerk.replica clerk.pairs ∷ [] → Gathers (clerks ++ clerk ∷ []) (joined view other)
 gathers_more clerks clerk view other gathered seen part =
     let IsIn : ClerkView → Type 0 = λ clerk. Contains (joined view other).olds clerk.seen in
     record {
       closed = gathered.closed;
-      parts = ap (λ parts. parts ++ other.parts) gathered.parts ∙ ap (λ parts. map (λ (clerk : ClerkView). part_of clerk.replica clerk.pairs) clerks ++ parts) part
-          ∙ sym (map-append (λ (clerk : ClerkView). part_of clerk.replica clerk.pairs) clerks (clerk ∷ []));
+      parts = ap (λ parts. parts ++ other.parts) gathered.parts ∙ ap (λ parts. map (λ (clerk : ClerkView). part_with clerk.replica clerk.pairs) clerks ++ parts) part
+          ∙ sym (map-append (λ (clerk : ClerkView). part_with clerk.replica clerk.pairs) clerks (clerk ∷ []));
       seen = All-append IsIn clerks (clerk ∷ [])
           (All-weaker (λ (clerk : ClerkView). Contains view.olds clerk.seen) IsIn
           (λ clerk within. Contains-later view.seen clerk.seen (other.seen ∷ (view.olds ++ other.olds))
@@ -78,7 +78,7 @@ module _ (setup : Setup) (clerks : List ClerkView) (before : View) (found : ℕ)
   pub parts_drawn : All (λ (clerk : ClerkView). clerk.pairs ≡ drawn_by after.seen clerk.replica) clerks
   parts_drawn =
       let IsDrawnPart : Part → Type 0 = λ part. part.pairs ≡ drawn_by after.seen part.replica in
-      All-from_map IsDrawnPart (λ (clerk : ClerkView). part_of clerk.replica clerk.pairs) clerks (subst (All IsDrawnPart) gathered.parts looked.parts)
+      All-from_map IsDrawnPart (λ (clerk : ClerkView). part_with clerk.replica clerk.pairs) clerks (subst (All IsDrawnPart) gathered.parts looked.parts)
 
   pub fronts_seen : All (λ (clerk : ClerkView). IsPrefix clerk.seen after.seen) clerks
   fronts_seen = All-weaker (λ (clerk : ClerkView). Contains before.olds clerk.seen) (λ (clerk : ClerkView). IsPrefix clerk.seen after.seen)

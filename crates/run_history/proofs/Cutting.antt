@@ -6,7 +6,7 @@ use mathlib.Core.Option.{some, some-injective}
 use lib.ListN.{get_elem?}
 use Rattle.atomic_table.specs.Table.{State, Enters, Splits}
 use Rattle.atomic_table.proofs.Lists.{at_last, set_again}
-use Rattle.run_model.specs.Config.{Setup}
+use Rattle.tact_base.specs.Setup.{Setup}
 use Rattle.run_model.specs.Histories.{IsPrefix}
 use Rattle.run_model.specs.declared.entry.Entry.{Entry}
 use Rattle.run_history.specs.declared.view.Part.{Part}

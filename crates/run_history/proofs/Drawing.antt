@@ -7,17 +7,17 @@ use lib.ListN.{get_elem?}
 use Rattle.atomic_table.specs.Table.{State, Me, Allows, keeps}
 use Rattle.tact_base.specs.declared.limits.TheConstants.{HISTORY_MAX}
 use Rattle.tact_base.proofs.ListLemmas.{All-one}
-use Rattle.run_model.specs.Config.{Setup}
-use Rattle.run_model.specs.Histories.{mine, IsPrefix}
+use Rattle.tact_base.specs.Setup.{Setup}
+use Rattle.run_model.specs.Histories.{part_of, IsPrefix}
 use Rattle.run_model.specs.Runs.{IsDue, IsLawful, IsRun, WasSent}
 use Rattle.run_model.specs.declared.entry.Entry.{Entry}
-use Rattle.run_model.proofs.ConfigLemmas.{HasCounts-from_IsSetup}
-use Rattle.run_model.proofs.PartLemmas.{mine-push_same, mine-push_other}
+use Rattle.tact_base.proofs.SetupLemmas.{HasCounts-from_IsSetup}
+use Rattle.run_model.proofs.PartLemmas.{part_of-push_same, part_of-push_other}
 use Rattle.run_model.proofs.PrefixLemmas.{EachAfter-push}
 use Rattle.run_history.specs.declared.view.Part.{Part}
 use Rattle.run_history.specs.declared.view.View.{View}
 use Rattle.run_history.specs.Rule.{FitsPart, FitsSeat, IsOneHistory}
-use Rattle.run_history.specs.Steps.{part_of, first_pairs, IsClerk, IsDrawn}
+use Rattle.run_history.specs.Steps.{part_with, first_pairs, IsClerk, IsDrawn}
 use Rattle.run_history.specs.Ticks.{entries_of}
 use Rattle.run_history.proofs.RunLemmas.{IsLawful-more, run_is_short}
 use Rattle.run_history.proofs.SeatLemmas.{each_set, begins_itself, HasPart-set}
@@ -27,7 +27,7 @@ use Rattle.run_history.proofs.TickLemmas.{drawn_by-push_same, drawn_by-push_othe
 abbrev pub drawn_view : View → Entry → List Entry → View
 drawn_view view entry history = record view {
   seen = history ++ entry ∷ [];
-  parts = part_of entry.replica (first_pairs view.parts ++ (length history, entry) ∷ []) ∷ [];
+  parts = part_with entry.replica (first_pairs view.parts ++ (length history, entry) ∷ []) ∷ [];
 }
 
 -- the words after one more entry
@@ -51,7 +51,7 @@ FitsPart-drawn words new count seat_of history entry id known part words_are oth
     let apart : entry.replica ≡ part.replica → ⊥ = λ same. other (sym same) in
     record {
       drawn = fits.drawn ∙ sym (drawn_by-push_other history entry part.replica apart);
-      whole = fits.whole ∙ sym (mine-push_other history entry part.replica apart);
+      whole = fits.whole ∙ sym (part_of-push_other history entry part.replica apart);
       here = fits.here;
       born = rw words_are.enrolled fits.born;
     }
@@ -74,9 +74,9 @@ module _ (setup : Setup) (entry : Entry) (words : List ℕ) (views : List View) 
   fits : FitsSeat words kept.seat_of history id view
   fits = kept.seats id view at
 
-  own_fits : FitsPart words kept.seat_of history id view.seen (part_of entry.replica own)
+  own_fits : FitsPart words kept.seat_of history id view.seen (part_with entry.replica own)
   own_fits =
-      All-head (FitsPart words kept.seat_of history id view.seen) (part_of entry.replica own) []
+      All-head (FitsPart words kept.seat_of history id view.seen) (part_with entry.replica own) []
       (subst (All (FitsPart words kept.seat_of history id view.seen)) clerk.part fits.fitting)
 
   may : IsLawful setup history entry
@@ -95,12 +95,12 @@ module _ (setup : Setup) (entry : Entry) (words : List ℕ) (views : List View) 
   pub drawn : IsDrawn setup entry view (slice_index words 0) new
   drawn =
       let pair : (slice_index words 0, entry) ≡ (length history, entry) = ap (λ n. (n, entry)) kept.drawn in
-      let mine_is : mine history entry.replica ≡ entries_of own = sym own_fits.whole ∙ clerk.own in
+      let mine_is : part_of history entry.replica ≡ entries_of own = sym own_fits.whole ∙ clerk.own in
       record {
         clerk = record {
           closed = clerk.closed;
           part = refl;
-          own = mine-push_same history entry entry.replica refl ∙ ap (λ part. part ++ entry ∷ []) mine_is
+          own = part_of-push_same history entry entry.replica refl ∙ ap (λ part. part ++ entry ∷ []) mine_is
               ∙ sym (map-append (λ (pair : ℕ × Entry). pair.1) own ((length history, entry) ∷ []));
         };
         pairs = ap (λ pair. own ++ pair ∷ []) (sym pair);
@@ -125,7 +125,7 @@ module _ (setup : Setup) (entry : Entry) (words : List ℕ) (views : List View) 
               ∙ append_assoc old (front.0 ++ fits.front.0) (entry ∷ []),
         ))
         view.olds fits.fronts;
-    fitting = All-one (FitsPart words' kept.seat_of after id after) (part_of entry.replica (own ++ (length history, entry) ∷ [])) (record {
+    fitting = All-one (FitsPart words' kept.seat_of after id after) (part_with entry.replica (own ++ (length history, entry) ∷ [])) (record {
       drawn = ap (λ pairs. pairs ++ (length history, entry) ∷ []) own_fits.drawn ∙ sym (drawn_by-push_same history entry entry.replica refl);
       whole = refl;
       here = own_fits.here;
@@ -159,7 +159,7 @@ module _ (setup : Setup) (entry : Entry) (words : List ℕ) (views : List View) 
     drawn = omega (arith, words_after.drawn, length-append history (entry ∷ []));
     enrolled = rw words_after.enrolled kept.enrolled;
     unborn = λ replica past.
-        mine-push_other history entry replica (omega (arith, own_fits.born, words_after.enrolled, past))
+        part_of-push_other history entry replica (omega (arith, own_fits.born, words_after.enrolled, past))
         ∙ kept.unborn replica (omega (arith, words_after.enrolled, past));
     held = λ replica within.
         HasPart-set views id view new (kept.seat_of replica) replica at

@@ -11,17 +11,17 @@ use Rattle.atomic_table.specs.Seated.{TableId}
 use Rattle.atomic_table.specs.Table.{State, Me, Allows, keeps}
 use Rattle.tact_base.proofs.ElementLemmas.{Contains-first, Contains-none}
 use Rattle.tact_base.proofs.ListLemmas.{All-one}
-use Rattle.run_model.specs.Config.{Setup, IsSetup}
-use Rattle.run_model.specs.Histories.{mine, IsPrefix}
+use Rattle.tact_base.specs.Setup.{Setup, IsSetup}
+use Rattle.run_model.specs.Histories.{part_of, IsPrefix}
 use Rattle.run_model.specs.Runs.{IsLawful}
 use Rattle.run_model.specs.declared.entry.Entry.{Entry}
-use Rattle.run_model.proofs.ConfigLemmas.{HasCounts-from_IsSetup}
+use Rattle.tact_base.proofs.SetupLemmas.{HasCounts-from_IsSetup}
 use Rattle.run_model.proofs.PrefixLemmas.{EachAfter-nil, IsPrefix-filter}
 use Rattle.run_history.specs.declared.view.Part.{Part}
 use Rattle.run_history.specs.declared.view.View.{View}
 use Rattle.run_history.specs.Rule.{FitsPart, FitsSeat, HasPart, IsOneHistory}
 use Rattle.run_history.specs.Seats.{ClerkView, fresh_clerk}
-use Rattle.run_history.specs.Steps.{part_of, first_pairs, seen_in, pairs_in, opener, IsEnrolled}
+use Rattle.run_history.specs.Steps.{part_with, first_pairs, seen_in, pairs_in, opener, IsEnrolled}
 use Rattle.run_history.specs.Ticks.{drawn_by, entries_of}
 use Rattle.run_history.proofs.SeatLemmas.{each_set, begins_itself, at_put, HasPart-set}
 use Rattle.run_history.proofs.TickLemmas.{entries_of-drawn_by}
@@ -93,7 +93,7 @@ module _ (setup : Setup) (words : List ℕ) (views : List View) (kept : IsOneHis
   fresh = slice_index words 1
 
   abbrev new : View
-  new = record view { enrolled = fresh + 1; parts = part_of fresh [] ∷ [] }
+  new = record view { enrolled = fresh + 1; parts = part_with fresh [] ∷ [] }
 
   abbrev words' : List ℕ
   words' = slice_set words 1 ((slice_index words 1 + 1) % 2 ^ 64)
@@ -121,7 +121,7 @@ module _ (setup : Setup) (words : List ℕ) (views : List View) (kept : IsOneHis
       let few : setup.replicas ≤ 8 = (HasCounts-from_IsSetup setup kept.good).replicas_high in
       enrolls words ((slice_index words 1 + 1) % 2 ^ 64) kept.size (omega (arith, is_opener.1, room))
 
-  none_drawn : mine history fresh ≡ []
+  none_drawn : part_of history fresh ≡ []
   none_drawn = kept.unborn fresh (omega arith)
 
   FitsPart-enrolled : (seat : ℕ) (known : List Entry) (part : Part) → FitsPart words kept.seat_of history seat known part → FitsPart words' seat_of' history seat known part
@@ -136,14 +136,14 @@ module _ (setup : Setup) (words : List ℕ) (views : List View) (kept : IsOneHis
   here_fits = record {
     front = fits.front;
     fronts = fits.fronts;
-    fitting = All-one (FitsPart words' seat_of' history id view.seen) (part_of fresh []) (record {
+    fitting = All-one (FitsPart words' seat_of' history id view.seen) (part_with fresh []) (record {
       drawn = sym (no_pairs (drawn_by history fresh) (entries_of-drawn_by history fresh ∙ none_drawn));
-      whole = no_front (mine view.seen fresh) (mine history fresh)
+      whole = no_front (part_of view.seen fresh) (part_of history fresh)
           (IsPrefix-filter (λ (entry : Entry). entry.replica == fresh) view.seen history fits.front) none_drawn ∙ sym none_drawn;
       here = seat_of'-fresh;
       born = omega (arith, words_after.enrolled);
     });
-    apart = one_apart (part_of fresh []);
+    apart = one_apart (part_with fresh []);
     opener = λ still. (is_opener.0, sym words_after.enrolled);
   }
 
@@ -195,7 +195,7 @@ pub enrols : (setup : Setup) (slots id : ℕ) (me : Me (Unit {0}) View) → me.0
     → Allows (λ (state : State (Unit {0}) View). IsOneHistory setup state.words state.views) slots id me 1 (λ n. (n + 1) % 2 ^ 64)
     (λ found after. (after.1 ≡ me.1) × IsEnrolled me.0 found after.0)
 enrols setup slots id me opens empty room state kept homes at in_word = (
-  record me.0 { enrolled = slice_index state.words 1 + 1; parts = part_of (slice_index state.words 1) [] ∷ [] },
+  record me.0 { enrolled = slice_index state.words 1 + 1; parts = part_with (slice_index state.words 1) [] ∷ [] },
   keeps,
   tt,
   rule_after_enrol setup state.words state.views kept id me.0 at opens empty room,
@@ -204,7 +204,7 @@ enrols setup slots id me opens empty room state kept homes at in_word = (
 
 -- what contracts see of a clerk that just enrolled
 pub fresh_clerk_is : (of table : TableId) (replica : ℕ) (views : List View) (view : View) → of ≡ table → views ≡ view ∷ [] → view.seen ≡ []
-    → view.parts ≡ part_of replica [] ∷ []
+    → view.parts ≡ part_with replica [] ∷ []
     → record { table = of; replica = replica; seen = seen_in views; pairs = pairs_in views } ≡ fresh_clerk table replica
 fresh_clerk_is of table replica views view same only seen part =
     let Clerk : TableId → List Entry → List (ℕ × Entry) → ClerkView = λ table seen pairs. record { table = table; replica = replica; seen = seen; pairs = pairs } in

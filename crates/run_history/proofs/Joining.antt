@@ -8,8 +8,8 @@ use lib.ListN.{get_elem?}
 use Rattle.atomic_table.specs.Table.{State, Joins}
 use Rattle.atomic_table.proofs.Lists.{set_else}
 use Rattle.tact_base.proofs.ElementLemmas.{AllPairs-append}
-use Rattle.run_model.specs.Config.{Setup}
-use Rattle.run_model.specs.Histories.{mine, IsPrefix}
+use Rattle.tact_base.specs.Setup.{Setup}
+use Rattle.run_model.specs.Histories.{part_of, IsPrefix}
 use Rattle.run_model.specs.declared.entry.Entry.{Entry}
 use Rattle.run_model.proofs.PrefixLemmas.{IsPrefix-trans, IsPrefix-filter, IsPrefix-length}
 use Rattle.run_history.specs.declared.view.Part.{Part}
@@ -27,11 +27,11 @@ whole_front front whole (rest, is) least =
 
 -- between a front that has all of a replica and the whole each front has all of it
 all_between : (front middle history : List Entry) (replica : ℕ) → IsPrefix front middle → IsPrefix middle history
-    → mine front replica ≡ mine history replica → mine middle replica ≡ mine history replica
+    → part_of front replica ≡ part_of history replica → part_of middle replica ≡ part_of history replica
 all_between front middle history replica first second all =
     let test = λ (entry : Entry). entry.replica == replica in
-    let some_of = IsPrefix-length (mine front replica) (mine middle replica) (IsPrefix-filter test front middle first) in
-    whole_front (mine middle replica) (mine history replica) (IsPrefix-filter test middle history second) (omega (arith, some_of, ap length all))
+    let some_of = IsPrefix-length (part_of front replica) (part_of middle replica) (IsPrefix-filter test front middle first) in
+    whole_front (part_of middle replica) (part_of history replica) (IsPrefix-filter test middle history second) (omega (arith, some_of, ap length all))
 
 FitsPart-knows : (words : List ℕ) (seat_of : ℕ → ℕ) (history : List Entry) (id : ℕ) (known more : List Entry) → IsPrefix known more → IsPrefix more history
     → (part : Part) → FitsPart words seat_of history id known part → FitsPart words seat_of history id more part
@@ -131,7 +131,7 @@ module _ (setup : Setup) (words : List ℕ) (views : List View) (kept : IsOneHis
       rw (moved-else kept.seat_of from id replica else)
       (HasPart-set_other (slice_set views id both) from nothing_known (kept.seat_of replica) replica else
       (HasPart-set views id view both (kept.seat_of replica) replica at
-      (λ mine. rw (replicas_both replica) (Contains-append_left (replicas_in view) (replicas_in other) replica mine)) has)))
+      (λ theirs. rw (replicas_both replica) (Contains-append_left (replicas_in view) (replicas_in other) replica theirs)) has)))
       (cases_eq (kept.seat_of replica) from)
 
   pub rule_after_join : IsOneHistory setup words views'

@@ -2,12 +2,12 @@
 use Rattle.std.proofs.Common.{◌≡◌, ℕ, List, [], ◌∷◌, ◌++◌, All, sym, ap, ◌∙◌, subst}
 use Rattle.std.proofs.lemmas.List.{append-nil}
 use Rattle.std.proofs.lemmas.List.Elements.{All-head, All-tail}
-use Rattle.run_model.specs.Config.{Setup}
+use Rattle.tact_base.specs.Setup.{Setup}
 use Rattle.run_model.specs.Histories.{IsPrefix}
 use Rattle.run_model.specs.declared.entry.Entry.{Entry}
 use Rattle.run_history.specs.declared.view.Part.{Part}
 use Rattle.run_history.specs.declared.view.View.{View}
-use Rattle.run_history.specs.Steps.{part_of, first_pairs, IsClerk, IsNote, IsLooked, joined, Meets}
+use Rattle.run_history.specs.Steps.{part_with, first_pairs, IsClerk, IsNote, IsLooked, joined, Meets}
 use Rattle.run_history.specs.Ticks.{drawn_by, entries_of}
 use Rattle.run_history.proofs.TickLemmas.{entries_of-drawn_by}
 
@@ -26,10 +26,10 @@ module _ (setup : Setup) (replica : ℕ) (before other : View) (found : ℕ) (af
   abbrev pairs : List (ℕ × Entry)
   pairs = first_pairs before.parts
 
-  both_parts : before.parts ++ other.parts ≡ part_of replica pairs ∷ []
+  both_parts : before.parts ++ other.parts ≡ part_with replica pairs ∷ []
   both_parts = ap (λ parts. before.parts ++ parts) note.none ∙ append-nil before.parts ∙ clerk.part
 
-  parts_after : after.parts ≡ part_of replica pairs ∷ []
+  parts_after : after.parts ≡ part_with replica pairs ∷ []
   parts_after = ap (λ (view : View). view.parts) looked.is ∙ both_parts
 
   pub pairs_after : first_pairs after.parts ≡ pairs
@@ -39,9 +39,9 @@ module _ (setup : Setup) (replica : ℕ) (before other : View) (found : ℕ) (af
   clerk_after =
       let IsDrawnPart : Part → Type 0 = λ part. part.pairs ≡ drawn_by after.seen part.replica in
       let drawn : pairs ≡ drawn_by after.seen replica =
-      All-head IsDrawnPart (part_of replica pairs) [] (subst (All IsDrawnPart) both_parts looked.parts) in
+      All-head IsDrawnPart (part_with replica pairs) [] (subst (All IsDrawnPart) both_parts looked.parts) in
       record {
         closed = ap (λ (view : View). view.opens) looked.is ∙ clerk.closed;
-        part = parts_after ∙ ap (λ pairs. part_of replica pairs ∷ []) (sym pairs_after);
+        part = parts_after ∙ ap (λ pairs. part_with replica pairs ∷ []) (sym pairs_after);
         own = sym (entries_of-drawn_by after.seen replica) ∙ ap entries_of (sym drawn ∙ sym pairs_after);
       }

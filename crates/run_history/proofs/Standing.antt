@@ -11,8 +11,8 @@ use Rattle.std.proofs.lemmas.Option.{slice_get_within, slice_get-get_or}
 use mathlib.Core.Option.{some, some-injective, some-ne-none}
 use lib.ListN.{get_elem?}
 use Rattle.atomic_table.proofs.Lists.{at_index}
-use Rattle.run_model.specs.Config.{Setup}
-use Rattle.run_model.specs.Histories.{mine, IsPrefix}
+use Rattle.tact_base.specs.Setup.{Setup}
+use Rattle.run_model.specs.Histories.{part_of, IsPrefix}
 use Rattle.run_model.specs.declared.entry.Entry.{Entry}
 use Rattle.run_model.proofs.PrefixLemmas.{IsPrefix-trans}
 use Rattle.run_history.specs.declared.view.Part.{Part}
@@ -86,7 +86,7 @@ module _ (setup : Setup) (words : List ℕ) (views : List View) (kept : IsOneHis
   pub parts_stand : (seat place : ℕ) (part : Part) → HoldsPart views seat place part → IsDrawnPart (slice_index words 1) part
   parts_stand seat place part held =
       let fits = part_fits seat place part held in
-      let as_many : length part.pairs ≡ length (mine history part.replica) =
+      let as_many : length part.pairs ≡ length (part_of history part.replica) =
       ap length fits.drawn ∙ sym (length-map (drawn_by history part.replica) (λ (pair : ℕ × Entry). pair.1)) ∙ ap length (entries_of-drawn_by history part.replica) in
       record {
         ticks = rw fits.drawn (drawn_rise history part.replica);
@@ -147,7 +147,7 @@ module _ (setup : Setup) (words : List ℕ) (views : List View) (kept : IsOneHis
   born : (tick : ℕ) (entry : Entry) → slice_get history tick ≡ Some entry → entry.replica < slice_index words 1
   born tick entry is = ⊎_elim (λ (less : entry.replica < slice_index words 1). less)
       (λ (past : slice_index words 1 ≤ entry.replica).
-      let none : mine history entry.replica ≡ [] = kept.unborn entry.replica past in
+      let none : part_of history entry.replica ≡ [] = kept.unborn entry.replica past in
       let empty : length (drawn_by history entry.replica) ≡ 0 =
       sym (length-map (drawn_by history entry.replica) (λ (pair : ℕ × Entry). pair.1)) ∙ ap length (entries_of-drawn_by history entry.replica ∙ none) in
       let within = Contains-drawn_by history tick entry is in

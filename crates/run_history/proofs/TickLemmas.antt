@@ -5,7 +5,7 @@ use Rattle.std.proofs.lemmas.List.{append-nil}
 use Rattle.std.proofs.lemmas.List.Elements.{filter-append}
 use Rattle.std.proofs.lemmas.List.FromFn.{length-enumerate_from, get_or-enumerate_from}
 use Rattle.std.proofs.lemmas.Option.{slice_get_within, get_or_from_slice_get, slice_get_read}
-use Rattle.run_model.specs.Histories.{mine}
+use Rattle.run_model.specs.Histories.{part_of}
 use Rattle.run_model.specs.declared.entry.Entry.{Entry}
 use Rattle.tact_base.proofs.ElementLemmas.{Contains-filter, Contains-from_filter}
 use Rattle.run_history.specs.Ticks.{drawn_by, entries_of}
@@ -68,7 +68,7 @@ module _ (history : List Entry) (entry : Entry) (replica : ℕ) where
       ∙ append-nil (drawn_by history replica)
 
 -- the entries of what a replica drew are its part
-pub entries_of-drawn_by : (history : List Entry) (replica : ℕ) → entries_of (drawn_by history replica) ≡ mine history replica
+pub entries_of-drawn_by : (history : List Entry) (replica : ℕ) → entries_of (drawn_by history replica) ≡ part_of history replica
 entries_of-drawn_by history replica = passed-elements (λ (entry : Entry). entry.replica == replica) 0 history
 
 -- what stands in the history is drawn, by the replica that it names

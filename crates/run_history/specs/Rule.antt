@@ -3,8 +3,8 @@
 use Rattle.std.specs.Prelude.{◌≡◌, ◌≢◌, ℕ, ◌<◌, ◌≤◌, true, List, [], All, AllPairs, Contains, map, length, slice_index}
 use mathlib.Core.Option.{some}
 use lib.ListN.{get_elem?}
-use Rattle.run_model.specs.Config.{Setup, IsSetup}
-use Rattle.run_model.specs.Histories.{mine, IsPrefix}
+use Rattle.tact_base.specs.Setup.{Setup, IsSetup}
+use Rattle.run_model.specs.Histories.{part_of, IsPrefix}
 use Rattle.run_model.specs.Runs.{IsRun}
 use Rattle.run_model.specs.declared.entry.Entry.{Entry}
 use Rattle.run_history.specs.declared.view.Part.{Part}
@@ -14,7 +14,7 @@ use Rattle.run_history.specs.Ticks.{drawn_by}
 -- A part at a seat that has seen a front of the history has all that its replica drew, and the seat has seen all of that.
 pub record FitsPart (words : List ℕ) (seat_of : ℕ → ℕ) (history : List Entry) (id : ℕ) (known : List Entry) (part : Part) : Type 0 where
   pub drawn : part.pairs ≡ drawn_by history part.replica
-  pub whole : mine known part.replica ≡ mine history part.replica
+  pub whole : part_of known part.replica ≡ part_of history part.replica
   pub here : seat_of part.replica ≡ id
   pub born : part.replica < slice_index words 1
 
@@ -42,6 +42,6 @@ pub record IsOneHistory (setup : Setup) (words : List ℕ) (views : List View) :
   pub size : length words ≡ 2
   pub drawn : slice_index words 0 ≡ length history
   pub enrolled : slice_index words 1 ≤ setup.replicas
-  pub unborn : (replica : ℕ) → slice_index words 1 ≤ replica → mine history replica ≡ []
+  pub unborn : (replica : ℕ) → slice_index words 1 ≤ replica → part_of history replica ≡ []
   pub held : (replica : ℕ) → replica < slice_index words 1 → HasPart views (seat_of replica) replica
   pub seats : (id : ℕ) (view : View) → get_elem? views id ≡ some view → FitsSeat words seat_of history id view

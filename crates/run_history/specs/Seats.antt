@@ -1,8 +1,8 @@
 -- What contracts see of a desk, of its clerks and of its notes.
 use Rattle.std.specs.Prelude.{ℕ, List, [], map}
 use Rattle.atomic_table.specs.Seated.{TableId}
-use Rattle.run_model.specs.Config.{Setup}
-use Rattle.run_model.specs.Histories.{replicas_of}
+use Rattle.tact_base.specs.Setup.{Setup}
+use Rattle.tact_base.specs.Setup.{replicas_of}
 use Rattle.run_model.specs.declared.entry.Entry.{Entry}
 
 -- which table a desk has, and the setup that it is made for

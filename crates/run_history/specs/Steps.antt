@@ -1,7 +1,7 @@
 -- What seats know, how views are cut and joined, and what the steps of the history table tell.
 use Rattle.std.specs.Prelude.{◌≡◌, ℕ, ◌+◌, true, false, nat_lt, if◌then◌else◌, List, [], ◌∷◌, ◌++◌, All, AllPairs, ◌≢◌, length}
-use Rattle.run_model.specs.Config.{Setup}
-use Rattle.run_model.specs.Histories.{mine, IsPrefix}
+use Rattle.tact_base.specs.Setup.{Setup}
+use Rattle.run_model.specs.Histories.{part_of, IsPrefix}
 use Rattle.run_model.specs.Runs.{IsRun}
 use Rattle.run_model.specs.declared.entry.Entry.{Entry}
 use Rattle.run_history.specs.declared.view.Part.{Part}
@@ -9,8 +9,8 @@ use Rattle.run_history.specs.declared.view.View.{View}
 use Rattle.run_history.specs.Ticks.{drawn_by, entries_of, EndsWith}
 
 -- the part of a replica that drew these pairs
-abbrev pub part_of : ℕ → List (ℕ × Entry) → Part
-part_of replica pairs = record { replica = replica; pairs = pairs }
+abbrev pub part_with : ℕ → List (ℕ × Entry) → Part
+part_with replica pairs = record { replica = replica; pairs = pairs }
 
 -- the pairs of the first of parts
 abbrev pub first_pairs : List Part → List (ℕ × Entry)
@@ -37,8 +37,8 @@ opener setup = record nothing_known { opens = true }
 -- a clerk of a replica: it has the one part, and has seen all of it
 pub record IsClerk (replica : ℕ) (view : View) : Type 0 where
   pub closed : view.opens ≡ false
-  pub part : view.parts ≡ part_of replica (first_pairs view.parts) ∷ []
-  pub own : mine view.seen replica ≡ entries_of (first_pairs view.parts)
+  pub part : view.parts ≡ part_with replica (first_pairs view.parts) ∷ []
+  pub own : part_of view.seen replica ≡ entries_of (first_pairs view.parts)
 
 -- a note: it has no part
 pub record IsNote (view : View) : Type 0 where
@@ -73,7 +73,7 @@ joined view other = record {
 -- enrol: the opener has the part, empty, of the number that was found
 pub record IsEnrolled (before : View) (found : ℕ) (after : View) : Type 0 where
   pub number : found ≡ before.enrolled
-  pub is : after ≡ record before { enrolled = found + 1; parts = part_of found [] ∷ [] }
+  pub is : after ≡ record before { enrolled = found + 1; parts = part_with found [] ∷ [] }
 
 -- draw: the clerk's part has the entry with its tick, and it has seen the history up to the entry and with it
 pub record IsDrawn (setup : Setup) (entry : Entry) (before : View) (tick : ℕ) (after : View) : Type 0 where

@@ -1,7 +1,7 @@
 ghost use Rattle.std.specs.Prelude.{◌≡◌, ◌∷◌, ◌++◌, []};
-ghost use Rattle.run_model.specs.Histories.{mine, IsPrefix};
+ghost use Rattle.run_model.specs.Histories.{part_of, IsPrefix};
 ghost use Rattle.run_model.specs.Runs.{IsDue, IsRun, WasSent};
-ghost use Rattle.run_history.specs.Steps.{part_of};
+ghost use Rattle.run_history.specs.Steps.{part_with};
 ghost use Rattle.run_history.specs.Ticks.{entries_of, EndsWith};
 
 use crate::desk::Desk;
@@ -37,7 +37,7 @@ impl Clerk {
     pub(crate) fn into_seat(self) -> Seat
         ensures seat { (result.table_id ≡ self.table) × (result.me.1 ≡ []) }
         ensures seen { result.me.0.seen ≡ self.seen }
-        ensures part { result.me.0.parts ≡ part_of self.replica self.pairs ∷ [] }
+        ensures part { result.me.0.parts ≡ part_with self.replica self.pairs ∷ [] }
     {
         let Clerk { replica: _, badge } = self;
         badge.into_seat::<()>()
@@ -46,7 +46,7 @@ impl Clerk {
     /// The replica whose entries it draws.
     pub fn replica(&self) -> u32
         ensures replica { result ≡ self.now.replica }
-        ensures own { mine self.now.seen self.now.replica ≡ entries_of self.now.pairs }
+        ensures own { part_of self.now.seen self.now.replica ≡ entries_of self.now.pairs }
     {
         self.replica
     }
@@ -62,7 +62,7 @@ impl Clerk {
         ensures drawn { self.new.pairs ≡ self.old.pairs ++ (result, entry.now) ∷ [] }
         ensures seen { EndsWith entry.now result self.old.seen self.new.seen }
         ensures run { IsRun desk.now.setup self.new.seen }
-        ensures own { mine self.new.seen self.new.replica ≡ entries_of self.new.pairs }
+        ensures own { part_of self.new.seen self.new.replica ≡ entries_of self.new.pairs }
     {
         let mut seat = mem::replace(&mut self.badge, Badge::blank()).into_seat::<()>();
         let tick = draw_as::<Brand, Brand>(&desk.table, &mut seat, entry);
@@ -76,7 +76,7 @@ impl Clerk {
         ensures kept { self.new ≡ self.old }
         ensures desk { result.table ≡ self.old.table }
         ensures seen { result.seen ≡ self.old.seen }
-        ensures own { mine self.new.seen self.new.replica ≡ entries_of self.new.pairs }
+        ensures own { part_of self.new.seen self.new.replica ≡ entries_of self.new.pairs }
     {
         let mut seat = mem::replace(&mut self.badge, Badge::blank()).into_seat::<()>();
         let note = note_as(&desk.table, &mut seat);
@@ -96,7 +96,7 @@ impl Clerk {
         ensures mine { IsPrefix self.old.seen self.new.seen }
         ensures note { IsPrefix note.seen self.new.seen }
         ensures run { IsRun desk.now.setup self.new.seen }
-        ensures own { mine self.new.seen self.new.replica ≡ entries_of self.new.pairs }
+        ensures own { part_of self.new.seen self.new.replica ≡ entries_of self.new.pairs }
     {
         let mut seat = mem::replace(&mut self.badge, Badge::blank()).into_seat::<()>();
         let Note { badge } = note;

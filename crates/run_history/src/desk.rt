@@ -24,7 +24,7 @@ pub struct Desk {
 
 impl Model for Desk {
     ghost use Rattle.std.specs.Prelude.{◌≡◌};
-    ghost use Rattle.run_model.specs.Config.{IsSetup};
+    ghost use Rattle.tact_base.specs.Setup.{IsSetup};
     ghost use Rattle.run_history.specs.Seats.{DeskView};
 
     ghost Value = { DeskView };

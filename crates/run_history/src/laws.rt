@@ -1,6 +1,6 @@
 //! What the history rule says. The function states it by its clauses, and does nothing.
 ghost use Rattle.std.specs.Prelude.{◌≡◌, ◌<◌, ℕ, List, slice_index};
-ghost use Rattle.run_model.specs.Config.{Setup};
+ghost use Rattle.tact_base.specs.Setup.{Setup};
 ghost use Rattle.run_model.specs.declared.entry.Entry.{Entry};
 ghost use Rattle.run_history.specs.declared.view.Part.{Part};
 ghost use Rattle.run_history.specs.declared.view.View.{View};

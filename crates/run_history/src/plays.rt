@@ -18,7 +18,7 @@ impl TableRule<(), View, Config> for OneHistory {
 
 /// What a step is told for the proof alone: the setup of the desk.
 pub trait Told {
-    ghost use Rattle.run_model.specs.Config.{Setup};
+    ghost use Rattle.tact_base.specs.Setup.{Setup};
 
     ghost setup: { Setup };
 }
@@ -32,7 +32,7 @@ pub trait ToldEntry {
 
 impl Told for Brand {
     ghost use Rattle.std.specs.Prelude.{[]};
-    ghost use Rattle.run_model.specs.Config.{setup as setup_of};
+    ghost use Rattle.tact_base.specs.Setup.{setup as setup_of};
 
     ghost setup = { setup_of 0 0 [] [] };
 }

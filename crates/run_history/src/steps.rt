@@ -1,7 +1,7 @@
 // The steps on the history table, as seats make them.
 ghost use Rattle.std.specs.Prelude.{◌≡◌, ◌++◌, ◌<◌, ◌+◌, ◌∷◌, true, [], ℕ};
 ghost use Rattle.run_model.specs.Runs.{IsDue, WasSent};
-ghost use Rattle.run_history.specs.Steps.{IsClerk, IsNote, IsDrawn, IsLooked, Meets, first_pairs, joined, noted, nothing_known, part_of};
+ghost use Rattle.run_history.specs.Steps.{IsClerk, IsNote, IsDrawn, IsLooked, Meets, first_pairs, joined, noted, nothing_known, part_with};
 ghost use Rattle.run_history.specs.Ticks.{entries_of};
 
 use crate::plays::{Both, Comes, Draws, Enrols, Hands, Looks, Notes, OneHistory, Told, ToldEntry};
@@ -95,7 +95,7 @@ pub fn enrol_as(table: &Table, seat: &mut Seat, replica: u32) -> Seat
     ensures opener { (seat.new.me.0.opens ≡ true) × (seat.new.me.0.parts ≡ []) × (seat.new.me.0.seen ≡ []) }
     ensures enrolled { seat.new.me.0.enrolled ≡ replica + 1 }
     ensures clerk { (result.table_id ≡ seat.old.table_id) × (result.me.1 ≡ []) × IsClerk replica result.me.0 }
-    ensures fresh { (result.me.0.seen ≡ []) × (result.me.0.parts ≡ part_of replica [] ∷ []) }
+    ensures fresh { (result.me.0.seen ≡ []) × (result.me.0.parts ≡ part_with replica [] ∷ []) }
 {
     let _ = replica;
     let _ = table.shared.fetch_add::<Enrols>(seat, 1, 1);
