@@ -1,9 +1,8 @@
 -- Clerks that draw restarts, the first at the moment 0, the next at 1, and so on.
-use Rattle.std.specs.Prelude.{◌≡◌, ℕ, ◌<◌, List, All, map, length, slice_index_or}
+use Rattle.std.specs.Prelude.{◌≡◌, ℕ, ◌<◌, List, map, length, slice_index_or}
 use Rattle.std.specs.List.{range_with_len}
 use Rattle.run_model.specs.declared.entry.Act.TheVariants as act
 use Rattle.run_model.specs.declared.entry.Entry.{Entry}
-use Rattle.run_history.specs.Closing.{AreAllThere}
 use Rattle.run_history.specs.Seats.{ClerkView, DeskView}
 use Rattle.run_history.specs.Ticks.{entries_of}
 
@@ -15,11 +14,6 @@ pub record HasRestarts (desk : DeskView) (count : ℕ) (clerk : ClerkView) : Typ
   pub table : clerk.table ≡ desk.table
   pub replica : clerk.replica < desk.setup.replicas
   pub drawn : entries_of clerk.pairs ≡ map (restart clerk.replica) (range_with_len 0 count)
-
--- the clerks of a desk, of each replica one
-pub record AreClerksOf (desk : DeskView) (clerks : List ClerkView) : Type 0 where
-  pub tables : All (λ (clerk : ClerkView). clerk.table ≡ desk.table) clerks
-  pub whole : AreAllThere desk.setup.replicas clerks
 
 -- the clerk of each replica in its place, and no other
 pub record AreInPlace (desk : DeskView) (clerks : List ClerkView) : Type 0 where

@@ -1,4 +1,4 @@
-ghost use Rattle.std.specs.Prelude.{◌≡◌, ◌<◌, ◌≤◌, ◌+◌, IfOk, map};
+ghost use Rattle.std.specs.Prelude.{◌≡◌, ◌<◌, ◌≤◌, ◌+◌, ℕ, IfOk, map, vec_len, slice_index_or};
 ghost use Rattle.run_history.specs.Seats.{fresh_clerks};
 ghost use Rattle.thread_tests.specs.Restarts.{HasRestarts, AreInPlace};
 
@@ -68,6 +68,22 @@ fn draw_many(desk: &Desk, mut clerk: Clerk) -> Drawn
 }
 
 // Each clerk draws in a thread of its own.
+fn draw_each<R: Threads + Sync>(
+    rt: &R,
+    desk: &Desk,
+    clerks: Vec<Clerk>,
+) -> Result<Vec<Drawn>, AllocError>
+    requires { (i : ℕ) (d : _) → i < vec_len clerks → HasRestarts desk.now 0 (slice_index_or clerks.items i d) }
+    ensures len { IfOk result (λ drawn. vec_len drawn ≡ vec_len clerks) }
+    ensures tables { IfOk result (λ drawn. (i : ℕ) (d : _) → i < vec_len clerks
+        → (slice_index_or drawn.items i d).clerk.table ≡ desk.now.table) }
+    ensures replicas { IfOk result (λ drawn. (i : ℕ) (d : _) (e : _) → i < vec_len clerks
+        → (slice_index_or drawn.items i d).clerk.replica ≡ (slice_index_or clerks.items i e).replica) }
+{
+    thread::map_vec(rt, clerks, &|clerk| draw_many(desk, clerk))
+}
+
+// The same with the clerks of a desk that just opened, which then are in their places.
 fn draw_all<R: Threads + Sync>(
     rt: &R,
     desk: &Desk,
@@ -76,12 +92,8 @@ fn draw_all<R: Threads + Sync>(
     requires { clerks.items ≡ fresh_clerks desk.now }
     ensures { IfOk result (λ drawn. AreInPlace desk.now (map (λ one. one.clerk) drawn.items)) }
 {
-    let draws = |clerk: Clerk| -> Drawn
-        requires { HasRestarts desk.now 0 clerk }
-        ensures table { result.clerk.table ≡ desk.entry.now.table }
-        ensures replica { result.clerk.replica ≡ clerk.replica }
-    { draw_many(desk, clerk) };
-    thread::map_vec(rt, clerks, &draws)
+    let drawn = draw_each(rt, desk, clerks)?;
+    Ok(drawn)
 }
 
 // Closes a desk with the clerks, and gives what it counted and what they drew.
