@@ -64,9 +64,11 @@ tables_in_place desk clerks in_place i d within = (in_place.each i d within).0
 pub whole_in_place : (desk : DeskView) (clerks : List ClerkView) → AreInPlace desk clerks → AreAllThere desk.setup.replicas clerks
 whole_in_place desk clerks in_place replica below =
     let within : replica < length clerks = omega (arith, in_place.size) in
-    let some_clerk = fresh_clerk desk.table 0 in
-    (replica, omega (arith, length-map clerks (λ (clerk : ClerkView). clerk.replica)),
-    get_or-map (λ (clerk : ClerkView). clerk.replica) clerks replica some_clerk replica within ∙ (in_place.each replica some_clerk within).1)
+    let some_clerk = fresh_clerk desk.table 0 in (
+      replica,
+      omega (arith, length-map clerks (λ (clerk : ClerkView). clerk.replica)),
+      get_or-map (λ (clerk : ClerkView). clerk.replica) clerks replica some_clerk replica within ∙ (in_place.each replica some_clerk within).1,
+    )
 
 -- two clerks are all where there are two replicas
 pub two_there : (replicas : ℕ) (first second : ClerkView) → replicas ≡ 2 → first.replica ≡ 0 → second.replica ≡ 1 → AreAllThere replicas (first ∷ second ∷ [])
@@ -103,10 +105,11 @@ still_in_place f desk clerks drawn fresh size as_many tables replicas = record {
   each = λ i d within.
       let inside : i < length drawn = omega (arith, length-map drawn f) in
       let one = an_element drawn i inside in
-      let read = get_or-map f drawn i one d inside in
-      (ap (λ (clerk : ClerkView). clerk.table) read ∙ tables i one (omega arith),
-      ap (λ (clerk : ClerkView). clerk.replica) read ∙ replicas i one d (omega arith)
-      ∙ ap (λ (clerk : ClerkView). clerk.replica) (fresh_at desk clerks i d fresh (omega arith)).0);
+      let read = get_or-map f drawn i one d inside in (
+        ap (λ (clerk : ClerkView). clerk.table) read ∙ tables i one (omega arith),
+        ap (λ (clerk : ClerkView). clerk.replica) read ∙ replicas i one d (omega arith)
+            ∙ ap (λ (clerk : ClerkView). clerk.replica) (fresh_at desk clerks i d fresh (omega arith)).0,
+      );
 }
 
 pub fresh_size : (desk : DeskView) (clerks : List ClerkView) → clerks ≡ fresh_clerks desk → length clerks ≡ desk.setup.replicas

@@ -120,7 +120,10 @@ fn is_run_of_restarts(rt: &impl Abort, all: &[[u64; DRAWS]]) {
     for (replica, ticks) in all.iter().enumerate() {
         for (moment, &tick) in ticks.iter().enumerate() {
             let tick = tick as usize;
-            assert!(rt; tick < 800 && drawn_at[tick].is_none(), "one entry at {tick}");
+            assert!(rt;
+                tick < 800 && drawn_at[tick].is_none(),
+                "one entry at {tick}"
+            );
             drawn_at[tick] = Some((replica, moment));
         }
     }
@@ -129,7 +132,10 @@ fn is_run_of_restarts(rt: &impl Abort, all: &[[u64; DRAWS]]) {
         let &Some((replica, moment)) = drawn else {
             panic!(rt; "no entry at {tick}")
         };
-        assert!(rt; replica < 8 && moment < DRAWS && next[replica] == moment, "{replica} at {tick}");
+        assert!(rt;
+            replica < 8 && moment < DRAWS && next[replica] == moment,
+            "{replica} at {tick}"
+        );
         next[replica] = moment + 1;
     }
 }

@@ -1,4 +1,4 @@
-use Rattle.std.proofs.Common.{◌≡◌, arith, length}
+use Rattle.std.proofs.Common.{arith}
 use Rattle.thread_tests.specs.declared.history.Drawn.{Drawn}
 use Rattle.thread_tests.proofs.RestartLemmas.{fresh_has_none, fresh_size, still_in_place}
 use Rattle.thread_tests.proofs.history.draw_all.Goals as goal
