@@ -1,6 +1,6 @@
 -- What closing gathers is the whole history.
-use Rattle.std.proofs.Common.{◌≡◌, ℕ, ◌<◌, List, [], ◌∷◌, ◌++◌, All, Contains, map, slice_get, Some, refl, sym, ap, ◌∙◌, subst, ⊎_elim, arith}
-use Rattle.std.proofs.lemmas.List.{map-append}
+use Rattle.std.proofs.Common.{◌≡◌, ◌≢◌, ℕ, ◌<◌, List, [], ◌∷◌, ◌++◌, All, AllPairs, Contains, map, slice_get, Some, refl, sym, ap, ◌∙◌, subst, ⊎_elim, arith}
+use Rattle.std.proofs.lemmas.List.{map-append, length-map, get_or-map}
 use Rattle.std.proofs.lemmas.List.Elements.{All-weaker, All-append, All-contains, Contains-append_left}
 use Rattle.std.proofs.lemmas.Option.{slice_get_within, get_or_from_slice_get}
 use Rattle.tact_base.proofs.ElementLemmas.{Contains-first, Contains-later, Contains-cases, Contains-none, Contains-flat_map, Contains-from_flat_map}
@@ -13,13 +13,14 @@ use Rattle.run_history.specs.declared.view.Part.{Part}
 use Rattle.run_history.specs.declared.view.View.{View}
 use Rattle.run_history.specs.Closing.{all_drawn, AreAllThere, Gathers}
 use Rattle.run_history.specs.Seats.{ClerkView}
-use Rattle.run_history.specs.Steps.{part_with, IsLooked, joined, nothing_known}
+use Rattle.run_history.specs.Steps.{part_with, IsLooked, joined}
 use Rattle.run_history.specs.Ticks.{drawn_by, IsMerge}
 use Rattle.run_history.proofs.RunLemmas.{replicas_in_run}
 use Rattle.run_history.proofs.TickLemmas.{Contains-drawn_by, drawn_by-Contains}
 
 -- what is among the numbers that a function gives is given by an element
-pub from_map : {X : Type 0} (f : X → ℕ) (xs : List X) (n : ℕ) → Contains (map f xs) n → (x : X) × Contains xs x × (f x ≡ n)
+pub from_map : {X : Type 0} (f : X → ℕ) (xs : List X) (n : ℕ) → Contains (map f xs) n
+    → (x : X) × Contains xs x × (f x ≡ n)
 from_map f [] n within = absurd (Contains-none n within)
 from_map f (x ∷ xs) n within = ⊎_elim
     (λ (same : f x ≡ n). (x, Contains-first x x xs refl, same))
@@ -27,19 +28,22 @@ from_map f (x ∷ xs) n within = ⊎_elim
     (Contains-cases (f x) n (map f xs) within)
 
 -- what stands at a place is contained
-in_history : (history : List Entry) (tick : ℕ) (entry : Entry) → slice_get history tick ≡ Some entry → Contains history entry
+in_history : (history : List Entry) (tick : ℕ) (entry : Entry) → slice_get history tick ≡ Some entry
+    → Contains history entry
 in_history history tick entry is = (tick, slice_get_within history tick entry is, get_or_from_slice_get history tick entry entry is)
 
 -- clerks, one for each replica, that drew what their replicas drew of a history have all of it
 module _ (setup : Setup) (history : List Entry) (run : IsRun setup history) (clerks : List ClerkView)
     (all : AreAllThere setup.replicas clerks) (drawn : All (λ (clerk : ClerkView). clerk.pairs ≡ drawn_by history clerk.replica) clerks) where
-  stands : (tick : ℕ) (entry : Entry) → Contains (all_drawn clerks) (tick, entry) → slice_get history tick ≡ Some entry
+  stands : (tick : ℕ) (entry : Entry) → Contains (all_drawn clerks) (tick, entry)
+      → slice_get history tick ≡ Some entry
   stands tick entry within =
       let found = Contains-from_flat_map (λ (clerk : ClerkView). clerk.pairs) clerks (tick, entry) within in
       let is : found.0.pairs ≡ drawn_by history found.0.replica = All-contains (λ (clerk : ClerkView). clerk.pairs ≡ drawn_by history clerk.replica) clerks found.0 drawn found.1 in
       drawn_by-Contains history found.0.replica tick entry (subst (λ pairs. Contains pairs (tick, entry)) is found.2)
 
-  present : (tick : ℕ) (entry : Entry) → slice_get history tick ≡ Some entry → Contains (all_drawn clerks) (tick, entry)
+  present : (tick : ℕ) (entry : Entry) → slice_get history tick ≡ Some entry
+      → Contains (all_drawn clerks) (tick, entry)
   present tick entry is =
       let here = Contains-drawn_by history tick entry is in
       let below : entry.replica < setup.replicas = All-contains (λ (entry : Entry). entry.replica < setup.replicas) history entry (replicas_in_run setup history run) (in_history history tick entry is) in
@@ -52,11 +56,10 @@ module _ (setup : Setup) (history : List Entry) (run : IsRun setup history) (cle
   merges tick entry = (stands tick entry, present tick entry)
 
 -- A seat that gathers.
-pub gathers_none : Gathers [] nothing_known
-gathers_none = record { closed = refl; parts = refl; seen = λ k d within. absurd (omega arith) }
-
-pub gathers_more : (clerks : List ClerkView) (clerk : ClerkView) (view other : View) → Gathers clerks view
-    → clerk.seen ≡ other.seen → other.parts ≡ part_with clerk.replica clerk.pairs ∷ [] → Gathers (clerks ++ clerk ∷ []) (joined view other)
+pub gathers_more : (clerks : List ClerkView) (clerk : ClerkView) (view other : View)
+    → Gathers clerks view → clerk.seen ≡ other.seen
+    → other.parts ≡ part_with clerk.replica clerk.pairs ∷ []
+    → Gathers (clerks ++ clerk ∷ []) (joined view other)
 gathers_more clerks clerk view other gathered seen part =
     let IsIn : ClerkView → Type 0 = λ clerk. Contains (joined view other).olds clerk.seen in
     record {
@@ -83,3 +86,13 @@ module _ (setup : Setup) (clerks : List ClerkView) (before : View) (found : ℕ)
   pub fronts_seen : All (λ (clerk : ClerkView). IsPrefix clerk.seen after.seen) clerks
   fronts_seen = All-weaker (λ (clerk : ClerkView). Contains before.olds clerk.seen) (λ (clerk : ClerkView). IsPrefix clerk.seen after.seen)
       (λ clerk within. All-contains (λ old. IsPrefix old after.seen) before.olds clerk.seen looked.fronts within) clerks gathered.seen
+
+  -- no two of the clerks are of one replica
+  pub clerks_apart : AllPairs (λ (one other : ClerkView). one.replica ≢ other.replica) clerks
+  clerks_apart i j d less within =
+      let part = λ (clerk : ClerkView). part_with clerk.replica clerk.pairs in
+      let Apart : Part → Part → Type 0 = λ one other. one.replica ≢ other.replica in
+      let apart = subst (AllPairs Apart) gathered.parts looked.apart in
+      let different = apart i j (part d) less (omega (arith, length-map clerks part, within)) in
+      let replica = λ (part : Part). part.replica in
+      λ same. different (ap replica (get_or-map part clerks i d (part d) (omega arith)) ∙ same ∙ sym (ap replica (get_or-map part clerks j d (part d) within)))

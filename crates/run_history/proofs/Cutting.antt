@@ -18,7 +18,8 @@ use Rattle.run_history.proofs.SeatLemmas.{each_set, each_push, moved, moved-ther
 
 -- a seat that comes with no part
 pub rule_with : (setup : Setup) (words : List ℕ) (views : List View) (new : View) (kept : IsOneHistory setup words views)
-    → FitsSeat words kept.seat_of kept.history (length views) new → IsOneHistory setup words (views ++ new ∷ [])
+    → FitsSeat words kept.seat_of kept.history (length views) new
+    → IsOneHistory setup words (views ++ new ∷ [])
 rule_with setup words views new kept fits = record {
   history = kept.history;
   seat_of = kept.seat_of;
@@ -33,8 +34,9 @@ rule_with setup words views new kept fits = record {
 }
 
 -- it fits where it has seen a front and doesn't open
-pub partless_fits : (words : List ℕ) (seat_of : ℕ → ℕ) (history : List Entry) (id : ℕ) (view : View) → IsPrefix view.seen history
-    → All (λ old. IsPrefix old view.seen) view.olds → view.parts ≡ [] → view.opens ≡ false → FitsSeat words seat_of history id view
+pub partless_fits : (words : List ℕ) (seat_of : ℕ → ℕ) (history : List Entry) (id : ℕ) (view : View)
+    → IsPrefix view.seen history → All (λ old. IsPrefix old view.seen) view.olds → view.parts ≡ []
+    → view.opens ≡ false → FitsSeat words seat_of history id view
 partless_fits words seat_of history id view front fronts none closed = record {
   front = front;
   fronts = fronts;
@@ -51,7 +53,8 @@ notes setup id view state kept at =
     (rule_with setup state.words state.views (noted view) kept
     (partless_fits state.words kept.seat_of kept.history (length state.views) (noted view) fits.front fits.fronts refl refl))
 
-pub comes : (setup : Setup) (slots : ℕ) (then : ℕ → View → Type 0) → ((found : ℕ) → then found nothing_known)
+pub comes : (setup : Setup) (slots : ℕ) (then : ℕ → View → Type 0)
+    → ((found : ℕ) → then found nothing_known)
     → Enters (λ (state : State (Unit {0}) View). IsOneHistory setup state.words state.views) slots 0 then
 comes setup slots then told state kept homes in_word = (
   nothing_known,
@@ -62,7 +65,8 @@ comes setup slots then told state kept homes in_word = (
 
 -- parts of other seats, and parts that move
 module _ (words : List ℕ) (seat_of : ℕ → ℕ) (history : List Entry) (from to : ℕ) where
-  pub FitsPart-stays : (id : ℕ) (known : List Entry) (part : Part) → id ≢ from → FitsPart words seat_of history id known part
+  pub FitsPart-stays : (id : ℕ) (known : List Entry) (part : Part) → id ≢ from
+      → FitsPart words seat_of history id known part
       → FitsPart words (moved seat_of from to) history id known part
   FitsPart-stays id known part other fit = record {
     drawn = fit.drawn;
@@ -71,7 +75,8 @@ module _ (words : List ℕ) (seat_of : ℕ → ℕ) (history : List Entry) (from
     born = fit.born;
   }
 
-  pub FitsPart-moves : (known : List Entry) (part : Part) → FitsPart words seat_of history from known part
+  pub FitsPart-moves : (known : List Entry) (part : Part)
+      → FitsPart words seat_of history from known part
       → FitsPart words (moved seat_of from to) history to known part
   FitsPart-moves known part fit = record {
     drawn = fit.drawn;
@@ -80,7 +85,8 @@ module _ (words : List ℕ) (seat_of : ℕ → ℕ) (history : List Entry) (from
     born = fit.born;
   }
 
-  pub FitsSeat-stays : (id : ℕ) (view : View) → id ≢ from → FitsSeat words seat_of history id view → FitsSeat words (moved seat_of from to) history id view
+  pub FitsSeat-stays : (id : ℕ) (view : View) → id ≢ from → FitsSeat words seat_of history id view
+      → FitsSeat words (moved seat_of from to) history id view
   FitsSeat-stays id view other fits = record {
     front = fits.front;
     fronts = fits.fronts;
@@ -127,7 +133,8 @@ module _ (setup : Setup) (words : List ℕ) (views : List View) (kept : IsOneHis
     opener = λ opens. absurd (cc opens);
   }
 
-  held_after : (replica : ℕ) → replica < slice_index words 1 → HasPart (left ++ handed view ∷ []) (seat_of' replica) replica
+  held_after : (replica : ℕ) → replica < slice_index words 1
+      → HasPart (left ++ handed view ∷ []) (seat_of' replica) replica
   held_after replica within =
       let has = kept.held replica within in
       ⊎_elim

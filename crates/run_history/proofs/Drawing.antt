@@ -13,14 +13,14 @@ use Rattle.run_model.specs.Runs.{IsDue, IsLawful, IsRun, WasSent}
 use Rattle.run_model.specs.declared.entry.Entry.{Entry}
 use Rattle.tact_base.proofs.SetupLemmas.{HasCounts-from_IsSetup}
 use Rattle.run_model.proofs.PartLemmas.{part_of-push_same, part_of-push_other}
-use Rattle.run_model.proofs.PrefixLemmas.{EachAfter-push}
+use Rattle.run_model.proofs.PrefixLemmas.{EachAfter-push, IsPrefix-refl}
 use Rattle.run_history.specs.declared.view.Part.{Part}
 use Rattle.run_history.specs.declared.view.View.{View}
 use Rattle.run_history.specs.Rule.{FitsPart, FitsSeat, IsOneHistory}
 use Rattle.run_history.specs.Steps.{part_with, first_pairs, IsClerk, IsDrawn}
 use Rattle.run_history.specs.Ticks.{entries_of}
 use Rattle.run_history.proofs.RunLemmas.{IsLawful-more, run_is_short}
-use Rattle.run_history.proofs.SeatLemmas.{each_set, begins_itself, HasPart-set}
+use Rattle.run_history.proofs.SeatLemmas.{each_set, HasPart-set}
 use Rattle.run_history.proofs.TickLemmas.{drawn_by-push_same, drawn_by-push_other}
 
 -- a clerk's view after it drew
@@ -36,7 +36,8 @@ pub record Counted (words new : List ℕ) (count : ℕ) : Type 0 where
   pub enrolled : slice_index new 1 ≡ slice_index words 1
   pub size : length new ≡ 2
 
-counted : (words : List ℕ) (count n : ℕ) → length words ≡ 2 → n ≡ count + 1 → Counted words (slice_set words 0 n) count
+counted : (words : List ℕ) (count n : ℕ) → length words ≡ 2 → n ≡ count + 1
+    → Counted words (slice_set words 0 n) count
 counted words count n size is = record {
   drawn = get_or-set_same words 0 n 0 (omega arith) ∙ is;
   enrolled = get_or-set_other words 0 1 n 0 (omega arith);
@@ -45,7 +46,8 @@ counted words count n size is = record {
 
 -- a part of another replica fits after the draw
 FitsPart-drawn : (words new : List ℕ) (count : ℕ) (seat_of : ℕ → ℕ) (history : List Entry) (entry : Entry) (id : ℕ) (known : List Entry) (part : Part)
-    → Counted words new count → part.replica ≢ entry.replica → FitsPart words seat_of history id known part
+    → Counted words new count → part.replica ≢ entry.replica
+    → FitsPart words seat_of history id known part
     → FitsPart new seat_of (history ++ entry ∷ []) id known part
 FitsPart-drawn words new count seat_of history entry id known part words_are other fits =
     let apart : entry.replica ≡ part.replica → ⊥ = λ same. other (sym same) in
@@ -117,7 +119,7 @@ module _ (setup : Setup) (entry : Entry) (words : List ℕ) (views : List View) 
 
   here_fits : FitsSeat words' kept.seat_of after id new
   here_fits = record {
-    front = begins_itself after;
+    front = IsPrefix-refl after;
     fronts = All-weaker (λ old. IsPrefix old view.seen) (λ old. IsPrefix old after)
         (λ old front. (
           (front.0 ++ fits.front.0) ++ entry ∷ [],
@@ -135,7 +137,8 @@ module _ (setup : Setup) (entry : Entry) (words : List ℕ) (views : List View) 
     opener = λ opens. absurd (cc (opens, clerk.closed));
   }
 
-  other_fits : (seat : ℕ) (other : View) → seat ≢ id → get_elem? views seat ≡ some other → FitsSeat words' kept.seat_of after seat other
+  other_fits : (seat : ℕ) (other : View) → seat ≢ id → get_elem? views seat ≡ some other
+      → FitsSeat words' kept.seat_of after seat other
   other_fits seat other apart at_other =
       let fits = kept.seats seat other at_other in
       record {

@@ -16,29 +16,31 @@ use Rattle.run_model.specs.Histories.{part_of, IsPrefix}
 use Rattle.run_model.specs.Runs.{IsLawful}
 use Rattle.run_model.specs.declared.entry.Entry.{Entry}
 use Rattle.tact_base.proofs.SetupLemmas.{HasCounts-from_IsSetup}
-use Rattle.run_model.proofs.PrefixLemmas.{EachAfter-nil, IsPrefix-filter}
+use Rattle.run_model.proofs.PrefixLemmas.{EachAfter-nil, IsPrefix-filter, IsPrefix-refl}
 use Rattle.run_history.specs.declared.view.Part.{Part}
 use Rattle.run_history.specs.declared.view.View.{View}
 use Rattle.run_history.specs.Rule.{FitsPart, FitsSeat, HasPart, IsOneHistory}
 use Rattle.run_history.specs.Seats.{ClerkView, fresh_clerk}
 use Rattle.run_history.specs.Steps.{part_with, first_pairs, seen_in, pairs_in, opener, IsEnrolled}
 use Rattle.run_history.specs.Ticks.{drawn_by, entries_of}
-use Rattle.run_history.proofs.SeatLemmas.{each_set, begins_itself, at_put, HasPart-set}
+use Rattle.run_history.proofs.SeatLemmas.{each_set, at_put, HasPart-set}
 use Rattle.run_history.proofs.TickLemmas.{entries_of-drawn_by}
 
 -- no part at all
 pub none_apart : AllPairs (λ (one other : Part). one.replica ≢ other.replica) []
 none_apart i j d less within = absurd (omega arith)
 
-pub one_apart : (part : Part) → AllPairs (λ (one other : Part). one.replica ≢ other.replica) (part ∷ [])
+pub one_apart : (part : Part)
+    → AllPairs (λ (one other : Part). one.replica ≢ other.replica) (part ∷ [])
 one_apart part i j d less within = absurd (omega arith)
 
 -- The rule at the start.
-first_fits : (setup : Setup) (id : ℕ) (view : View) → get_elem? (opener setup ∷ []) id ≡ some view → FitsSeat (0 ∷ 0 ∷ []) (λ replica. 0) [] id view
+first_fits : (setup : Setup) (id : ℕ) (view : View) → get_elem? (opener setup ∷ []) id ≡ some view
+    → FitsSeat (0 ∷ 0 ∷ []) (λ replica. 0) [] id view
 first_fits setup zero view at =
     let is : opener setup ≡ view = some-injective (opener setup) view at in
     subst (FitsSeat (0 ∷ 0 ∷ []) (λ replica. 0) [] 0) is (record {
-      front = begins_itself [];
+      front = IsPrefix-refl [];
       fronts = All-nil (λ old. IsPrefix old []);
       fitting = All-nil (FitsPart (0 ∷ 0 ∷ []) (λ replica. 0) [] 0 []);
       apart = none_apart;
@@ -75,7 +77,8 @@ record Enrolls (words new : List ℕ) : Type 0 where
   pub enrolled : slice_index new 1 ≡ slice_index words 1 + 1
   pub size : length new ≡ 2
 
-enrolls : (words : List ℕ) (n : ℕ) → length words ≡ 2 → n ≡ slice_index words 1 + 1 → Enrolls words (slice_set words 1 n)
+enrolls : (words : List ℕ) (n : ℕ) → length words ≡ 2 → n ≡ slice_index words 1 + 1
+    → Enrolls words (slice_set words 1 n)
 enrolls words n size is = record {
   drawn = get_or-set_other words 1 0 n 0 (omega arith);
   enrolled = get_or-set_same words 1 n 0 (omega arith) ∙ is;
@@ -124,7 +127,9 @@ module _ (setup : Setup) (words : List ℕ) (views : List View) (kept : IsOneHis
   none_drawn : part_of history fresh ≡ []
   none_drawn = kept.unborn fresh (omega arith)
 
-  FitsPart-enrolled : (seat : ℕ) (known : List Entry) (part : Part) → FitsPart words kept.seat_of history seat known part → FitsPart words' seat_of' history seat known part
+  FitsPart-enrolled : (seat : ℕ) (known : List Entry) (part : Part)
+      → FitsPart words kept.seat_of history seat known part
+      → FitsPart words' seat_of' history seat known part
   FitsPart-enrolled seat known part fit = record {
     drawn = fit.drawn;
     whole = fit.whole;
@@ -147,7 +152,8 @@ module _ (setup : Setup) (words : List ℕ) (views : List View) (kept : IsOneHis
     opener = λ still. (is_opener.0, sym words_after.enrolled);
   }
 
-  other_fits : (seat : ℕ) (other : View) → seat ≢ id → get_elem? views seat ≡ some other → FitsSeat words' seat_of' history seat other
+  other_fits : (seat : ℕ) (other : View) → seat ≢ id → get_elem? views seat ≡ some other
+      → FitsSeat words' seat_of' history seat other
   other_fits seat other apart at_other =
       let theirs = kept.seats seat other at_other in
       record {
@@ -159,7 +165,8 @@ module _ (setup : Setup) (words : List ℕ) (views : List View) (kept : IsOneHis
         opener = λ enrolling. absurd (apart ((theirs.opener enrolling).0 ∙ sym is_opener.0));
       }
 
-  held_after : (replica : ℕ) → replica < slice_index words' 1 → HasPart (slice_set views id new) (seat_of' replica) replica
+  held_after : (replica : ℕ) → replica < slice_index words' 1
+      → HasPart (slice_set views id new) (seat_of' replica) replica
   held_after replica within = ⊎_elim
       (λ (same : replica ≡ fresh).
       rw (same, seat_of'-fresh) (record {
@@ -215,7 +222,8 @@ fresh_clerk_is of table replica views view same only seen part =
 
 -- the clerks, with one more
 pub fresh_clerks_more : (table : TableId) (replica : ℕ) (clerks after : List ClerkView) (clerk : ClerkView)
-    → clerks ≡ map (fresh_clerk table) (range_with_len 0 replica) → after ≡ clerks ++ clerk ∷ [] → clerk ≡ fresh_clerk table replica
+    → clerks ≡ map (fresh_clerk table) (range_with_len 0 replica) → after ≡ clerks ++ clerk ∷ []
+    → clerk ≡ fresh_clerk table replica
     → after ≡ map (fresh_clerk table) (range_with_len 0 (replica + 1))
 fresh_clerks_more table replica clerks after clerk before pushed is =
     pushed ∙ ap (λ clerks. clerks ++ clerk ∷ []) before ∙ ap (λ last. map (fresh_clerk table) (range_with_len 0 replica) ++ last ∷ []) is

@@ -20,21 +20,24 @@ use Rattle.run_history.proofs.Cutting.{partless_fits, FitsPart-stays, FitsPart-m
 use Rattle.run_history.proofs.SeatLemmas.{each_set, at_put, moved, moved-there, moved-else, replicas_in, HasPart-set, HasPart-set_other, IsLonger, longer_begins}
 
 -- a front as long as the whole is the whole
-whole_front : {A : Type 0} (front whole : List A) → IsPrefix front whole → length whole ≤ length front → front ≡ whole
+whole_front : {A : Type 0} (front whole : List A) → IsPrefix front whole
+    → length whole ≤ length front → front ≡ whole
 whole_front front whole (rest, is) least =
     let none : rest ≡ [] = nil_from_length rest (omega (arith, ap length is, length-append front rest)) in
     sym (is ∙ ap (λ rest. front ++ rest) none ∙ append-nil front)
 
 -- between a front that has all of a replica and the whole each front has all of it
-all_between : (front middle history : List Entry) (replica : ℕ) → IsPrefix front middle → IsPrefix middle history
-    → part_of front replica ≡ part_of history replica → part_of middle replica ≡ part_of history replica
+all_between : (front middle history : List Entry) (replica : ℕ) → IsPrefix front middle
+    → IsPrefix middle history → part_of front replica ≡ part_of history replica
+    → part_of middle replica ≡ part_of history replica
 all_between front middle history replica first second all =
     let test = λ (entry : Entry). entry.replica == replica in
     let some_of = IsPrefix-length (part_of front replica) (part_of middle replica) (IsPrefix-filter test front middle first) in
     whole_front (part_of middle replica) (part_of history replica) (IsPrefix-filter test middle history second) (omega (arith, some_of, ap length all))
 
-FitsPart-knows : (words : List ℕ) (seat_of : ℕ → ℕ) (history : List Entry) (id : ℕ) (known more : List Entry) → IsPrefix known more → IsPrefix more history
-    → (part : Part) → FitsPart words seat_of history id known part → FitsPart words seat_of history id more part
+FitsPart-knows : (words : List ℕ) (seat_of : ℕ → ℕ) (history : List Entry) (id : ℕ) (known more : List Entry)
+    → IsPrefix known more → IsPrefix more history → (part : Part)
+    → FitsPart words seat_of history id known part → FitsPart words seat_of history id more part
 FitsPart-knows words seat_of history id known more first second part fit = record {
   drawn = fit.drawn;
   whole = all_between known more history part.replica first second fit.whole;
@@ -115,7 +118,8 @@ module _ (setup : Setup) (words : List ℕ) (views : List View) (kept : IsOneHis
   at_both : get_elem? views' id ≡ some both
   at_both = set_else (slice_set views id both) from id nothing_known (λ same. apart (sym same)) ∙ at_put views id view both at
 
-  held_after : (replica : ℕ) → replica < slice_index words 1 → HasPart views' (seat_of' replica) replica
+  held_after : (replica : ℕ) → replica < slice_index words 1
+      → HasPart views' (seat_of' replica) replica
   held_after replica within =
       let has = kept.held replica within in
       ⊎_elim

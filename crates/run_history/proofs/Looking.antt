@@ -8,13 +8,13 @@ use Rattle.atomic_table.specs.Table.{State, Me, Allows, keeps}
 use Rattle.tact_base.specs.Setup.{Setup}
 use Rattle.run_model.specs.Histories.{IsPrefix}
 use Rattle.run_model.specs.declared.entry.Entry.{Entry}
-use Rattle.run_model.proofs.PrefixLemmas.{IsPrefix-trans}
+use Rattle.run_model.proofs.PrefixLemmas.{IsPrefix-trans, IsPrefix-refl}
 use Rattle.run_history.specs.declared.view.Part.{Part}
 use Rattle.run_history.specs.declared.view.View.{View}
 use Rattle.run_history.specs.Rule.{FitsPart, FitsSeat, IsOneHistory}
 use Rattle.run_history.specs.Steps.{IsLooked}
 use Rattle.run_history.specs.Ticks.{drawn_by}
-use Rattle.run_history.proofs.SeatLemmas.{each_set, begins_itself, HasPart-set}
+use Rattle.run_history.proofs.SeatLemmas.{each_set, HasPart-set}
 
 -- Whatever the table is, a seat may look.
 module _ (setup : Setup) (words : List ℕ) (views : List View) (kept : IsOneHistory setup words views)
@@ -34,7 +34,7 @@ module _ (setup : Setup) (words : List ℕ) (views : List View) (kept : IsOneHis
 
   here_fits : FitsSeat words kept.seat_of history id new
   here_fits = record {
-    front = begins_itself history;
+    front = IsPrefix-refl history;
     fronts = fronts_after;
     fitting = All-weaker (FitsPart words kept.seat_of history id view.seen) (FitsPart words kept.seat_of history id history)
         (λ part fit. record { drawn = fit.drawn; whole = refl; here = fit.here; born = fit.born }) view.parts fits.fitting;

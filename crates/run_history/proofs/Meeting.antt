@@ -11,7 +11,8 @@ use Rattle.run_history.specs.Steps.{part_with, first_pairs, IsClerk, IsNote, IsL
 use Rattle.run_history.specs.Ticks.{drawn_by, entries_of}
 use Rattle.run_history.proofs.TickLemmas.{entries_of-drawn_by}
 
-pub meets : (setup : Setup) (before other : View) (found : ℕ) (after : View) → IsLooked setup (joined before other) found after → Meets setup before other after
+pub meets : (setup : Setup) (before other : View) (found : ℕ) (after : View)
+    → IsLooked setup (joined before other) found after → Meets setup before other after
 meets setup before other found after looked =
     let IsFront : List Entry → Type 0 = λ old. IsPrefix old after.seen in
     let olds = before.olds ++ other.olds in

@@ -16,7 +16,8 @@ use Rattle.run_model.proofs.PartLemmas.{part_of-push_cases}
 use Rattle.run_model.proofs.RunInduction.{over_runs}
 
 -- what was sent in a front was sent in the whole
-pub WasSent-more : (seen history : List Entry) (done : Act) → IsPrefix seen history → WasSent seen done → WasSent history done
+pub WasSent-more : (seen history : List Entry) (done : Act) → IsPrefix seen history
+    → WasSent seen done → WasSent history done
 WasSent-more seen history (act.Take message) (rest, is) sent =
     let here = part_of seen message.from in
     let whole : part_of history message.from ≡ here ++ part_of rest message.from =
@@ -31,15 +32,17 @@ WasSent-more seen history (act.Back owner conit amount) prefix sent = tt
 WasSent-more seen history act.Restart prefix sent = tt
 
 -- an entry that may follow a front that has all of its replica may follow the whole
-pub IsLawful-more : (setup : Setup) (seen history : List Entry) (entry : Entry) → IsPrefix seen history
-    → part_of seen entry.replica ≡ part_of history entry.replica → IsLawful setup seen entry → IsLawful setup history entry
+pub IsLawful-more : (setup : Setup) (seen history : List Entry) (entry : Entry)
+    → IsPrefix seen history → part_of seen entry.replica ≡ part_of history entry.replica
+    → IsLawful setup seen entry → IsLawful setup history entry
 IsLawful-more setup seen history entry prefix whole lawful = record {
   due = subst (λ part. IsDue setup part entry) whole lawful.due;
   sent = WasSent-more seen history entry.act prefix lawful.sent;
 }
 
 -- in a run no part is longer than it may be
-pub parts_are_short : (setup : Setup) (history : List Entry) → IsRun setup history → (replica : ℕ) → length (part_of history replica) ≤ HISTORY_MAX
+pub parts_are_short : (setup : Setup) (history : List Entry) → IsRun setup history → (replica : ℕ)
+    → length (part_of history replica) ≤ HISTORY_MAX
 parts_are_short setup = over_runs setup (λ history. (replica : ℕ) → length (part_of history replica) ≤ HISTORY_MAX)
     (λ replica. omega arith)
     (λ before entry run lawful short.
@@ -56,12 +59,15 @@ below-zero [] = refl
 below-zero (entry ∷ history) = grind (arith, nat_tests, below-zero history)
 
 -- those of one replica more
-below-more : (n : ℕ) (history : List Entry) → length (below (n + 1) history) ≡ length (below n history) + length (part_of history n)
+below-more : (n : ℕ) (history : List Entry)
+    → length (below (n + 1) history) ≡ length (below n history) + length (part_of history n)
 unfolding below
 below-more n [] = refl
 below-more n (entry ∷ history) = grind (arith, nat_tests, below-more n history)
 
-below-short : (history : List Entry) (most n : ℕ) → ((replica : ℕ) → length (part_of history replica) ≤ most) → length (below n history) ≤ n * most
+below-short : (history : List Entry) (most n : ℕ)
+    → ((replica : ℕ) → length (part_of history replica) ≤ most)
+    → length (below n history) ≤ n * most
 below-short history most zero short = omega (arith, below-zero history)
 below-short history most (suc n) short =
     let more : length (below (suc n) history) ≡ length (below n history) + length (part_of history n) = ap (λ k. length (below k history)) (omega arith) ∙ below-more n history in
@@ -69,12 +75,14 @@ below-short history most (suc n) short =
     omega (arith, below-short history most n short, short n)
 
 -- in a run each entry's replica is one of the setup
-pub replicas_in_run : (setup : Setup) (history : List Entry) → IsRun setup history → All (λ (entry : Entry). entry.replica < setup.replicas) history
+pub replicas_in_run : (setup : Setup) (history : List Entry) → IsRun setup history
+    → All (λ (entry : Entry). entry.replica < setup.replicas) history
 replicas_in_run setup history run =
     All-weaker (IsEntryInRange setup) (λ (entry : Entry). entry.replica < setup.replicas) (λ entry within. within.replica) history (entries_in_range setup history run)
 
 -- a run has no more entries than its replicas may have in all
-pub run_is_short : (setup : Setup) (history : List Entry) → IsRun setup history → length history ≤ setup.replicas * HISTORY_MAX
+pub run_is_short : (setup : Setup) (history : List Entry) → IsRun setup history
+    → length history ≤ setup.replicas * HISTORY_MAX
 unfolding below
 run_is_short setup history run =
     let whole : below setup.replicas history ≡ history = filter_all (λ (entry : Entry). nat_lt entry.replica setup.replicas) history

@@ -7,42 +7,41 @@ use lib.ListN.{get_elem?}
 use Rattle.atomic_table.proofs.Lists.{at_set, at_longer, set_else}
 use Rattle.run_model.specs.Histories.{IsPrefix}
 use Rattle.run_model.specs.declared.entry.Entry.{Entry}
+use Rattle.run_model.proofs.PrefixLemmas.{IsPrefix-refl}
 use Rattle.run_history.specs.declared.view.Part.{Part}
 use Rattle.run_history.specs.declared.view.View.{View}
 use Rattle.run_history.specs.Rule.{HasPart}
 use Rattle.run_history.specs.Steps.{longer}
 
 module _ {A : Type 0} where
-  -- what is read at a place is within
-  pub at_within : (l : List A) (i : ℕ) (a : A) → get_elem? l i ≡ some a → i < length l
-  at_within [] i a e = absurd (some-ne-none a (sym e))
-  at_within (x ∷ xs) zero a e = omega arith
-  at_within (x ∷ xs) (suc i) a e = omega (arith, at_within xs i a e)
-
   -- what is put at a place that is within is read there
-  pub at_put : (l : List A) (i : ℕ) (a b : A) → get_elem? l i ≡ some a → get_elem? (set l i b) i ≡ some b
+  pub at_put : (l : List A) (i : ℕ) (a b : A) → get_elem? l i ≡ some a
+      → get_elem? (set l i b) i ≡ some b
   at_put [] i a b e = absurd (some-ne-none a (sym e))
   at_put (x ∷ xs) zero a b e = refl
   at_put (x ∷ xs) (suc i) a b e = at_put xs i a b e
 
   -- one more at the end stands there, or another within
-  pub at_push : (l : List A) (a b : A) (j : ℕ) → get_elem? (l ++ a ∷ []) j ≡ some b → (get_elem? l j ≡ some b) ⊎ ((j ≡ length l) × (a ≡ b))
+  pub at_push : (l : List A) (a b : A) (j : ℕ) → get_elem? (l ++ a ∷ []) j ≡ some b
+      → (get_elem? l j ≡ some b) ⊎ ((j ≡ length l) × (a ≡ b))
   at_push [] a b zero e = inr (refl, some-injective a b e)
   at_push [] a b (suc j) e = absurd (some-ne-none b (sym e))
   at_push (x ∷ xs) a b zero e = inl e
   at_push (x ∷ xs) a b (suc j) e = ⊎_elim inl (λ t. inr (ap suc t.0, t.1)) (at_push xs a b j e)
 
   -- a fact of each, where one changes
-  pub each_set : (l : List A) (i : ℕ) (a : A) (F : ℕ → A → Type 0) → F i a → ((j : ℕ) (x : A) → j ≢ i → get_elem? l j ≡ some x → F j x)
-      → (j : ℕ) (x : A) → get_elem? (set l i a) j ≡ some x → F j x
+  pub each_set : (l : List A) (i : ℕ) (a : A) (F : ℕ → A → Type 0) → F i a
+      → ((j : ℕ) (x : A) → j ≢ i → get_elem? l j ≡ some x → F j x) → (j : ℕ) (x : A)
+      → get_elem? (set l i a) j ≡ some x → F j x
   each_set l i a F here others j x e =
       ⊎_elim (λ (same : (j ≡ i) × (a ≡ x)). rw (same.0, ← same.1) here)
       (λ (other : (j ≢ i) × (get_elem? l j ≡ some x)). others j x other.0 other.1)
       (at_set l i j a x e)
 
   -- and where one more comes
-  pub each_push : (l : List A) (a : A) (F : ℕ → A → Type 0) → F (length l) a → ((j : ℕ) (x : A) → get_elem? l j ≡ some x → F j x)
-      → (j : ℕ) (x : A) → get_elem? (l ++ a ∷ []) j ≡ some x → F j x
+  pub each_push : (l : List A) (a : A) (F : ℕ → A → Type 0) → F (length l) a
+      → ((j : ℕ) (x : A) → get_elem? l j ≡ some x → F j x) → (j : ℕ) (x : A)
+      → get_elem? (l ++ a ∷ []) j ≡ some x → F j x
   each_push l a F here others j x e =
       ⊎_elim (λ (before : get_elem? l j ≡ some x). others j x before)
       (λ (last : (j ≡ length l) × (a ≡ x)). rw (last.0, ← last.1) here)
@@ -53,8 +52,10 @@ abbrev pub replicas_in : View → List ℕ
 replicas_in view = map (λ (part : Part). part.replica) view.parts
 
 -- Who has a part, where a seat's view changes to one that has the part if it had it.
-pub HasPart-set : (views : List View) (id : ℕ) (old new : View) (holder replica : ℕ) → get_elem? views id ≡ some old
-    → (Contains (replicas_in old) replica → Contains (replicas_in new) replica) → HasPart views holder replica → HasPart (set views id new) holder replica
+pub HasPart-set : (views : List View) (id : ℕ) (old new : View) (holder replica : ℕ)
+    → get_elem? views id ≡ some old
+    → (Contains (replicas_in old) replica → Contains (replicas_in new) replica)
+    → HasPart views holder replica → HasPart (set views id new) holder replica
 HasPart-set views id old new holder replica at kept has =
     ⊎_elim (λ (same : holder ≡ id).
     let is : has.view ≡ old = some-injective has.view old (sym has.at ∙ ap (get_elem? views) same ∙ at) in
@@ -80,7 +81,8 @@ HasPart-set_other views id new holder replica other has = record {
 }
 
 -- where a seat comes
-pub HasPart-push : (views : List View) (new : View) (holder replica : ℕ) → HasPart views holder replica → HasPart (views ++ new ∷ []) holder replica
+pub HasPart-push : (views : List View) (new : View) (holder replica : ℕ)
+    → HasPart views holder replica → HasPart (views ++ new ∷ []) holder replica
 HasPart-push views new holder replica has = record {
   view = has.view;
   at = at_longer views (new ∷ []) holder has.view has.at;
@@ -91,15 +93,18 @@ HasPart-push views new holder replica has = record {
 abbrev pub moved : (ℕ → ℕ) → ℕ → ℕ → ℕ → ℕ
 moved seat_of from to replica = cond (seat_of replica == from) to (seat_of replica)
 
-pub moved-there : (seat_of : ℕ → ℕ) (from to replica : ℕ) → seat_of replica ≡ from → moved seat_of from to replica ≡ to
+pub moved-there : (seat_of : ℕ → ℕ) (from to replica : ℕ) → seat_of replica ≡ from
+    → moved seat_of from to replica ≡ to
 moved-there seat_of from to replica same = ap (λ yes. cond yes to (seat_of replica)) (eq-eqb (seat_of replica) from same)
 
-pub moved-else : (seat_of : ℕ → ℕ) (from to replica : ℕ) → seat_of replica ≢ from → moved seat_of from to replica ≡ seat_of replica
+pub moved-else : (seat_of : ℕ → ℕ) (from to replica : ℕ) → seat_of replica ≢ from
+    → moved seat_of from to replica ≡ seat_of replica
 moved-else seat_of from to replica other = ap (λ yes. cond yes to (seat_of replica)) (ne_eqb (seat_of replica) from other)
 
 -- Two fronts of one history.
 module _ {A : Type 0} where
-  pub shorter_begins : (xs ys zs : List A) → IsPrefix xs zs → IsPrefix ys zs → length xs ≤ length ys → IsPrefix xs ys
+  pub shorter_begins : (xs ys zs : List A) → IsPrefix xs zs → IsPrefix ys zs → length xs ≤ length ys
+      → IsPrefix xs ys
   shorter_begins [] ys zs p q le = (ys, refl)
   shorter_begins (x ∷ xs) [] zs p q le = absurd (omega arith)
   shorter_begins (x ∷ xs) (y ∷ ys) [] p q le = absurd (cc (p.1))
@@ -108,23 +113,21 @@ module _ {A : Type 0} where
       let rest = shorter_begins xs ys zs (p.0, cc (p.1)) (q.0, cc (q.1)) (omega arith) in
       (rest.0, cc (heads, rest.1))
 
-  pub begins_itself : (xs : List A) → IsPrefix xs xs
-  begins_itself [] = ([], refl)
-  begins_itself (x ∷ xs) = (let rest = begins_itself xs in rest.0, ap (λ ys. x ∷ ys) (begins_itself xs).1)
-
 -- the longer of two fronts is one, and begins with both
 pub record IsLonger (one other history both : List Entry) : Type 0 where
   pub front : IsPrefix both history
   pub first : IsPrefix one both
   pub second : IsPrefix other both
 
-pub longer_begins : (one other history : List Entry) → IsPrefix one history → IsPrefix other history → IsLonger one other history (longer one other)
+pub longer_begins : (one other history : List Entry) → IsPrefix one history → IsPrefix other history
+    → IsLonger one other history (longer one other)
 longer_begins one other history p q = go (nat_lt (length one) (length other)) refl
   where
-    go : (yes : Bool) → nat_lt (length one) (length other) ≡ yes → IsLonger one other history (if yes then other else one)
+    go : (yes : Bool) → nat_lt (length one) (length other) ≡ yes
+        → IsLonger one other history (if yes then other else one)
     go true test =
         let less : length one < length other = grind (arith, nat_tests) in
-        record { front = q; first = shorter_begins one other history p q (omega arith); second = begins_itself other }
+        record { front = q; first = shorter_begins one other history p q (omega arith); second = IsPrefix-refl other }
     go false test =
         let least : length other ≤ length one = grind (arith, nat_tests) in
-        record { front = p; first = begins_itself one; second = shorter_begins other one history q p least }
+        record { front = p; first = IsPrefix-refl one; second = shorter_begins other one history q p least }

@@ -26,7 +26,8 @@ use Rattle.run_history.proofs.TickLemmas.{Contains-drawn_by, drawn_by-Contains, 
 
 module _ {A : Type 0} where
   -- what is read at a place is contained
-  at_get_or : (l : List A) (i : ℕ) (a d : A) → get_elem? l i ≡ some a → (i < length l) × (get_or l i d ≡ a)
+  at_get_or : (l : List A) (i : ℕ) (a d : A) → get_elem? l i ≡ some a
+      → (i < length l) × (get_or l i d ≡ a)
   at_get_or [] i a d e = absurd (some-ne-none a (sym e))
   at_get_or (x ∷ xs) zero a d e = (omega arith, some-injective x a e)
   at_get_or (x ∷ xs) (suc i) a d e = let rest = at_get_or xs i a d e in (omega (arith, rest.0), rest.1)
@@ -38,8 +39,8 @@ module _ {A : Type 0} where
   contains_at l a (i, within, is) = (i, at_index l i a within (sym is))
 
   -- where each pair of places differs, one value stands at one place
-  one_place : (R : A → A → Type 0) (l : List A) (i j : ℕ) (a b : A) → AllPairs R l → get_elem? l i ≡ some a → get_elem? l j ≡ some b
-      → (R a b → ⊥) → (R b a → ⊥) → i ≡ j
+  one_place : (R : A → A → Type 0) (l : List A) (i j : ℕ) (a b : A) → AllPairs R l
+      → get_elem? l i ≡ some a → get_elem? l j ≡ some b → (R a b → ⊥) → (R b a → ⊥) → i ≡ j
   one_place R l i j a b all at_i at_j not_before not_after =
       let one = at_get_or l i a a at_i in
       let other = at_get_or l j b a at_j in
@@ -55,18 +56,21 @@ module _ {A : Type 0} where
   in_range (x ∷ xs) i within = (get_or (x ∷ xs) i x, slice_get-get_or (x ∷ xs) i x within)
 
 -- ticks rise
-ticks_rise : (history : List Entry) → AllPairs (λ (one other : ℕ × Entry). one.0 < other.0) (enumerate_from 0 history)
+ticks_rise : (history : List Entry)
+    → AllPairs (λ (one other : ℕ × Entry). one.0 < other.0) (enumerate_from 0 history)
 ticks_rise history i j d less within =
     let inside : j < length history = omega (arith, length-enumerate_from 0 history) in
     let one = get_or-enumerate_from 0 history i d (omega arith) in
     let other = get_or-enumerate_from 0 history j d inside in
     rw (one, other) (omega arith)
 
-drawn_rise : (history : List Entry) (replica : ℕ) → AllPairs (λ (one other : ℕ × Entry). one.0 < other.0) (drawn_by history replica)
+drawn_rise : (history : List Entry) (replica : ℕ)
+    → AllPairs (λ (one other : ℕ × Entry). one.0 < other.0) (drawn_by history replica)
 drawn_rise history replica =
     AllPairs-filter (λ (one other : ℕ × Entry). one.0 < other.0) (λ (pair : ℕ × Entry). pair.1.replica == replica) (enumerate_from 0 history) (ticks_rise history)
 
-drawn_names : (history : List Entry) (replica : ℕ) → All (λ (pair : ℕ × Entry). pair.1.replica ≡ replica) (drawn_by history replica)
+drawn_names : (history : List Entry) (replica : ℕ)
+    → All (λ (pair : ℕ × Entry). pair.1.replica ≡ replica) (drawn_by history replica)
 drawn_names history replica =
     All-weaker (λ (pair : ℕ × Entry). (pair.1.replica == replica) ≡ true) (λ (pair : ℕ × Entry). pair.1.replica ≡ replica)
     (λ pair passes. grind (arith, nat_tests)) (drawn_by history replica)
@@ -76,14 +80,16 @@ module _ (setup : Setup) (words : List ℕ) (views : List View) (kept : IsOneHis
   abbrev history : List Entry
   history = kept.history
 
-  part_fits : (seat place : ℕ) (part : Part) (held : HoldsPart views seat place part) → FitsPart words kept.seat_of history seat held.view.seen part
+  part_fits : (seat place : ℕ) (part : Part) (held : HoldsPart views seat place part)
+      → FitsPart words kept.seat_of history seat held.view.seen part
   part_fits seat place part held =
       let fits = kept.seats seat held.view held.at_seat in
       All-contains (FitsPart words kept.seat_of history seat held.view.seen) held.view.parts part fits.fitting
       (at_contains held.view.parts place part held.at_place)
 
   -- each part has what its replica drew
-  pub parts_stand : (seat place : ℕ) (part : Part) → HoldsPart views seat place part → IsDrawnPart (slice_index words 1) part
+  pub parts_stand : (seat place : ℕ) (part : Part) → HoldsPart views seat place part
+      → IsDrawnPart (slice_index words 1) part
   parts_stand seat place part held =
       let fits = part_fits seat place part held in
       let as_many : length part.pairs ≡ length (part_of history part.replica) =
@@ -96,7 +102,8 @@ module _ (setup : Setup) (words : List ℕ) (views : List View) (kept : IsOneHis
       }
 
   -- a replica has one part
-  pub one_part : (seat other_seat place other_place : ℕ) (part other : Part) → HoldsPart views seat place part → HoldsPart views other_seat other_place other
+  pub one_part : (seat other_seat place other_place : ℕ) (part other : Part)
+      → HoldsPart views seat place part → HoldsPart views other_seat other_place other
       → part.replica ≡ other.replica → (seat ≡ other_seat) × (place ≡ other_place)
   one_part seat other_seat place other_place part other held other_held same =
       let seats : seat ≡ other_seat = sym (part_fits seat place part held).here ∙ ap kept.seat_of same ∙ (part_fits other_seat other_place other other_held).here in
@@ -108,24 +115,28 @@ module _ (setup : Setup) (words : List ℕ) (views : List View) (kept : IsOneHis
       )
 
   -- a pair stands in the history at its tick
-  pub pairs_stand : (seat place index tick : ℕ) (entry : Entry) → HoldsPair views seat place index (tick, entry) → slice_get history tick ≡ Some entry
+  pub pairs_stand : (seat place index tick : ℕ) (entry : Entry)
+      → HoldsPair views seat place index (tick, entry) → slice_get history tick ≡ Some entry
   pairs_stand seat place index tick entry pair =
       let fits = part_fits seat place pair.part pair.held in
       drawn_by-Contains history pair.part.replica tick entry
       (subst (λ pairs. Contains pairs (tick, entry)) fits.drawn (at_contains pair.part.pairs index (tick, entry) pair.at_index))
 
-  pub ticks_below : (seat place index tick : ℕ) (entry : Entry) → HoldsPair views seat place index (tick, entry) → tick < slice_index words 0
+  pub ticks_below : (seat place index tick : ℕ) (entry : Entry)
+      → HoldsPair views seat place index (tick, entry) → tick < slice_index words 0
   ticks_below seat place index tick entry pair =
       omega (arith, kept.drawn, slice_get_within history tick entry (pairs_stand seat place index tick entry pair))
 
-  names_replica : (seat place index tick : ℕ) (entry : Entry) (pair : HoldsPair views seat place index (tick, entry)) → entry.replica ≡ pair.part.replica
+  names_replica : (seat place index tick : ℕ) (entry : Entry) (pair : HoldsPair views seat place index (tick, entry))
+      → entry.replica ≡ pair.part.replica
   names_replica seat place index tick entry pair =
       All-contains (λ (drawn : ℕ × Entry). drawn.1.replica ≡ pair.part.replica) pair.part.pairs (tick, entry) (parts_stand seat place pair.part pair.held).entries
       (at_contains pair.part.pairs index (tick, entry) pair.at_index)
 
   -- one tick, one pair
   one_pair : (seat other_seat place other_place index other_index tick : ℕ) (entry other : Entry)
-      → HoldsPair views seat place index (tick, entry) → HoldsPair views other_seat other_place other_index (tick, other)
+      → HoldsPair views seat place index (tick, entry)
+      → HoldsPair views other_seat other_place other_index (tick, other)
       → (other_seat ≡ seat) × (other_place ≡ place) × (other_index ≡ index)
   one_pair seat other_seat place other_place index other_index tick entry other pair another =
       let here : slice_get history tick ≡ Some entry = pairs_stand seat place index tick entry pair in
@@ -144,7 +155,8 @@ module _ (setup : Setup) (words : List ℕ) (views : List View) (kept : IsOneHis
       )
 
   -- a replica that drew is enrolled
-  born : (tick : ℕ) (entry : Entry) → slice_get history tick ≡ Some entry → entry.replica < slice_index words 1
+  born : (tick : ℕ) (entry : Entry) → slice_get history tick ≡ Some entry
+      → entry.replica < slice_index words 1
   born tick entry is = ⊎_elim (λ (less : entry.replica < slice_index words 1). less)
       (λ (past : slice_index words 1 ≤ entry.replica).
       let none : part_of history entry.replica ≡ [] = kept.unborn entry.replica past in

@@ -24,16 +24,15 @@ module _ {A : Type 0} where
   passed-elements p n [] = refl
   passed-elements p n (x ∷ xs) = go (p x) (passed-elements p (n + 1) xs)
     where
-      passed : List (ℕ × A)
-      passed = filter (λ (pair : ℕ × A). p pair.1) (enumerate_from (n + 1) xs)
-
-      go : (is : Bool) → map (λ (pair : ℕ × A). pair.1) (filter (λ (pair : ℕ × A). p pair.1) (enumerate_from (n + 1) xs)) ≡ filter p xs
+      go : (is : Bool)
+          → map (λ (pair : ℕ × A). pair.1) (filter (λ (pair : ℕ × A). p pair.1) (enumerate_from (n + 1) xs)) ≡ filter p xs
           → map (λ (pair : ℕ × A). pair.1) (if is then (n, x) ∷ filter (λ (pair : ℕ × A). p pair.1) (enumerate_from (n + 1) xs) else filter (λ (pair : ℕ × A). p pair.1) (enumerate_from (n + 1) xs)) ≡ (if is then x ∷ filter p xs else filter p xs)
       go true rest = ap (λ l. x ∷ l) rest
       go false rest = rest
 
   -- an element stands at its place
-  pub Contains-enumerate : (xs : List A) (k : ℕ) (x : A) → slice_get xs k ≡ Some x → Contains (enumerate_from 0 xs) (k, x)
+  pub Contains-enumerate : (xs : List A) (k : ℕ) (x : A) → slice_get xs k ≡ Some x
+      → Contains (enumerate_from 0 xs) (k, x)
   Contains-enumerate xs k x is =
       let within : k < length xs = slice_get_within xs k x is in
       let place : 0 + k ≡ k = omega arith in (
@@ -42,7 +41,8 @@ module _ {A : Type 0} where
         get_or-enumerate_from 0 xs k (k, x) within ∙ ap (λ n. (n, get_or xs k x)) place ∙ ap (λ y. (k, y)) (get_or_from_slice_get xs k x x is),
       )
 
-  pub enumerate-Contains : (xs : List A) (k : ℕ) (x : A) → Contains (enumerate_from 0 xs) (k, x) → slice_get xs k ≡ Some x
+  pub enumerate-Contains : (xs : List A) (k : ℕ) (x : A) → Contains (enumerate_from 0 xs) (k, x)
+      → slice_get xs k ≡ Some x
   enumerate-Contains xs k x (i, within, is) =
       let inside : i < length xs = omega (arith, length-enumerate_from 0 xs) in
       let read : (k, x) ≡ (0 + i, get_or xs i x) = sym is ∙ get_or-enumerate_from 0 xs i (k, x) inside in
@@ -58,27 +58,30 @@ module _ (history : List Entry) (entry : Entry) (replica : ℕ) where
       ap (filter test) (enumerate_from-push 0 history entry ∙ ap (λ k. enumerate_from 0 history ++ (k, entry) ∷ []) here)
       ∙ filter-append test (enumerate_from 0 history) ((length history, entry) ∷ [])
 
-  pub drawn_by-push_same : entry.replica ≡ replica → drawn_by (history ++ entry ∷ []) replica ≡ drawn_by history replica ++ (length history, entry) ∷ []
+  pub drawn_by-push_same : entry.replica ≡ replica
+      → drawn_by (history ++ entry ∷ []) replica ≡ drawn_by history replica ++ (length history, entry) ∷ []
   drawn_by-push_same same =
       pushed ∙ ap (λ yes. drawn_by history replica ++ cond yes ((length history, entry) ∷ []) []) (eq-eqb entry.replica replica same)
 
-  pub drawn_by-push_other : (entry.replica ≡ replica → ⊥) → drawn_by (history ++ entry ∷ []) replica ≡ drawn_by history replica
+  pub drawn_by-push_other : (entry.replica ≡ replica → ⊥)
+      → drawn_by (history ++ entry ∷ []) replica ≡ drawn_by history replica
   drawn_by-push_other other =
       pushed ∙ ap (λ yes. drawn_by history replica ++ cond yes ((length history, entry) ∷ []) []) (ne_eqb entry.replica replica other)
       ∙ append-nil (drawn_by history replica)
 
 -- the entries of what a replica drew are its part
-pub entries_of-drawn_by : (history : List Entry) (replica : ℕ) → entries_of (drawn_by history replica) ≡ part_of history replica
+pub entries_of-drawn_by : (history : List Entry) (replica : ℕ)
+    → entries_of (drawn_by history replica) ≡ part_of history replica
 entries_of-drawn_by history replica = passed-elements (λ (entry : Entry). entry.replica == replica) 0 history
 
 -- what stands in the history is drawn, by the replica that it names
-pub Contains-drawn_by : (history : List Entry) (tick : ℕ) (entry : Entry) → slice_get history tick ≡ Some entry
-    → Contains (drawn_by history entry.replica) (tick, entry)
+pub Contains-drawn_by : (history : List Entry) (tick : ℕ) (entry : Entry)
+    → slice_get history tick ≡ Some entry → Contains (drawn_by history entry.replica) (tick, entry)
 Contains-drawn_by history tick entry is =
     Contains-filter (λ (pair : ℕ × Entry). pair.1.replica == entry.replica) (enumerate_from 0 history) (tick, entry)
     (Contains-enumerate history tick entry is) (eq-eqb entry.replica entry.replica refl)
 
-pub drawn_by-Contains : (history : List Entry) (replica tick : ℕ) (entry : Entry) → Contains (drawn_by history replica) (tick, entry)
-    → slice_get history tick ≡ Some entry
+pub drawn_by-Contains : (history : List Entry) (replica tick : ℕ) (entry : Entry)
+    → Contains (drawn_by history replica) (tick, entry) → slice_get history tick ≡ Some entry
 drawn_by-Contains history replica tick entry within =
     enumerate-Contains history tick entry (Contains-from_filter (λ (pair : ℕ × Entry). pair.1.replica == replica) (enumerate_from 0 history) (tick, entry) within)

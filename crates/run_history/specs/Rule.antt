@@ -44,4 +44,5 @@ pub record IsOneHistory (setup : Setup) (words : List ℕ) (views : List View) :
   pub enrolled : slice_index words 1 ≤ setup.replicas
   pub unborn : (replica : ℕ) → slice_index words 1 ≤ replica → part_of history replica ≡ []
   pub held : (replica : ℕ) → replica < slice_index words 1 → HasPart views (seat_of replica) replica
-  pub seats : (id : ℕ) (view : View) → get_elem? views id ≡ some view → FitsSeat words seat_of history id view
+  pub seats : (id : ℕ) (view : View) → get_elem? views id ≡ some view
+      → FitsSeat words seat_of history id view

@@ -29,7 +29,8 @@ pub record IsDrawnOnce (views : List View) (tick : ℕ) : Type 0 where
   pub index : ℕ
   pub entry : Entry
   pub stands : HoldsPair views seat place index (tick, entry)
-  pub only : (other_seat other_place other_index : ℕ) (other : Entry) → HoldsPair views other_seat other_place other_index (tick, other)
+  pub only : (other_seat other_place other_index : ℕ) (other : Entry)
+      → HoldsPair views other_seat other_place other_index (tick, other)
       → (other_seat ≡ seat) × (other_place ≡ place) × (other_index ≡ index)
 
 -- the ticks of a part rise, its entries name its replica, which is below a count, and there are not too many
@@ -43,6 +44,9 @@ pub record IsDrawnPart (enrolled : ℕ) (part : Part) : Type 0 where
 pub record IsHistoryOf (setup : Setup) (count : ℕ) (views : List View) (history : List Entry) : Type 0 where
   pub run : IsRun setup history
   pub size : length history ≡ count
-  pub merge : (seat place index tick : ℕ) (entry : Entry) → HoldsPair views seat place index (tick, entry) → slice_get history tick ≡ Some entry
-  pub fronts : (seat : ℕ) (view : View) → get_elem? views seat ≡ some view → IsPrefix view.seen history × All (λ old. IsPrefix old history) view.olds
-  pub olds : (seat : ℕ) (view : View) → get_elem? views seat ≡ some view → All (λ old. IsPrefix old view.seen) view.olds
+  pub merge : (seat place index tick : ℕ) (entry : Entry)
+      → HoldsPair views seat place index (tick, entry) → slice_get history tick ≡ Some entry
+  pub fronts : (seat : ℕ) (view : View) → get_elem? views seat ≡ some view
+      → IsPrefix view.seen history × All (λ old. IsPrefix old history) view.olds
+  pub olds : (seat : ℕ) (view : View) → get_elem? views seat ≡ some view
+      → All (λ old. IsPrefix old view.seen) view.olds

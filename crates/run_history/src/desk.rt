@@ -1,4 +1,4 @@
-ghost use Rattle.std.specs.Prelude.{◌≡◌, ◌∷◌, [], All, IfOk, length, map};
+ghost use Rattle.std.specs.Prelude.{◌≡◌, ◌≢◌, [], All, AllPairs, IfOk, map};
 ghost use Rattle.std.specs.List.{range_with_len};
 ghost use Rattle.run_model.specs.Histories.{IsPrefix};
 ghost use Rattle.run_model.specs.Promises.{IsKept};
@@ -54,6 +54,7 @@ impl Desk {
         requires whole { AreAllThere self.setup.replicas clerks.items }
         ensures merge { IsMerge (all_drawn clerks.items) result }
         ensures parts { All (λ clerk. clerk.pairs ≡ drawn_by result clerk.replica) clerks.items }
+        ensures apart { AllPairs (λ one other. one.replica ≢ other.replica) clerks.items }
         ensures run { IsRun self.setup result }
         ensures kept { IsKept self.setup result }
         ensures seen { All (λ clerk. IsPrefix clerk.seen result) clerks.items }

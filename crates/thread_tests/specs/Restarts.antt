@@ -18,4 +18,5 @@ pub record HasRestarts (desk : DeskView) (count : ℕ) (clerk : ClerkView) : Typ
 -- the clerk of each replica in its place, and no other
 pub record AreInPlace (desk : DeskView) (clerks : List ClerkView) : Type 0 where
   pub size : length clerks ≡ desk.setup.replicas
-  pub each : (i : ℕ) (d : ClerkView) → i < length clerks → ((slice_index_or clerks i d).table ≡ desk.table) × ((slice_index_or clerks i d).replica ≡ i)
+  pub each : (i : ℕ) (d : ClerkView) → i < length clerks
+      → ((slice_index_or clerks i d).table ≡ desk.table) × ((slice_index_or clerks i d).replica ≡ i)

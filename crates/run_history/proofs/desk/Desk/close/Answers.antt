@@ -6,7 +6,7 @@ use Rattle.run_history.specs.Closing.{all_drawn, AreAllThere}
 use Rattle.run_history.specs.Seats.{ClerkView}
 use Rattle.run_history.specs.Steps.{seen_in}
 use Rattle.run_history.specs.Ticks.{drawn_by, IsMerge}
-use Rattle.run_history.proofs.Closed.{merges, parts_drawn, fronts_seen}
+use Rattle.run_history.proofs.Closed.{merges, parts_drawn, fronts_seen, clerks_apart}
 use Rattle.run_history.proofs.desk.Desk.close.Goals as goal
 
 pub returns-clause-merge : goal.returns-clause-merge
@@ -38,3 +38,8 @@ returns-clause-seen c =
     let clerks : List ClerkView = c.args.clerks.items in
     subst (λ history. All (λ (clerk : ClerkView). IsPrefix clerk.seen history) clerks) (sym (ap seen_in c.into_badge.ensures.2))
     (fronts_seen c.self.inside.table.shared.key clerks c.gather-seat.result.me.0 c.look_as-count.result c.look_as-count.new.seat.me.0 c.gather-seat.ensures.gathered c.look_as-count.ensures.looked)
+
+pub returns-clause-apart : goal.returns-clause-apart
+returns-clause-apart c =
+    clerks_apart c.self.inside.table.shared.key c.args.clerks.items c.gather-seat.result.me.0 c.look_as-count.result c.look_as-count.new.seat.me.0
+    c.gather-seat.ensures.gathered c.look_as-count.ensures.looked
