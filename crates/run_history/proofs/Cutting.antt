@@ -11,7 +11,7 @@ use Rattle.run_model.specs.Histories.{IsPrefix}
 use Rattle.run_model.specs.declared.entry.Entry.{Entry}
 use Rattle.run_history.specs.declared.view.Part.{Part}
 use Rattle.run_history.specs.declared.view.View.{View}
-use Rattle.run_history.specs.Rule.{FitsPart, FitsSeat, HasPart, IsOneHistory}
+use Rattle.run_history.specs.Rule.{FitsPart, FitsSeat, HasPart, IsOneHistory, KeepsHistory}
 use Rattle.run_history.specs.Steps.{noted, handing, handed, nothing_known}
 use Rattle.run_history.proofs.Enrolling.{none_apart}
 use Rattle.run_history.proofs.SeatLemmas.{each_set, each_push, moved, moved-there, moved-else, replicas_in, HasPart-set_other, HasPart-push}
@@ -46,7 +46,7 @@ partless_fits words seat_of history id view front fronts none closed = record {
 }
 
 pub notes : (setup : Setup) (id : ℕ) (view : View)
-    → Splits (λ (state : State (Unit {0}) View). IsOneHistory setup state.words state.views) id view view (noted view)
+    → Splits (KeepsHistory setup) id view view (noted view)
 notes setup id view state kept at =
     let fits = kept.seats id view at in
     subst (λ views. IsOneHistory setup state.words (views ++ noted view ∷ [])) (sym (set_again state.views id view at))
@@ -54,8 +54,7 @@ notes setup id view state kept at =
     (partless_fits state.words kept.seat_of kept.history (length state.views) (noted view) fits.front fits.fronts refl refl))
 
 pub comes : (setup : Setup) (slots : ℕ) (then : ℕ → View → Type 0)
-    → ((found : ℕ) → then found nothing_known)
-    → Enters (λ (state : State (Unit {0}) View). IsOneHistory setup state.words state.views) slots 0 then
+    → ((found : ℕ) → then found nothing_known) → Enters (KeepsHistory setup) slots 0 then
 comes setup slots then told state kept homes in_word = (
   nothing_known,
   rule_with setup state.words state.views nothing_known kept
@@ -168,5 +167,5 @@ module _ (setup : Setup) (words : List ℕ) (views : List View) (kept : IsOneHis
   }
 
 pub hands : (setup : Setup) (id : ℕ) (view : View)
-    → Splits (λ (state : State (Unit {0}) View). IsOneHistory setup state.words state.views) id view (handing view) (handed view)
+    → Splits (KeepsHistory setup) id view (handing view) (handed view)
 hands setup id view state kept at = rule_after_hand setup state.words state.views kept id view at

@@ -16,7 +16,7 @@ use Rattle.run_model.proofs.PartLemmas.{part_of-push_same, part_of-push_other}
 use Rattle.run_model.proofs.PrefixLemmas.{EachAfter-push, IsPrefix-refl}
 use Rattle.run_history.specs.declared.view.Part.{Part}
 use Rattle.run_history.specs.declared.view.View.{View}
-use Rattle.run_history.specs.Rule.{FitsPart, FitsSeat, IsOneHistory}
+use Rattle.run_history.specs.Rule.{FitsPart, FitsSeat, IsOneHistory, KeepsHistory}
 use Rattle.run_history.specs.Steps.{part_with, first_pairs, IsClerk, IsDrawn}
 use Rattle.run_history.specs.Ticks.{entries_of}
 use Rattle.run_history.proofs.RunLemmas.{IsLawful-more, run_is_short}
@@ -172,7 +172,7 @@ module _ (setup : Setup) (entry : Entry) (words : List ℕ) (views : List View) 
   }
 
 pub draws : (setup : Setup) (entry : Entry) (slots id : ℕ) (me : Me (Unit {0}) View) → IsClerk entry.replica me.0 → IsLawful setup me.0.seen entry
-    → Allows (λ (state : State (Unit {0}) View). IsOneHistory setup state.words state.views) slots id me 0 (λ n. (n + 1) % 2 ^ 64)
+    → Allows (KeepsHistory setup) slots id me 0 (λ n. (n + 1) % 2 ^ 64)
     (λ found after. (after.1 ≡ me.1) × IsDrawn setup entry me.0 found after.0)
 draws setup entry slots id me clerk lawful state kept homes at in_word = (
   drawn_view me.0 entry kept.history,
@@ -185,7 +185,7 @@ draws setup entry slots id me clerk lawful state kept homes at in_word = (
 -- the same, where what the clerk drew says that the entry is due
 pub draws_due : (setup : Setup) (entry : Entry) (slots id : ℕ) (me : Me (Unit {0}) View) → IsClerk entry.replica me.0
     → IsDue setup (entries_of (first_pairs me.0.parts)) entry → WasSent me.0.seen entry.act
-    → Allows (λ (state : State (Unit {0}) View). IsOneHistory setup state.words state.views) slots id me 0 (λ n. (n + 1) % 2 ^ 64)
+    → Allows (KeepsHistory setup) slots id me 0 (λ n. (n + 1) % 2 ^ 64)
     (λ found after. (after.1 ≡ me.1) × IsDrawn setup entry me.0 found after.0)
 draws_due setup entry slots id me clerk due sent =
     draws setup entry slots id me clerk (record { due = subst (λ part. IsDue setup part entry) (sym clerk.own) due; sent = sent })

@@ -19,7 +19,7 @@ use Rattle.tact_base.proofs.SetupLemmas.{HasCounts-from_IsSetup}
 use Rattle.run_model.proofs.PrefixLemmas.{EachAfter-nil, IsPrefix-filter, IsPrefix-refl}
 use Rattle.run_history.specs.declared.view.Part.{Part}
 use Rattle.run_history.specs.declared.view.View.{View}
-use Rattle.run_history.specs.Rule.{FitsPart, FitsSeat, HasPart, IsOneHistory}
+use Rattle.run_history.specs.Rule.{FitsPart, FitsSeat, HasPart, IsOneHistory, KeepsHistory}
 use Rattle.run_history.specs.Seats.{ClerkView, fresh_clerk}
 use Rattle.run_history.specs.Steps.{part_with, first_pairs, seen_in, pairs_in, opener, IsEnrolled}
 use Rattle.run_history.specs.Ticks.{drawn_by, entries_of}
@@ -199,7 +199,7 @@ module _ (setup : Setup) (words : List ℕ) (views : List View) (kept : IsOneHis
   enrolled_view = record { number = sym is_opener.1; is = refl }
 
 pub enrols : (setup : Setup) (slots id : ℕ) (me : Me (Unit {0}) View) → me.0.opens ≡ true → me.0.parts ≡ [] → me.0.enrolled < setup.replicas
-    → Allows (λ (state : State (Unit {0}) View). IsOneHistory setup state.words state.views) slots id me 1 (λ n. (n + 1) % 2 ^ 64)
+    → Allows (KeepsHistory setup) slots id me 1 (λ n. (n + 1) % 2 ^ 64)
     (λ found after. (after.1 ≡ me.1) × IsEnrolled me.0 found after.0)
 enrols setup slots id me opens empty room state kept homes at in_word = (
   record me.0 { enrolled = slice_index state.words 1 + 1; parts = part_with (slice_index state.words 1) [] ∷ [] },

@@ -14,7 +14,7 @@ use Rattle.run_model.specs.declared.entry.Entry.{Entry}
 use Rattle.run_model.proofs.PrefixLemmas.{IsPrefix-trans, IsPrefix-filter, IsPrefix-length}
 use Rattle.run_history.specs.declared.view.Part.{Part}
 use Rattle.run_history.specs.declared.view.View.{View}
-use Rattle.run_history.specs.Rule.{FitsPart, FitsSeat, HasPart, IsOneHistory}
+use Rattle.run_history.specs.Rule.{FitsPart, FitsSeat, HasPart, IsOneHistory, KeepsHistory}
 use Rattle.run_history.specs.Steps.{longer, joined, nothing_known}
 use Rattle.run_history.proofs.Cutting.{partless_fits, FitsPart-stays, FitsPart-moves, FitsSeat-stays}
 use Rattle.run_history.proofs.SeatLemmas.{each_set, at_put, moved, moved-there, moved-else, replicas_in, HasPart-set, HasPart-set_other, IsLonger, longer_begins}
@@ -158,7 +158,7 @@ module _ (setup : Setup) (words : List ℕ) (views : List View) (kept : IsOneHis
   }
 
 pub joins : (setup : Setup) (id : ℕ) (view : View) (from : ℕ) (other : View)
-    → Joins (λ (state : State (Unit {0}) View). IsOneHistory setup state.words state.views) id view from other (joined view other) nothing_known
+    → Joins (KeepsHistory setup) id view from other (joined view other) nothing_known
 joins setup id view from other state kept at apart at_other =
     rule_after_join setup state.words state.views kept id view at from apart other
     (sym (set_else state.views id from (joined view other) apart) ∙ at_other)

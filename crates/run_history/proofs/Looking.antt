@@ -11,7 +11,7 @@ use Rattle.run_model.specs.declared.entry.Entry.{Entry}
 use Rattle.run_model.proofs.PrefixLemmas.{IsPrefix-trans, IsPrefix-refl}
 use Rattle.run_history.specs.declared.view.Part.{Part}
 use Rattle.run_history.specs.declared.view.View.{View}
-use Rattle.run_history.specs.Rule.{FitsPart, FitsSeat, IsOneHistory}
+use Rattle.run_history.specs.Rule.{FitsPart, FitsSeat, IsOneHistory, KeepsHistory}
 use Rattle.run_history.specs.Steps.{IsLooked}
 use Rattle.run_history.specs.Ticks.{drawn_by}
 use Rattle.run_history.proofs.SeatLemmas.{each_set, HasPart-set}
@@ -72,7 +72,7 @@ module _ (setup : Setup) (words : List ℕ) (views : List View) (kept : IsOneHis
   }
 
 pub looks : (setup : Setup) (slots id : ℕ) (me : Me (Unit {0}) View)
-    → Allows (λ (state : State (Unit {0}) View). IsOneHistory setup state.words state.views) slots id me 0 (λ n. n)
+    → Allows (KeepsHistory setup) slots id me 0 (λ n. n)
     (λ found after. (after.1 ≡ me.1) × IsLooked setup me.0 found after.0)
 looks setup slots id me state kept homes at in_word = (
   record me.0 { seen = kept.history },

@@ -12,7 +12,8 @@ all_drawn clerks = flat_map (λ clerk. clerk.pairs) clerks
 
 -- there is a clerk of each replica below a count
 abbrev pub AreAllThere : ℕ → List ClerkView → Type 0
-AreAllThere replicas clerks = (replica : ℕ) → replica < replicas → Contains (map (λ clerk. clerk.replica) clerks) replica
+AreAllThere replicas clerks =
+    (replica : ℕ) → replica < replicas → Contains (map (λ clerk. clerk.replica) clerks) replica
 
 -- a seat has taken in the parts of clerks and what they have seen
 pub record Gathers (clerks : List ClerkView) (view : View) : Type 0 where

@@ -10,7 +10,7 @@ pub record DeskView : Type 0 where
   pub table : TableId
   pub setup : Setup
 
--- which table a clerk is of, whose part it has, what it has seen of the history, and what it drew, by tick
+-- which table a clerk is of, its replica, what it has seen of the history, and what it drew, by tick
 pub record ClerkView : Type 0 where
   pub table : TableId
   pub replica : ℕ

@@ -33,7 +33,7 @@ pub record IsDrawnOnce (views : List View) (tick : ℕ) : Type 0 where
       → HoldsPair views other_seat other_place other_index (tick, other)
       → (other_seat ≡ seat) × (other_place ≡ place) × (other_index ≡ index)
 
--- the ticks of a part rise, its entries name its replica, which is below a count, and there are not too many
+-- a part's ticks rise, its entries name its replica, which is below a count, and it isn't too long
 pub record IsDrawnPart (enrolled : ℕ) (part : Part) : Type 0 where
   pub ticks : AllPairs (λ (one other : ℕ × Entry). one.0 < other.0) part.pairs
   pub entries : All (λ (pair : ℕ × Entry). pair.1.replica ≡ part.replica) part.pairs
@@ -41,7 +41,8 @@ pub record IsDrawnPart (enrolled : ℕ) (part : Part) : Type 0 where
   pub room : length part.pairs ≤ HISTORY_MAX
 
 -- The history by tick of all parts is a run, and all that the seats have seen are fronts of it.
-pub record IsHistoryOf (setup : Setup) (count : ℕ) (views : List View) (history : List Entry) : Type 0 where
+pub record IsHistoryOf (setup : Setup) (count : ℕ) (views : List View) (history : List Entry)
+    : Type 0 where
   pub run : IsRun setup history
   pub size : length history ≡ count
   pub merge : (seat place index tick : ℕ) (entry : Entry)

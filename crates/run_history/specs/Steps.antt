@@ -1,5 +1,6 @@
 -- What seats know, how views are cut and joined, and what the steps of the history table tell.
 use Rattle.std.specs.Prelude.{◌≡◌, ℕ, ◌+◌, true, false, nat_lt, if◌then◌else◌, List, [], ◌∷◌, ◌++◌, All, AllPairs, ◌≢◌, length}
+use Rattle.atomic_table.specs.Seated.{TableId}
 use Rattle.tact_base.specs.Setup.{Setup}
 use Rattle.run_model.specs.Histories.{part_of, IsPrefix}
 use Rattle.run_model.specs.Runs.{IsRun}
@@ -7,6 +8,10 @@ use Rattle.run_model.specs.declared.entry.Entry.{Entry}
 use Rattle.run_history.specs.declared.view.Part.{Part}
 use Rattle.run_history.specs.declared.view.View.{View}
 use Rattle.run_history.specs.Ticks.{drawn_by, entries_of, EndsWith}
+
+-- a seat is of a table, which has two words
+abbrev pub IsSeatOf : TableId → TableId → Type 0
+IsSeatOf table seat = (seat ≡ table) × (table.words ≡ 2)
 
 -- the part of a replica that drew these pairs
 abbrev pub part_with : ℕ → List (ℕ × Entry) → Part
@@ -75,14 +80,15 @@ pub record IsEnrolled (before : View) (found : ℕ) (after : View) : Type 0 wher
   pub number : found ≡ before.enrolled
   pub is : after ≡ record before { enrolled = found + 1; parts = part_with found [] ∷ [] }
 
--- draw: the clerk's part has the entry with its tick, and it has seen the history up to the entry and with it
-pub record IsDrawn (setup : Setup) (entry : Entry) (before : View) (tick : ℕ) (after : View) : Type 0 where
+-- draw: the clerk's part has the entry with its tick, and it has seen the history up to and with the entry
+pub record IsDrawn (setup : Setup) (entry : Entry) (before : View) (tick : ℕ) (after : View)
+    : Type 0 where
   pub clerk : IsClerk entry.replica after
   pub pairs : first_pairs after.parts ≡ first_pairs before.parts ++ (tick, entry) ∷ []
   pub seen : EndsWith entry tick before.seen after.seen
   pub run : IsRun setup after.seen
 
--- look: the seat has seen the whole history, whose length was found, and which begins with all that it saw earlier
+-- look: the seat has seen the whole history, which begins with all that it saw earlier, and its length was found
 pub record IsLooked (setup : Setup) (before : View) (found : ℕ) (after : View) : Type 0 where
   pub is : after ≡ record before { seen = after.seen }
   pub number : found ≡ length after.seen

@@ -11,11 +11,13 @@ drawn_by history replica = filter (λ pair. pair.1.replica == replica) (enumerat
 abbrev pub entries_of : List (ℕ × Entry) → List Entry
 entries_of pairs = map (λ pair. pair.1) pairs
 
--- a history is the merge of pairs by tick: it has at each tick the entry of a pair with that tick, and no tick past these
+-- A history is the merge of pairs by tick: it has at each tick the entry of a pair with that tick, and ends
+-- where none has one.
 abbrev pub IsMerge : List (ℕ × Entry) → List Entry → Type 0
-IsMerge pairs history = (tick : ℕ) (entry : Entry) → Contains pairs (tick, entry) ↔ (slice_get history tick ≡ Some entry)
+IsMerge pairs history =
+    (tick : ℕ) (entry : Entry) → Contains pairs (tick, entry) ↔ (slice_get history tick ≡ Some entry)
 
--- a history that was seen after another ends with an entry that was drawn at a tick, and begins with the other
+-- what is seen after a draw: it begins with what was seen before, and ends with the entry, at its tick
 pub record EndsWith (entry : Entry) (tick : ℕ) (before after : List Entry) : Type 0 where
   pub others : List Entry
   pub is : after ≡ (before ++ others) ++ entry ∷ []

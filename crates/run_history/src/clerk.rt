@@ -13,8 +13,8 @@ use run_model::Entry;
 use std::marker::{Brand, Model};
 use std::mem;
 
-/// The right to draw the entries of one replica. It knows a front of the history, which has all that it
-/// drew. It has no bytes beside its number, and may go to another thread.
+/// The right to draw the entries of one replica. It knows a front of the history, which has all that
+/// it drew. It has no bytes beside its number, and may go to another thread.
 #[derive(Drop)]
 pub struct Clerk {
     pub(crate) replica: u32,
@@ -27,7 +27,11 @@ impl Model for Clerk {
 
     ghost Value = { ClerkView };
 
-    ghost view = { λ c. record { table = c.badge.table_id; replica = c.replica; seen = seen_in c.badge.views; pairs = pairs_in c.badge.views } };
+    ghost view = { λ c. record {
+        table = c.badge.table_id;
+        replica = c.replica;
+        seen = seen_in c.badge.views;
+        pairs = pairs_in c.badge.views } };
 
     ghost invariant = { λ c. HoldsClerk c.replica c.badge.views };
 }
@@ -51,7 +55,8 @@ impl Clerk {
         self.replica
     }
 
-    /// Draws an entry, and gives its tick: its place in the history, from 0 on. One fetch-and-add, and no memory.
+    /// Draws an entry, and gives its tick: its place in the history, from 0 on. It costs one
+    /// fetch-and-add and takes no memory.
     pub fn draw(&mut self, desk: &Desk, entry: &Entry) -> u64
         requires desk { self.old.table ≡ desk.now.table }
         requires replica { entry.now.replica ≡ self.old.replica }

@@ -5,7 +5,7 @@ ghost use Rattle.run_model.specs.Promises.{IsKept};
 ghost use Rattle.run_model.specs.Runs.{IsRun};
 ghost use Rattle.run_history.specs.Closing.{all_drawn, AreAllThere, Gathers};
 ghost use Rattle.run_history.specs.Seats.{fresh_clerk, fresh_clerks};
-ghost use Rattle.run_history.specs.Steps.{opener};
+ghost use Rattle.run_history.specs.Steps.{IsSeatOf, opener};
 ghost use Rattle.run_history.specs.Ticks.{drawn_by, IsMerge};
 
 use crate::clerk::Clerk;
@@ -35,8 +35,8 @@ impl Model for Desk {
 }
 
 impl Desk {
-    /// A desk for the setup, with an empty history, and its clerks: one for each replica, in rising order.
-    /// Alone of all calls it takes memory, and `NoMemory` is its only error.
+    /// A desk for the setup, with an empty history, and its clerks: one for each replica, in rising
+    /// order. Alone of all calls it takes memory, and `NoMemory` is its only error.
     pub fn new(alloc: Global, config: &Config) -> Result<(Desk, Vec<Clerk>), NoMemory>
         ensures setup { IfOk result (λ made. made.0.setup ≡ config.now) }
         ensures clerks { IfOk result (λ made. made.1.items ≡ fresh_clerks made.0) }
@@ -47,8 +47,8 @@ impl Desk {
         Ok((Desk { table }, clerks))
     }
 
-    /// Ends the desk and its clerks, of which each replica's is given, and gives the history of all that they
-    /// drew.
+    /// Ends the desk and its clerks, of which each replica's is given, and gives the history of all
+    /// that they drew.
     pub fn close(self, clerks: Vec<Clerk>) -> History
         requires desk { All (λ clerk. clerk.table ≡ self.table) clerks.items }
         requires whole { AreAllThere self.setup.replicas clerks.items }
@@ -75,10 +75,11 @@ fn enrol_all(
     seat: &mut Seat,
     replicas: u32,
 ) -> Result<Vec<Clerk>, NoMemory>
-    requires table { (seat.old.table_id ≡ table.now.shared.table_id) × (table.now.shared.table_id.words ≡ 2) }
+    requires table { IsSeatOf table.now.shared.table_id seat.old.table_id }
     requires opener { seat.old.me.0 ≡ opener table.now.shared.key }
     requires replicas { replicas ≡ table.now.shared.key.replicas }
-    ensures { IfOk result (λ clerks. clerks.items ≡ map (fresh_clerk table.now.shared.table_id) (range_with_len 0 replicas)) }
+    ensures { IfOk result (λ clerks.
+        clerks.items ≡ map (fresh_clerk table.now.shared.table_id) (range_with_len 0 replicas)) }
 {
     let mut clerks = Vec::new(alloc);
     for replica in 0..replicas {

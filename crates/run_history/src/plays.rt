@@ -8,10 +8,10 @@ use std::marker::{Brand, PhantomData};
 pub struct OneHistory;
 
 impl TableRule<(), View, Config> for OneHistory {
-    ghost use Rattle.run_history.specs.Rule.{IsOneHistory};
+    ghost use Rattle.run_history.specs.Rule.{KeepsHistory};
     ghost use Rattle.run_history.specs.Steps.{opener};
 
-    ghost holds = { λ setup state. IsOneHistory setup state.words state.views };
+    ghost holds = { KeepsHistory };
 
     ghost first = { opener };
 }
@@ -50,7 +50,8 @@ impl Play<(), View> for Enrols {
     ghost use Rattle.std.specs.Prelude.{◌≡◌};
     ghost use Rattle.run_history.specs.Steps.{IsEnrolled};
 
-    ghost then = { λ step before found after. (after.1 ≡ before.1) × IsEnrolled before.0 found after.0 };
+    ghost then = { λ step before found after. (after.1 ≡ before.1)
+        × IsEnrolled before.0 found after.0 };
 }
 
 /// Draw: a fetch-and-add on word 0.
@@ -62,7 +63,8 @@ impl<T: Told, E: ToldEntry> Play<(), View> for Draws<T, E> {
     ghost use Rattle.std.specs.Prelude.{◌≡◌};
     ghost use Rattle.run_history.specs.Steps.{IsDrawn};
 
-    ghost then = { λ step before found after. (after.1 ≡ before.1) × IsDrawn T.setup E.entry before.0 found after.0 };
+    ghost then = { λ step before found after. (after.1 ≡ before.1)
+        × IsDrawn T.setup E.entry before.0 found after.0 };
 }
 
 /// Look: a load of word 0.
@@ -74,7 +76,8 @@ impl<T: Told> Play<(), View> for Looks<T> {
     ghost use Rattle.std.specs.Prelude.{◌≡◌};
     ghost use Rattle.run_history.specs.Steps.{IsLooked};
 
-    ghost then = { λ step before found after. (after.1 ≡ before.1) × IsLooked T.setup before.0 found after.0 };
+    ghost then = { λ step before found after. (after.1 ≡ before.1)
+        × IsLooked T.setup before.0 found after.0 };
 }
 
 /// A look by which a seat comes that knows nothing.

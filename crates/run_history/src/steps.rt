@@ -1,7 +1,7 @@
 // The steps on the history table, as seats make them.
 ghost use Rattle.std.specs.Prelude.{◌≡◌, ◌++◌, ◌<◌, ◌+◌, ◌∷◌, true, [], ℕ};
 ghost use Rattle.run_model.specs.Runs.{IsDue, WasSent};
-ghost use Rattle.run_history.specs.Steps.{IsClerk, IsNote, IsDrawn, IsLooked, Meets, first_pairs, joined, noted, nothing_known, part_with};
+ghost use Rattle.run_history.specs.Steps.{IsClerk, IsDrawn, IsLooked, IsNote, IsSeatOf, Meets, first_pairs, joined, noted, nothing_known, part_with};
 ghost use Rattle.run_history.specs.Ticks.{entries_of};
 
 use crate::plays::{Both, Comes, Draws, Enrols, Hands, Looks, Notes, OneHistory, Told, ToldEntry};
@@ -16,7 +16,7 @@ pub type Table = atomic_table::Table<(), View, Config, OneHistory, Global>;
 /// Draws an entry with a clerk's seat, and gives its tick.
 pub fn draw_as<T: Told, E: ToldEntry>(table: &Table, seat: &mut Seat, entry: &Entry) -> u64
     requires told { (T.setup ≡ table.now.shared.key) × (E.entry ≡ entry.now) }
-    requires table { (seat.old.table_id ≡ table.now.shared.table_id) × (table.now.shared.table_id.words ≡ 2) }
+    requires table { IsSeatOf table.now.shared.table_id seat.old.table_id }
     requires clerk { IsClerk entry.now.replica seat.old.me.0 }
     requires due { IsDue T.setup (entries_of (first_pairs seat.old.me.0.parts)) entry.now }
     requires sent { WasSent seat.old.me.0.seen entry.now.act }
@@ -29,7 +29,7 @@ pub fn draw_as<T: Told, E: ToldEntry>(table: &Table, seat: &mut Seat, entry: &En
 /// Looks with a seat, and gives the length of the history.
 pub fn look_as<T: Told>(table: &Table, seat: &mut Seat) -> u64
     requires told { T.setup ≡ table.now.shared.key }
-    requires table { (seat.old.table_id ≡ table.now.shared.table_id) × (table.now.shared.table_id.words ≡ 2) }
+    requires table { IsSeatOf table.now.shared.table_id seat.old.table_id }
     ensures seat { (seat.new.table_id ≡ seat.old.table_id) × (seat.new.me.1 ≡ seat.old.me.1) }
     ensures looked { IsLooked T.setup seat.old.me.0 result seat.new.me.0 }
 {
@@ -38,7 +38,7 @@ pub fn look_as<T: Told>(table: &Table, seat: &mut Seat) -> u64
 
 /// A note of what a seat knows.
 pub fn note_as(table: &Table, seat: &mut Seat) -> Seat
-    requires table { (seat.old.table_id ≡ table.now.shared.table_id) × (table.now.shared.table_id.words ≡ 2) }
+    requires table { IsSeatOf table.now.shared.table_id seat.old.table_id }
     ensures seat { (seat.new.table_id ≡ seat.old.table_id) × (seat.new.me ≡ seat.old.me) }
     ensures note { (result.table_id ≡ seat.old.table_id) × (result.me ≡ (noted seat.old.me.0, [])) }
 {
@@ -47,9 +47,10 @@ pub fn note_as(table: &Table, seat: &mut Seat) -> Seat
 
 /// Takes in what another seat has.
 pub fn join_as(table: &Table, seat: &mut Seat, other: Seat)
-    requires table { (seat.old.table_id ≡ table.now.shared.table_id) × (table.now.shared.table_id.words ≡ 2) }
+    requires table { IsSeatOf table.now.shared.table_id seat.old.table_id }
     requires other { (other.table_id ≡ table.now.shared.table_id) × (other.me.1 ≡ []) }
-    ensures seat { (seat.new.table_id ≡ seat.old.table_id) × (seat.new.me ≡ (joined seat.old.me.0 other.me.0, seat.old.me.1)) }
+    ensures seat { (seat.new.table_id ≡ seat.old.table_id)
+        × (seat.new.me ≡ (joined seat.old.me.0 other.me.0, seat.old.me.1)) }
 {
     table.shared.join_seat::<Both>(seat, other)
 }
@@ -57,7 +58,7 @@ pub fn join_as(table: &Table, seat: &mut Seat, other: Seat)
 /// A clerk's seat takes in a note's and looks.
 pub fn learn_as<T: Told>(table: &Table, seat: &mut Seat, replica: u32, note: Seat)
     requires told { T.setup ≡ table.now.shared.key }
-    requires table { (seat.old.table_id ≡ table.now.shared.table_id) × (table.now.shared.table_id.words ≡ 2) }
+    requires table { IsSeatOf table.now.shared.table_id seat.old.table_id }
     requires other { (note.table_id ≡ table.now.shared.table_id) × (note.me.1 ≡ []) }
     requires clerk { IsClerk replica seat.old.me.0 }
     requires note { IsNote note.me.0 }
@@ -74,7 +75,7 @@ pub fn learn_as<T: Told>(table: &Table, seat: &mut Seat, replica: u32, note: Sea
 /// A note's seat takes in another's and looks.
 pub fn meet_as<T: Told>(table: &Table, seat: &mut Seat, other: Seat)
     requires told { T.setup ≡ table.now.shared.key }
-    requires table { (seat.old.table_id ≡ table.now.shared.table_id) × (table.now.shared.table_id.words ≡ 2) }
+    requires table { IsSeatOf table.now.shared.table_id seat.old.table_id }
     requires other { (other.table_id ≡ table.now.shared.table_id) × (other.me.1 ≡ []) }
     requires note { IsNote seat.old.me.0 }
     requires other_note { IsNote other.me.0 }
@@ -88,13 +89,16 @@ pub fn meet_as<T: Told>(table: &Table, seat: &mut Seat, other: Seat)
 
 /// Enrols the replica of the next number, and gives the seat of its clerk.
 pub fn enrol_as(table: &Table, seat: &mut Seat, replica: u32) -> Seat
-    requires table { (seat.old.table_id ≡ table.now.shared.table_id) × (table.now.shared.table_id.words ≡ 2) }
-    requires opener { (seat.old.me.0.opens ≡ true) × (seat.old.me.0.parts ≡ []) × (seat.old.me.0.seen ≡ []) }
+    requires table { IsSeatOf table.now.shared.table_id seat.old.table_id }
+    requires opener { (seat.old.me.0.opens ≡ true) × (seat.old.me.0.parts ≡ [])
+        × (seat.old.me.0.seen ≡ []) }
     requires room { (seat.old.me.0.enrolled ≡ replica) × (replica < table.now.shared.key.replicas) }
     ensures seat { (seat.new.table_id ≡ seat.old.table_id) × (seat.new.me.1 ≡ seat.old.me.1) }
-    ensures opener { (seat.new.me.0.opens ≡ true) × (seat.new.me.0.parts ≡ []) × (seat.new.me.0.seen ≡ []) }
+    ensures opener { (seat.new.me.0.opens ≡ true) × (seat.new.me.0.parts ≡ [])
+        × (seat.new.me.0.seen ≡ []) }
     ensures enrolled { seat.new.me.0.enrolled ≡ replica + 1 }
-    ensures clerk { (result.table_id ≡ seat.old.table_id) × (result.me.1 ≡ []) × IsClerk replica result.me.0 }
+    ensures clerk { (result.table_id ≡ seat.old.table_id) × (result.me.1 ≡ [])
+        × IsClerk replica result.me.0 }
     ensures fresh { (result.me.0.seen ≡ []) × (result.me.0.parts ≡ part_with replica [] ∷ []) }
 {
     let _ = replica;

@@ -1,8 +1,8 @@
 use run_model::Entry;
 use std::collections::LinkedList;
 
-/// What a seat of the history table knows: whether it enrols and how many it enrolled, what it has seen of
-/// the history now and earlier, and the parts that it has. No value of it is made.
+/// What a seat of the history table knows: whether it enrols and how many it enrolled, what it has
+/// seen of the history now and earlier, and the parts that it has. No value of it is made.
 pub struct View {
     pub opens: bool,
     pub enrolled: u64,

@@ -113,8 +113,8 @@ fn closed(
     Ok((desk.close(clerks).entries(), all))
 }
 
-// Each tick below the count is that of one entry, and of each replica the moments rise from tick to tick, which makes a
-// run of restarts.
+// Each tick below the count is that of one entry, and of each replica the moments rise from tick to
+// tick, which makes a run of restarts.
 fn is_run_of_restarts(rt: &impl Abort, all: &[[u64; DRAWS]]) {
     let mut drawn_at = [None; 800];
     for (replica, ticks) in all.iter().enumerate() {
