@@ -73,7 +73,8 @@ fn draw_each<R: Threads + Sync>(
     desk: &Desk,
     clerks: Vec<Clerk>,
 ) -> Result<Vec<Drawn>, AllocError>
-    requires { (i : ℕ) (d : _) → i < vec_len clerks → HasRestarts desk.now 0 (slice_index_or clerks.items i d) }
+    requires { (i : ℕ) (d : _) → i < vec_len clerks
+        → HasRestarts desk.now 0 (slice_index_or clerks.items i d) }
     ensures len { IfOk result (λ drawn. vec_len drawn ≡ vec_len clerks) }
     ensures tables { IfOk result (λ drawn. (i : ℕ) (d : _) → i < vec_len clerks
         → (slice_index_or drawn.items i d).clerk.table ≡ desk.now.table) }
