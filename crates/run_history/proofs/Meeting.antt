@@ -22,27 +22,23 @@ meets setup before other found after looked =
       run = looked.run;
     }
 
-module _ (setup : Setup) (replica : ℕ) (before other : View) (found : ℕ) (after : View)
-    (clerk : IsClerk replica before) (note : IsNote other) (looked : IsLooked setup (joined before other) found after) where
-  abbrev pairs : List (ℕ × Entry)
-  pairs = first_pairs before.parts
+module _ (setup : Setup) (before other : View) (found : ℕ) (after : View) (note : IsNote other)
+    (looked : IsLooked setup (joined before other) found after) where
+  both_parts : before.parts ++ other.parts ≡ before.parts
+  both_parts = ap (λ parts. before.parts ++ parts) note.none ∙ append-nil before.parts
 
-  both_parts : before.parts ++ other.parts ≡ part_with replica pairs ∷ []
-  both_parts = ap (λ parts. before.parts ++ parts) note.none ∙ append-nil before.parts ∙ clerk.part
-
-  parts_after : after.parts ≡ part_with replica pairs ∷ []
+  pub parts_after : after.parts ≡ before.parts
   parts_after = ap (λ (view : View). view.parts) looked.is ∙ both_parts
 
-  pub pairs_after : first_pairs after.parts ≡ pairs
-  pairs_after = ap first_pairs parts_after
-
-  pub clerk_after : IsClerk replica after
-  clerk_after =
+  pub clerk_after : (replica : ℕ) → IsClerk replica before → IsClerk replica after
+  clerk_after replica clerk =
       let IsDrawnPart : Part → Type 0 = λ part. part.pairs ≡ drawn_by after.seen part.replica in
+      let pairs = first_pairs before.parts in
+      let pairs_after : first_pairs after.parts ≡ pairs = ap first_pairs parts_after in
       let drawn : pairs ≡ drawn_by after.seen replica =
-      All-head IsDrawnPart (part_with replica pairs) [] (subst (All IsDrawnPart) both_parts looked.parts) in
+      All-head IsDrawnPart (part_with replica pairs) [] (subst (All IsDrawnPart) (both_parts ∙ clerk.part) looked.parts) in
       record {
         closed = ap (λ (view : View). view.opens) looked.is ∙ clerk.closed;
-        part = parts_after ∙ ap (λ pairs. part_with replica pairs ∷ []) (sym pairs_after);
+        part = parts_after ∙ clerk.part ∙ ap (λ pairs. part_with replica pairs ∷ []) (sym pairs_after);
         own = sym (entries_of-drawn_by after.seen replica) ∙ ap entries_of (sym drawn ∙ sym pairs_after);
       }

@@ -28,10 +28,11 @@ impl Model for Clerk {
     ghost Value = { ClerkView };
 
     ghost view = { λ c. record {
-        table = c.badge.table_id;
-        replica = c.replica;
-        seen = seen_in c.badge.views;
-        pairs = pairs_in c.badge.views } };
+      table = c.badge.table_id;
+      replica = c.replica;
+      seen = seen_in c.badge.views;
+      pairs = pairs_in c.badge.views;
+    } };
 
     ghost invariant = { λ c. HoldsClerk c.replica c.badge.views };
 }
@@ -105,12 +106,7 @@ impl Clerk {
     {
         let mut seat = mem::replace(&mut self.badge, Badge::blank()).into_seat::<()>();
         let Note { badge } = note;
-        learn_as::<Brand>(
-            &desk.table,
-            &mut seat,
-            self.replica,
-            badge.into_seat::<()>(),
-        );
+        learn_as::<Brand>(&desk.table, &mut seat, badge.into_seat::<()>());
         self.badge = seat.into_badge();
     }
 }

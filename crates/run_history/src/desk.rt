@@ -83,7 +83,7 @@ fn enrol_all(
 {
     let mut clerks = Vec::new(alloc);
     for replica in 0..replicas {
-        let badge = enrol_as(table, seat, replica).into_badge();
+        let badge = enrol_as(table, seat).into_badge();
         clerks.push(Clerk { replica, badge })?;
     }
     Ok(clerks)

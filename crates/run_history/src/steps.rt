@@ -56,18 +56,16 @@ pub fn join_as(table: &Table, seat: &mut Seat, other: Seat)
 }
 
 /// A clerk's seat takes in a note's and looks.
-pub fn learn_as<T: Told>(table: &Table, seat: &mut Seat, replica: u32, note: Seat)
+pub fn learn_as<T: Told>(table: &Table, seat: &mut Seat, note: Seat)
     requires told { T.setup ≡ table.now.shared.key }
     requires table { IsSeatOf table.now.shared.table_id seat.old.table_id }
     requires other { (note.table_id ≡ table.now.shared.table_id) × (note.me.1 ≡ []) }
-    requires clerk { IsClerk replica seat.old.me.0 }
     requires note { IsNote note.me.0 }
     ensures seat { (seat.new.table_id ≡ seat.old.table_id) × (seat.new.me.1 ≡ seat.old.me.1) }
-    ensures clerk { IsClerk replica seat.new.me.0 }
-    ensures pairs { first_pairs seat.new.me.0.parts ≡ first_pairs seat.old.me.0.parts }
+    ensures clerk { (replica : ℕ) → IsClerk replica seat.old.me.0 → IsClerk replica seat.new.me.0 }
+    ensures parts { seat.new.me.0.parts ≡ seat.old.me.0.parts }
     ensures seen { Meets T.setup seat.old.me.0 note.me.0 seat.new.me.0 }
 {
-    let _ = replica;
     join_as(table, seat, note);
     let _ = look_as::<T>(table, seat);
 }
@@ -88,20 +86,20 @@ pub fn meet_as<T: Told>(table: &Table, seat: &mut Seat, other: Seat)
 }
 
 /// Enrols the replica of the next number, and gives the seat of its clerk.
-pub fn enrol_as(table: &Table, seat: &mut Seat, replica: u32) -> Seat
+pub fn enrol_as(table: &Table, seat: &mut Seat) -> Seat
     requires table { IsSeatOf table.now.shared.table_id seat.old.table_id }
     requires opener { (seat.old.me.0.opens ≡ true) × (seat.old.me.0.parts ≡ [])
         × (seat.old.me.0.seen ≡ []) }
-    requires room { (seat.old.me.0.enrolled ≡ replica) × (replica < table.now.shared.key.replicas) }
+    requires room { seat.old.me.0.enrolled < table.now.shared.key.replicas }
     ensures seat { (seat.new.table_id ≡ seat.old.table_id) × (seat.new.me.1 ≡ seat.old.me.1) }
     ensures opener { (seat.new.me.0.opens ≡ true) × (seat.new.me.0.parts ≡ [])
         × (seat.new.me.0.seen ≡ []) }
-    ensures enrolled { seat.new.me.0.enrolled ≡ replica + 1 }
+    ensures enrolled { seat.new.me.0.enrolled ≡ seat.old.me.0.enrolled + 1 }
     ensures clerk { (result.table_id ≡ seat.old.table_id) × (result.me.1 ≡ [])
-        × IsClerk replica result.me.0 }
-    ensures fresh { (result.me.0.seen ≡ []) × (result.me.0.parts ≡ part_with replica [] ∷ []) }
+        × IsClerk seat.old.me.0.enrolled result.me.0 }
+    ensures fresh { (result.me.0.seen ≡ [])
+        × (result.me.0.parts ≡ part_with seat.old.me.0.enrolled [] ∷ []) }
 {
-    let _ = replica;
     let _ = table.shared.fetch_add::<Enrols>(seat, 1, 1);
     table.shared.split_seat::<Hands>(seat)
 }

@@ -8,7 +8,7 @@ fetch_add-requires c = (
   c.requires.table.0,
   omega (arith, c.requires.table.1),
   enrols c.args.table.now.shared.key c.args.table.now.shared.table_id.slots c.args.seat.now.id c.args.seat.now.me
-      c.requires.opener.0 c.requires.opener.1 (omega (arith, c.requires.room.0, c.requires.room.1)),
+      c.requires.opener.0 c.requires.opener.1 c.requires.room,
 )
 
 pub split_seat-requires : goal.split_seat-requires
