@@ -1,5 +1,5 @@
 -- Writes in order: a write that is put in its place, and what is committed.
-use Rattle.std.proofs.Common.{◌≡◌, ◌≢◌, ℕ, ◌≤◌, suc, Bool, true, false, nat_le, List, [], ◌∷◌, ◌++◌, length, get_or, take, drop, inl, inr, refl, sym, ap, ◌∙◌, arith}
+use Rattle.std.proofs.Common.{◌≡◌, ◌≢◌, ℕ, ◌≤◌, Bool, true, false, nat_le, List, [], ◌∷◌, ◌++◌, length, get_or, take, drop, inl, inr, refl, sym, ap, ◌∙◌, arith}
 use Rattle.std.specs.declared.cmp.Ordering.{Ordering}
 use Rattle.std.specs.declared.cmp.Ordering.TheVariants.{Less, Equal, Greater}
 use Rattle.std.specs.Ordering.{is_lt, ordering_reverse}
@@ -92,7 +92,10 @@ sorted-with_write write (w ∷ writes) apart sorted =
     let rest = sorted-with_write write writes (All-tail (λ held. write_cmp held write ≢ Equal) w writes apart) sorted.1 in
     (all-with_write (λ other. write_cmp w other ≡ Less) write writes less sorted.0, rest))
   where
-    weaken : {P Q : Write → Type 0} (ws : List Write) → ((x : Write) → P x → Q x) → AllByRecursion P ws → AllByRecursion Q ws
+    weaken : {P Q : Write → Type 0} (ws : List Write)
+        → ((x : Write) → P x → Q x)
+        → AllByRecursion P ws
+        → AllByRecursion Q ws
     weaken [] f all = tt
     weaken (x ∷ ws) f all = (f x all.0, weaken ws f all.1)
 
@@ -115,7 +118,9 @@ with_write-place write (w ∷ writes) apart sorted =
     let rest = with_write-place write writes (All-tail (λ held. write_cmp held write ≢ Equal) w writes apart) sorted.1 in
     rw (before-from_Less w write less) (ap (λ ws. w ∷ ws) rest))
   where
-    none_before : {P : Write → Type 0} (ws : List Write) → ((x : Write) → P x → comes_before write x ≡ true) → AllByRecursion P ws
+    none_before : {P : Write → Type 0} (ws : List Write)
+        → ((x : Write) → P x → comes_before write x ≡ true)
+        → AllByRecursion P ws
         → filter (λ x. comes_before x write) ws ≡ []
     none_before [] f all = refl
     none_before (x ∷ ws) f all = rw (before_one_way write x (f x all.0)) (none_before ws f all.1)

@@ -8,10 +8,12 @@ use Rattle.commit_order.specs.Order.{OrderState}
 use Rattle.commit_order.specs.Places.{place_in}
 use Rattle.commit_order.proofs.ordered.Ordered.insert.Goals as goal
 
-apart : (c : goal.After-insert_copy) → All (λ held. write_cmp held c.args.write.now ≢ Equal) c.self.inside.writes.items
+apart : (c : goal.After-insert_copy)
+    → All (λ held. write_cmp held c.args.write.now ≢ Equal) c.self.inside.writes.items
 apart c = subst (λ (s : OrderState). All (λ held. write_cmp held c.args.write.now ≢ Equal) s.writes) (sym c.self.view_is) c.requires.new
 
-put : (c : goal.After-insert_copy) → c.insert_copy.new.list.items ≡ with_write c.args.write.now c.self.inside.writes.items
+put : (c : goal.After-insert_copy)
+    → c.insert_copy.new.list.items ≡ with_write c.args.write.now c.self.inside.writes.items
 put c =
     let write = c.args.write.now in
     let writes = c.self.inside.writes.items in
