@@ -52,7 +52,7 @@ unfolding IsStrictlySortedBy
 by_place [] sorted = tt
 by_place (w ∷ writes) sorted = (
   each_later (λ later. write_cmp w later ≡ Less) (λ later. comes_before later w ≡ false) writes
-  (λ later less. not_before-from_Less w later less) sorted.0,
+      (λ later less. not_before-from_Less w later less) sorted.0,
   by_place writes sorted.1,
 )
 

@@ -1,6 +1,10 @@
 //! The sums of the weights that writes have on a conit.
 #![tactic(auto)]
 
+mod running;
+
+pub use running::Running;
+
 ghost use Rattle.std.specs.Prelude.{◌≡◌, ◌≤◌, ◌*◌, length};
 ghost use Rattle.tact_base.specs.Sums.{plus_sum, minus_sum, net_sum, order_sum};
 ghost use Rattle.tact_base.specs.declared.limits.TheConstants.{SUMMED_WRITES, WEIGHT_MAX};
