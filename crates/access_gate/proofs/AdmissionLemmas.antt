@@ -9,7 +9,9 @@ use Rattle.std.proofs.Math.Nat.{le_of_mul-le-mul_right, mul_comm}
 use Rattle.tact_base.specs.Admission.{first_over_part}
 
 -- parts that are each at most `most` are at most so many times as much together
-sum-parts : (parts most : ℕ) (xs : List ℕ) → All (λ x. x * parts ≤ most) xs → sum xs * parts ≤ length xs * most
+sum-parts : (parts most : ℕ) (xs : List ℕ)
+    → All (λ x. x * parts ≤ most) xs
+    → sum xs * parts ≤ length xs * most
 sum-parts parts most [] all = omega arith
 sum-parts parts most (x ∷ xs) all =
     let here : x * parts ≤ most = All-head (λ x. x * parts ≤ most) x xs all in
@@ -18,7 +20,11 @@ sum-parts parts most (x ∷ xs) all =
     rw total (omega arith)
 
 -- of outs that pass `num` together, one of which is 0, one passes its part
-pub first_over_part-within : (outs : List ℕ) (num : ℕ) → 1 < length outs → Contains outs 0 → num < sum outs → first_over_part outs num < length outs
+pub first_over_part-within : (outs : List ℕ) (num : ℕ)
+    → 1 < length outs
+    → Contains outs 0
+    → num < sum outs
+    → first_over_part outs num < length outs
 first_over_part-within outs num many zeros passed =
     elim (cases_lt (first_over_part outs num) (length outs)) [
       | inl within ↦ within
@@ -42,10 +48,15 @@ first_over_part-within outs num many zeros passed =
 
 -- which one it is, and that it passes its part
 module _ (outs : List ℕ) (num : ℕ) where
-  pub first_over_part-is : (b : ℕ) → b < length outs → ((k : ℕ) → k < b → get_or outs k 0 * (length outs - 1) ≤ num) → num < get_or outs b 0 * (length outs - 1) → first_over_part outs num ≡ b
+  pub first_over_part-is : (b : ℕ)
+      → b < length outs
+      → ((k : ℕ) → k < b → get_or outs k 0 * (length outs - 1) ≤ num)
+      → num < get_or outs b 0 * (length outs - 1)
+      → first_over_part outs num ≡ b
   first_over_part-is b within before passed =
       position_or_len_is (λ out. nat_lt num (out * (length outs - 1))) outs b 0 (omega arith)
       (λ k early. le-ltb num _ (before k early)) (λ inside. lt-ltb num _ passed)
 
-  pub first_over_part-passes : first_over_part outs num < length outs → num < get_or outs (first_over_part outs num) 0 * (length outs - 1)
+  pub first_over_part-passes : first_over_part outs num < length outs
+      → num < get_or outs (first_over_part outs num) 0 * (length outs - 1)
   first_over_part-passes within = ltb-true num _ (passes_at_first (λ out. nat_lt num (out * (length outs - 1))) outs 0 within)

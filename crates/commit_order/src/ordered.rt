@@ -1,13 +1,12 @@
 ghost use Rattle.std.specs.Prelude.{◌≡◌, ◌≢◌, ◌+◌, ◌<◌, ◌≤◌, [], All, OnOk, OnErr, IfOk, IsOk, length, insert};
 ghost use Rattle.std.specs.declared.cmp.Ordering.TheVariants.{Equal};
 ghost use Rattle.std.specs.List.Sorted.{IsStrictlySortedBy};
-ghost use Rattle.std.specs.Ordering.{is_lt};
-ghost use Rattle.tact_base.specs.WriteOrder.{write_cmp, with_write, committed_to, tentative_past};
-ghost use Rattle.commit_order.specs.Places.{place_cmp, place_in};
+ghost use Rattle.tact_base.specs.WriteOrder.{write_cmp, write_place, with_write, committed_to, tentative_past};
+ghost use Rattle.commit_order.specs.Places.{place_in};
 
 use std::alloc::Global;
 use std::marker::Model;
-use tact_base::{NoMemory, RoomyList, Write};
+use tact_base::{NoMemory, Place, RoomyList, Write};
 
 /// Writes in order of stamp, then origin, then index, of which those up to the last point are committed.
 /// Contracts see the writes, the last point and the room: how many more writes can surely be put in without
@@ -61,9 +60,14 @@ impl Ordered {
 
     /// How many of the writes come before one of this stamp, origin and index. Takes no memory.
     pub fn place(&self, stamp: u64, origin: u32, index: u64) -> u64
-        ensures { result ≡ place_in self.now.writes stamp origin index }
+        ensures { result ≡ place_in self.now.writes (record { stamp = stamp; origin = origin; index = index }) }
     {
-        let before = |write: &Write| comes_before(write, stamp, origin, index);
+        let place = Place {
+            stamp,
+            origin,
+            index,
+        };
+        let before = |write: &Write| write.place() < place;
         self.writes.items().partition_point(before) as u64
     }
 
@@ -72,7 +76,7 @@ impl Ordered {
         requires room { 0 < self.old.room }
         requires new { All (λ held. write_cmp held write.now ≢ Equal) self.old.writes }
         requires tentative { self.old.point < write.now.stamp }
-        ensures place { result ≡ place_in self.old.writes write.now.stamp write.now.origin write.now.index }
+        ensures place { result ≡ place_in self.old.writes (write_place write.now) }
         ensures writes { self.new.writes ≡ with_write write.now self.old.writes }
         ensures point { self.new.point ≡ self.old.point }
         ensures room { self.old.room ≤ self.new.room + 1 }
@@ -105,7 +109,7 @@ impl Ordered {
         ensures committed { result.now ≡ committed_to self.now.point self.now.writes }
         ensures sorted { IsStrictlySortedBy write_cmp self.now.writes }
     {
-        self.writes.items().split_at(self.committed).0
+        self.parts().0
     }
 
     /// The other writes, in order.
@@ -113,14 +117,17 @@ impl Ordered {
         ensures tentative { result.now ≡ tentative_past self.now.point self.now.writes }
         ensures sorted { IsStrictlySortedBy write_cmp self.now.writes }
     {
-        self.writes.items().split_at(self.committed).1
+        self.parts().1
     }
-}
 
-fn comes_before(write: &Write, stamp: u64, origin: u32, index: u64) -> bool
-    ensures { result ≡ is_lt (place_cmp write.now stamp origin index) }
-{
-    (write.stamp, write.origin, write.index) < (stamp, origin, index)
+    // The committed writes, and the others.
+    fn parts(&self) -> (&[Write], &[Write])
+        ensures committed { result.0.now ≡ committed_to self.now.point self.now.writes }
+        ensures tentative { result.1.now ≡ tentative_past self.now.point self.now.writes }
+        ensures sorted { IsStrictlySortedBy write_cmp self.now.writes }
+    {
+        self.writes.items().split_at(self.committed)
+    }
 }
 
 // Puts a copy of an item, whose clones never fail and are equal to it, before the one at `place`. Takes no

@@ -11,7 +11,7 @@ use Rattle.link_faults.specs.Inboxes.{Event, put, next, InboxState, after_event,
 
 module _ {C : Type 0} where
   -- what is known after so many events, when these items were put
-  record IsInOrder (items : List C) (count : ℕ) (state : InboxState C) : Type 0 where
+  record IsAfterPuts (items : List C) (count : ℕ) (state : InboxState C) : Type 0 where
     pub plan : state.plan ≡ no_faults
     pub few_lost : state.lost ≤ count
     pub few_taken : state.taken ≤ count
@@ -24,22 +24,25 @@ module _ {C : Type 0} where
       if full then record state { puts = next_number state.puts; lost = next_number state.lost }
       else record state { waiting = state.waiting ++ c ∷ []; puts = next_number state.puts }
 
-  put-plain : (state : InboxState C) (c : C) → state.plan ≡ no_faults → after_put state c ≡ plain_put state c (nat_le INBOX_MAX (length state.waiting))
+  put-plain : (state : InboxState C) (c : C)
+      → state.plan ≡ no_faults
+      → after_put state c ≡ plain_put state c (nat_le INBOX_MAX (length state.waiting))
   put-plain state c plan =
       let P : LinkPlan → Type 0 = λ plan. after_put (record state { plan = plan }) c ≡ plain_put (record state { plan = plan }) c (nat_le INBOX_MAX (length state.waiting)) in
       subst P (sym plan) (by (nat_le INBOX_MAX (length state.waiting)))
     where
-      by : (full : Bool) → after_fate (record state { plan = no_faults }) c (if full then LostFull else Queued) ≡ plain_put (record state { plan = no_faults }) c full
+      by : (full : Bool)
+          → after_fate (record state { plan = no_faults }) c (if full then LostFull else Queued) ≡ plain_put (record state { plan = no_faults }) c full
       by true = refl
       by false = refl
 
-  module _ (items : List C) (count : ℕ) (state : InboxState C) (few : count + 1 < 2 ^ 64) (known : IsInOrder items count state) where
-    in_order-put : (c : C) → IsInOrder (items ++ c ∷ []) (count + 1) (after_put state c)
-    in_order-put c =
+  module _ (items : List C) (count : ℕ) (state : InboxState C) (few : count + 1 < 2 ^ 64) (known : IsAfterPuts items count state) where
+    after_puts-put : (c : C) → IsAfterPuts (items ++ c ∷ []) (count + 1) (after_put state c)
+    after_puts-put c =
         let longer = length-append items (c ∷ []) in
         rw (put-plain state c known.plan) (
         cond_both (nat_le INBOX_MAX (length state.waiting)) (record state { puts = next_number state.puts; lost = next_number state.lost })
-        (record state { waiting = state.waiting ++ c ∷ []; puts = next_number state.puts }) (IsInOrder (items ++ c ∷ []) (count + 1))
+        (record state { waiting = state.waiting ++ c ∷ []; puts = next_number state.puts }) (IsAfterPuts (items ++ c ∷ []) (count + 1))
         (λ _. record {
           plan = known.plan;
           few_lost = omega (arith, known.few_lost);
@@ -55,9 +58,9 @@ module _ {C : Type 0} where
           fits = λ none. omega (arith, known.fits none);
         }))
 
-    in_order-next : IsInOrder items (count + 1) (after_next state)
-    in_order-next =
-        cond_both (length state.waiting == 0) state (record state { waiting = drop 1 state.waiting; taken = next_number state.taken }) (IsInOrder items (count + 1))
+    after_puts-next : IsAfterPuts items (count + 1) (after_next state)
+    after_puts-next =
+        cond_both (length state.waiting == 0) state (record state { waiting = drop 1 state.waiting; taken = next_number state.taken }) (IsAfterPuts items (count + 1))
         (λ _. record {
           plan = known.plan;
           few_lost = omega (arith, known.few_lost);
@@ -78,21 +81,27 @@ module _ {C : Type 0} where
               omega (arith, long);
         })
 
-  run_in_order : (events : List (Event C)) (items : List C) (count : ℕ) (state : InboxState C) → count + length events < 2 ^ 64 → IsInOrder items count state → IsInOrder (items ++ items_put events) (count + length events) (fold after_event state events)
-  run_in_order [] items count state few known = rw (append-nil, add-zero) known
-  run_in_order (put c ∷ events) items count state few known =
-      let P : List C → ℕ → Type 0 = λ all n. IsInOrder all n (fold after_event (after_put state c) events) in
-      let after = run_in_order events (items ++ c ∷ []) (count + 1) (after_put state c) (omega arith) (in_order-put items count state (omega arith) known c) in
+  after_puts-events : (events : List (Event C)) (items : List C) (count : ℕ) (state : InboxState C)
+      → count + length events < 2 ^ 64
+      → IsAfterPuts items count state
+      → IsAfterPuts (items ++ items_put events) (count + length events) (fold after_event state events)
+  after_puts-events [] items count state few known = rw (append-nil, add-zero) known
+  after_puts-events (put c ∷ events) items count state few known =
+      let P : List C → ℕ → Type 0 = λ all n. IsAfterPuts all n (fold after_event (after_put state c) events) in
+      let after = after_puts-events events (items ++ c ∷ []) (count + 1) (after_put state c) (omega arith) (after_puts-put items count state (omega arith) known c) in
       let counted : count + 1 + length events ≡ count + length (put c ∷ events) = omega arith in
       let moved = rw (append_assoc items (c ∷ []) (items_put events)) at after in
       subst (P (items ++ c ∷ items_put events)) counted moved
-  run_in_order (next ∷ events) items count state few known =
-      let P : ℕ → Type 0 = λ n. IsInOrder (items ++ items_put events) n (fold after_event (after_next state) events) in
-      let after = run_in_order events items (count + 1) (after_next state) (omega arith) (in_order-next items count state (omega arith) known) in
+  after_puts-events (next ∷ events) items count state few known =
+      let P : ℕ → Type 0 = λ n. IsAfterPuts (items ++ items_put events) n (fold after_event (after_next state) events) in
+      let after = after_puts-events events items (count + 1) (after_next state) (omega arith) (after_puts-next items count state (omega arith) known) in
       let counted : count + 1 + length events ≡ count + length (next ∷ events) = omega arith in
       subst P counted after
 
-  pub in_order : (events : List (Event C)) → length events < 2 ^ 64 → (inbox_after no_faults events).lost ≡ 0 → (inbox_after no_faults events).waiting ≡ drop (inbox_after no_faults events).taken (items_put events)
+  pub in_order : (events : List (Event C))
+      → length events < 2 ^ 64
+      → (inbox_after no_faults events).lost ≡ 0
+      → (inbox_after no_faults events).waiting ≡ drop (inbox_after no_faults events).taken (items_put events)
   in_order events few none =
-      let empty : IsInOrder [] 0 (empty_inbox no_faults) = record { plan = refl; few_lost = omega arith; few_taken = omega arith; rest = λ _. refl; fits = λ _. omega arith } in
-      (run_in_order events [] 0 (empty_inbox no_faults) (omega arith) empty).rest none
+      let empty : IsAfterPuts [] 0 (empty_inbox no_faults) = record { plan = refl; few_lost = omega arith; few_taken = omega arith; rest = λ _. refl; fits = λ _. omega arith } in
+      (after_puts-events events [] 0 (empty_inbox no_faults) (omega arith) empty).rest none

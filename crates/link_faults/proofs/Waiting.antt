@@ -9,7 +9,12 @@ use Rattle.link_faults.specs.declared.plan.Fate.TheVariants.{Doubled}
 use Rattle.link_faults.specs.Inboxes.{Gains, joined}
 
 -- an item and a copy that join one after the other
-pub Gains-two : {T : Type 0} (IsTwin : T → Type 0) (in_front : Bool) (old between new : List T) (item copy : T) → IsTwin item → IsTwin copy → between ≡ joined in_front (item ∷ []) old → new ≡ joined in_front (copy ∷ []) between → Gains IsTwin Doubled in_front old new
+pub Gains-two : {T : Type 0} (IsTwin : T → Type 0) (in_front : Bool) (old between new : List T) (item copy : T)
+    → IsTwin item
+    → IsTwin copy
+    → between ≡ joined in_front (item ∷ []) old
+    → new ≡ joined in_front (copy ∷ []) between
+    → Gains IsTwin Doubled in_front old new
 Gains-two IsTwin true old between new item copy twin twin_copy first second = record {
   added = copy ∷ item ∷ [];
   count = refl;
@@ -24,7 +29,11 @@ Gains-two IsTwin false old between new item copy twin twin_copy first second = r
 }
 
 -- what holds of all that waits and of whatever is alike to the item that was put goes on holding
-pub Gains-all : {T : Type 0} (P IsTwin : T → Type 0) (fate : Fate) (in_front : Bool) (old new : List T) → ((item : T) → IsTwin item → P item) → All P old → Gains IsTwin fate in_front old new → All P new
+pub Gains-all : {T : Type 0} (P IsTwin : T → Type 0) (fate : Fate) (in_front : Bool) (old new : List T)
+    → ((item : T) → IsTwin item → P item)
+    → All P old
+    → Gains IsTwin fate in_front old new
+    → All P new
 Gains-all P IsTwin fate in_front old new keeps all gains = rw gains.place (both in_front)
   where
     added : All P gains.added

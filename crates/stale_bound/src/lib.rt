@@ -3,13 +3,14 @@
 
 ghost use Rattle.std.specs.Prelude.{◌≡◌, ◌≤◌, length};
 ghost use Rattle.tact_base.specs.Covers.{first_late};
+ghost use Rattle.tact_base.specs.declared.limits.TheConstants.{REPLICAS_MAX};
 
 use tact_base::{Cover, Late};
 
 /// The least replica other than `replica` whose cover has a moment below `wanted`, with that moment, of at
 /// most 8 covers by replica. `None` exactly where there is none. Takes no memory.
 pub fn first_late(covers: &[Cover], replica: u32, wanted: u64) -> Option<Late>
-    requires { length covers.now ≤ 8 }
+    requires { length covers.now ≤ REPLICAS_MAX }
     ensures { result ≡ first_late covers.now replica wanted }
 {
     covers

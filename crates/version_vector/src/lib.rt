@@ -56,9 +56,7 @@ impl Vector {
         ensures { self.new ≡ slice_set self.old i (later_cover (slice_index_or self.old i told) told) }
     {
         let kept = &mut self.covers[i as usize];
-        if kept.count <= told.count && kept.stamp <= told.stamp && kept.moment <= told.moment {
-            *kept = told;
-        }
+        *kept = kept.later(told);
     }
 
     /// The least replica whose cover has the least stamp, and that stamp. Takes no memory.

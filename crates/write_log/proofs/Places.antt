@@ -6,7 +6,10 @@ use Rattle.tact_base.specs.Roomy.{Roomy}
 use Rattle.tact_base.specs.declared.write.Write.{Write}
 
 -- a place that the contracts see
-pub held_place : (logs : List (Roomy Write)) (state : LogState) (i : ℕ) → record { logs = map (λ (l : Roomy Write). l.items) logs; room = map (λ (l : Roomy Write). l.room) logs } ≡ state → i < length state.logs → i < length logs
+pub held_place : (logs : List (Roomy Write)) (state : LogState) (i : ℕ)
+    → record { logs = map (λ (l : Roomy Write). l.items) logs; room = map (λ (l : Roomy Write). l.room) logs } ≡ state
+    → i < length state.logs
+    → i < length logs
 held_place logs state i seen held =
     let mapped : i < length (map (λ (l : Roomy Write). l.items) logs) = subst (λ (s : LogState). i < length s.logs) (sym seen) held in
     rw length-map at mapped
@@ -27,6 +30,8 @@ module _ (logs : List (Roomy Write)) (i : ℕ) (log : Roomy Write) (within : i <
       rw (map-set (λ (l : Roomy Write). l.room) logs i log) (get_or-set_same (map (λ (l : Roomy Write). l.room) logs) i log.room 0 inside)
 
 -- at the other places
-pub room_other : (logs : List (Roomy Write)) (i j : ℕ) (log : Roomy Write) → j ≢ i → get_or (map (λ (l : Roomy Write). l.room) (set logs i log)) j 0 ≡ get_or (map (λ (l : Roomy Write). l.room) logs) j 0
+pub room_other : (logs : List (Roomy Write)) (i j : ℕ) (log : Roomy Write)
+    → j ≢ i
+    → get_or (map (λ (l : Roomy Write). l.room) (set logs i log)) j 0 ≡ get_or (map (λ (l : Roomy Write). l.room) logs) j 0
 room_other logs i j log other =
     rw (map-set (λ (l : Roomy Write). l.room) logs i log) (get_or-set_other (map (λ (l : Roomy Write). l.room) logs) i j log.room 0 other)

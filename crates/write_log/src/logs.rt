@@ -1,6 +1,5 @@
 ghost use Rattle.std.specs.Prelude.{◌≡◌, ◌≢◌, ℕ, ◌+◌, ◌-◌, ◌<◌, ◌≤◌, [], IfOk, OnOk, OnErr, IsOk, length, replicate, slice_range};
 ghost use Rattle.write_log.specs.Logs.{log_of, room_of, TakesWrites};
-ghost use Rattle.tact_base.specs.declared.limits.TheConstants.{REPLICAS_MIN, REPLICAS_MAX};
 
 use std::alloc::Global;
 use std::marker::Model;
@@ -15,7 +14,7 @@ pub enum Taken {
     Gap { have: u64, first: u64 },
 }
 
-/// The logs of 2 to 8 origins. Contracts see the log of each origin and its room: how many more of its
+/// The logs of origins, by origin. Contracts see the log of each origin and its room: how many more of its
 /// writes can surely be held without taking memory.
 #[derive(Debug, Drop)]
 pub struct Logs {
@@ -23,8 +22,7 @@ pub struct Logs {
 }
 
 impl Model for Logs {
-    ghost use Rattle.std.specs.Prelude.{◌≤◌, length, map};
-    ghost use Rattle.tact_base.specs.declared.limits.TheConstants.{REPLICAS_MIN, REPLICAS_MAX};
+    ghost use Rattle.std.specs.Prelude.{map};
     ghost use Rattle.write_log.specs.Logs.{LogState};
 
     ghost Value = { LogState };
@@ -33,16 +31,11 @@ impl Model for Logs {
       logs = map (λ log. log.items) s.logs.items;
       room = map (λ log. log.room) s.logs.items;
     } };
-
-    ghost invariant = { λ s.
-        (REPLICAS_MIN ≤ length s.logs.items) × (length s.logs.items ≤ REPLICAS_MAX) };
 }
 
 impl Logs {
     /// The empty logs of `n` origins, whose writes will lie in memory of `alloc`.
     pub fn new(alloc: Global, n: u32) -> Result<Logs, NoMemory>
-        requires some { REPLICAS_MIN ≤ n }
-        requires few { n ≤ REPLICAS_MAX }
         ensures { IfOk result (λ made. made.logs ≡ replicate n []) }
     {
         let mut logs = Vec::with_capacity(alloc, n as usize)?;

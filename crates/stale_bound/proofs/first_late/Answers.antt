@@ -13,7 +13,8 @@ use Rattle.stale_bound.proofs.first_late.Goals as goal
 abbrev late_of : ℕ × Cover → Late
 late_of peer = record { replica = peer.0; moment = peer.1.moment }
 
-late_of-shown : (r : Option (ℕ × Bor Cover)) → option_map (λ (p : ℕ × Bor Cover). late_of (p.0, p.1.now)) r ≡ option_map late_of (option_map (λ (p : ℕ × Bor Cover). (p.0, p.1.now)) r)
+late_of-shown : (r : Option (ℕ × Bor Cover))
+    → option_map (λ (p : ℕ × Bor Cover). late_of (p.0, p.1.now)) r ≡ option_map late_of (option_map (λ (p : ℕ × Bor Cover). (p.0, p.1.now)) r)
 late_of-shown None = refl
 late_of-shown (Some p) = refl
 

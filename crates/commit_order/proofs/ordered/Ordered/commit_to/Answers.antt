@@ -7,7 +7,8 @@ use Rattle.commit_order.proofs.WriteOrderLemmas.{stamps_first}
 use Rattle.commit_order.proofs.Partitions.{count_by-front}
 use Rattle.commit_order.proofs.ordered.Ordered.commit_to.Goals as goal
 
-count : (c : goal.After-self-2-1) → c.partition_point-committed.result ≡ length (committed_to c.args.stamp c.self.inside.writes.items)
+count : (c : goal.After-self-2-1)
+    → c.partition_point-committed.result ≡ length (committed_to c.args.stamp c.self.inside.writes.items)
 count c =
     let early : Write → Bool = λ w. nat_le w.stamp c.args.stamp in
     let writes = c.items.result.now in

@@ -1,28 +1,26 @@
 use Rattle.std.proofs.Common.{◌≡◌, ◌≢◌, ◌<◌, false, All, length, nat_le, sym, ap, ◌∙◌, subst}
 use Rattle.std.specs.declared.cmp.Ordering.TheVariants.{Equal}
 use Rattle.std.proofs.lemmas.Bool.{lt-leb}
-use Rattle.std.proofs.lemmas.List.Sums.{count_by-le-length}
-use Rattle.tact_base.specs.declared.write.Write.{Write}
-use Rattle.tact_base.specs.WriteOrder.{write_cmp, comes_before, with_write}
-use Rattle.commit_order.proofs.WriteOrderLemmas.{before_first, with_write-point, filter-with_write, sorted-with_write}
-use Rattle.commit_order.proofs.Partitions.{partitioned-point}
+use Rattle.std.proofs.lemmas.List.Sums.{length-filter}
+use Rattle.tact_base.specs.WriteOrder.{write_cmp, write_place, comes_before, with_write}
+use Rattle.commit_order.proofs.WriteOrderLemmas.{with_write-place, filter-with_write, sorted-with_write}
 use Rattle.commit_order.specs.Order.{OrderState}
 use Rattle.commit_order.specs.Places.{place_in}
 use Rattle.commit_order.proofs.ordered.Ordered.insert.Goals as goal
 
-apart : (c : goal.After-insert_copy) → All (λ held. write_cmp held c.args.write.now ≢ Equal) c.self.inside.writes.items
+apart : (c : goal.After-insert_copy)
+    → All (λ held. write_cmp held c.args.write.now ≢ Equal) c.self.inside.writes.items
 apart c = subst (λ (s : OrderState). All (λ held. write_cmp held c.args.write.now ≢ Equal) s.writes) (sym c.self.view_is) c.requires.new
 
-put : (c : goal.After-insert_copy) → c.insert_copy.new.list.items ≡ with_write c.args.write.now c.self.inside.writes.items
+put : (c : goal.After-insert_copy)
+    → c.insert_copy.new.list.items ≡ with_write c.args.write.now c.self.inside.writes.items
 put c =
     let write = c.args.write.now in
     let writes = c.self.inside.writes.items in
-    let before = λ (w : Write). comes_before w write in
-    let place : c.place-place.result ≡ place_in writes write.stamp write.origin write.index =
-    subst (λ (s : OrderState). c.place-place.result ≡ place_in s.writes write.stamp write.origin write.index) (sym c.self.view_is) c.place-place.ensures in
-    let point = partitioned-point before writes (before_first write writes c.self.invariant.0) in
-    c.insert_copy.ensures.items
-    ∙ rw place (sym (with_write-point write writes (place_in writes write.stamp write.origin write.index) c.self.invariant.0 (apart c) (count_by-le-length before writes) point))
+    let place : c.place-place.result ≡ place_in writes (write_place write) =
+    subst (λ (s : OrderState). c.place-place.result ≡ place_in s.writes (write_place write)) (sym c.self.view_is) c.place-place.ensures in
+    let before = length-filter (λ w. comes_before w write) writes in
+    c.insert_copy.ensures.items ∙ rw (place, ← before) (sym (with_write-place write writes (apart c) c.self.invariant.0))
 
 pub invariant_of-self : goal.invariant_of-self
 invariant_of-self c =
