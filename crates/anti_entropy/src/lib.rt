@@ -2,8 +2,10 @@
 //! waits for.
 #![tactic(auto)]
 
-ghost use Rattle.std.specs.Prelude.{◌≡◌, ◌≢◌, ◌<◌, ◌↔◌, ◌⊎◌, ℕ, List, [], IsTrue, IfOk, SomeIndex, length, map, slice_index};
+ghost use Rattle.std.specs.Prelude.{◌≡◌, ◌≢◌, ◌<◌, ◌≤◌, ◌↔◌, ◌⊎◌, ℕ, List, [], IsTrue, IfOk, SomeIndex, length, map, slice_index};
+ghost use Rattle.tact_base.specs.Counts.{first_index};
 ghost use Rattle.tact_base.specs.Setup.{Setup, replicas_of};
+ghost use Rattle.tact_base.specs.declared.limits.TheConstants.{REPLICAS_MAX};
 ghost use Rattle.run_model.specs.Messages.{first_for};
 ghost use Rattle.run_model.specs.ScriptRuns.{zeros};
 ghost use Rattle.run_model.specs.declared.entry.Entry.{Entry};
@@ -12,14 +14,15 @@ ghost use Rattle.anti_entropy.specs.Wishes.{wish_of};
 
 use run_model::{Message, Reply};
 use std::alloc::Global;
-use tact_base::{NoMemory, Numbers};
+use tact_base::{NoMemory, Numbers, first_index};
 
 /// By origin, the index from which its writes are sent to the replica `to`, in memory of `alloc`: of another
 /// origin past those that `to` is known to have, and of `to` itself past all. `haves` and `known` have a
 /// number for each origin: how many of its writes are at hand, and how many `to` is known to have.
 /// `NoMemory` is the only error.
 pub fn firsts(alloc: Global, haves: &Numbers, known: &Numbers, to: u32) -> Result<Numbers, NoMemory>
-    requires { length known.now ≡ length haves.now }
+    requires few { length haves.now ≤ REPLICAS_MAX }
+    requires both { length known.now ≡ length haves.now }
     ensures firsts { IfOk result (λ firsts. firsts ≡ firsts_of haves.now known.now to) }
     ensures of_message { IfOk result (λ firsts. (setup : Setup) (replica : ℕ) (part : List Entry)
         → AreCountsOf setup replica part to haves.now known.now
@@ -28,12 +31,7 @@ pub fn firsts(alloc: Global, haves: &Numbers, known: &Numbers, to: u32) -> Resul
     let known = known.items();
     let mut firsts = Numbers::new(alloc);
     for (origin, &have) in haves.items().iter().enumerate() {
-        let first = if origin == to as usize {
-            have
-        } else {
-            have.min(known[origin])
-        };
-        firsts.push(first)?;
+        firsts.push(first_index(to, origin as u32, have, known[origin], 0))?;
     }
     Ok(firsts)
 }

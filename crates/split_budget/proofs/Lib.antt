@@ -1,8 +1,9 @@
 pub mod Places
+pub mod PeersBelow
 pub mod Parts
-pub mod Peers
 pub mod Refusals
 pub mod Openings
-pub mod OriginState
-pub mod KeepingLoans
-pub mod KeepingWrites
+pub mod KeptLemmas
+pub mod AmountsKept
+pub mod LoansKept
+pub mod WritesKept

@@ -1,13 +1,11 @@
 -- The sum of a part of each nweight on a conit, over writes that are added, taken in turn, or known.
-use Rattle.std.proofs.Common.{◌≡◌, ◌==◌, ℕ, ◌+◌, ◌-◌, ◌<◌, ◌≤◌, ℤ, List, [], ◌∷◌, ◌++◌, length, get_or, take, drop, Contains, sum_by, refl, sym, ap, ◌∙◌, inl, inr, ◌⊎◌, ⊎_elim, arith}
+use Rattle.std.proofs.Common.{◌≡◌, ◌==◌, ℕ, ◌+◌, ◌-◌, ◌<◌, ◌≤◌, min, ℤ, List, [], ◌∷◌, ◌++◌, length, get_or, take, drop, sum_by, refl, sym, ap, ◌∙◌, ⊎_elim, arith}
 use Rattle.std.specs.List.{flat_map}
-use Rattle.std.proofs.lemmas.Bool.{cases_lt, eqb-true}
-use Rattle.std.proofs.lemmas.List.{append-nil, take-append-drop, take_more, drop-append-le, drop_all, drop-drop, length_push}
+use Rattle.std.proofs.lemmas.Bool.{cases_lt}
+use Rattle.std.proofs.lemmas.List.{append-nil, take-append-drop, take_more, take_rest, drop-append-le, drop_all, drop_min, drop-drop, length_push}
 use Rattle.std.proofs.lemmas.List.Concat.{flat_map-append}
 use Rattle.std.proofs.lemmas.List.Elements.{filter-append}
 use Rattle.std.proofs.lemmas.List.Sums.{sum_by-append}
-use Rattle.tact_base.proofs.ConitListLemmas.{IsWeights, weight_in_limits, IsConitList-once}
-use Rattle.tact_base.proofs.ElementLemmas.{Contains-first, Contains-from_filter, passes_in_filter}
 use Rattle.tact_base.proofs.SumsLemmas.{sum_on_conit-yes}
 use Rattle.tact_base.specs.Sums.{on_conit}
 use Rattle.tact_base.specs.declared.conit_list.Weight.{Weight}
@@ -26,35 +24,34 @@ module _ (part : ℤ → ℕ) (conit : ℕ) where
   part_on-one weights = ap (λ (all : List Weight). sum_by (λ weight. part weight.nweight) (on_conit conit all)) (append-nil weights)
 
   -- one more write of a list
-  pub part_on-more : (xs : List (List Weight)) (i : ℕ) → i < length xs → part_on part conit (take (i + 1) xs) ≡ part_on part conit (take i xs) + part_sum part conit (get_or xs i [])
+  pub part_on-more : (xs : List (List Weight)) (i : ℕ)
+      → i < length xs
+      → part_on part conit (take (i + 1) xs) ≡ part_on part conit (take i xs) + part_sum part conit (get_or xs i [])
   part_on-more xs i within =
       rw (take_more xs i [] within, part_on-append (take i xs) (get_or xs i [] ∷ []), part_on-one (get_or xs i [])) refl
 
-  -- what a front of a list has, and what its rest has, is at most what it has in all
-  part_on-take-le : (i : ℕ) (xs : List (List Weight)) → part_on part conit (take i xs) ≤ part_on part conit xs
-  part_on-take-le i xs =
-      let whole : part_on part conit xs ≡ part_on part conit (take i xs) + part_on part conit (drop i xs) =
-      ap (part_on part conit) (sym (take-append-drop i xs)) ∙ part_on-append (take i xs) (drop i xs) in
-      omega (arith, whole)
+  -- what a list has is what a front of it has, and what the rest has
+  part_on-split : (i : ℕ) (xs : List (List Weight))
+      → part_on part conit xs ≡ part_on part conit (take i xs) + part_on part conit (drop i xs)
+  part_on-split i xs = ap (part_on part conit) (sym (take-append-drop i xs)) ∙ part_on-append (take i xs) (drop i xs)
 
   -- so one more write fits
-  pub part_on-fits : (xs : List (List Weight)) (i : ℕ) → i < length xs → part_on part conit (take i xs) + part_sum part conit (get_or xs i []) ≤ part_on part conit xs
-  part_on-fits xs i within = omega (arith, part_on-more xs i within, part_on-take-le (i + 1) xs)
-
-  part_on-drop-le : (i : ℕ) (xs : List (List Weight)) → part_on part conit (drop i xs) ≤ part_on part conit xs
-  part_on-drop-le i xs =
-      let whole : part_on part conit xs ≡ part_on part conit (take i xs) + part_on part conit (drop i xs) =
-      ap (part_on part conit) (sym (take-append-drop i xs)) ∙ part_on-append (take i xs) (drop i xs) in
-      omega (arith, whole)
+  pub part_on-fits : (xs : List (List Weight)) (i : ℕ)
+      → i < length xs
+      → part_on part conit (take i xs) + part_sum part conit (get_or xs i []) ≤ part_on part conit xs
+  part_on-fits xs i within = omega (arith, part_on-more xs i within, part_on-split (i + 1) xs)
 
   -- where more is known, no more is missed
-  pub part_on-known : (k m : ℕ) (xs : List (List Weight)) → k ≤ m → part_on part conit (drop m xs) ≤ part_on part conit (drop k xs)
+  pub part_on-known : (k m : ℕ) (xs : List (List Weight))
+      → k ≤ m
+      → part_on part conit (drop m xs) ≤ part_on part conit (drop k xs)
   part_on-known k m xs more =
       let e : drop (m - k) (drop k xs) ≡ drop m xs = drop-drop (m - k) k xs ∙ ap (λ n. drop n xs) (omega arith) in
-      rw (← e) (part_on-drop-le (m - k) (drop k xs))
+      rw (← e) (omega (arith, part_on-split (m - k) (drop k xs)))
 
   -- one more write adds at most what it weighs
-  pub part_on-push : (k : ℕ) (xs : List (List Weight)) (weights : List Weight) → part_on part conit (drop k (xs ++ weights ∷ [])) ≤ part_on part conit (drop k xs) + part_sum part conit weights
+  pub part_on-push : (k : ℕ) (xs : List (List Weight)) (weights : List Weight)
+      → part_on part conit (drop k (xs ++ weights ∷ [])) ≤ part_on part conit (drop k xs) + part_sum part conit weights
   part_on-push k xs weights =
       ⊎_elim (λ (past : length xs < k).
       rw (drop_all k (xs ++ weights ∷ []) (omega (arith, length_push xs weights))) (omega arith))
@@ -62,21 +59,10 @@ module _ (part : ℤ → ℕ) (conit : ℕ) where
       rw (drop-append-le k xs (weights ∷ []) within, part_on-append (drop k xs) (weights ∷ []), part_on-one weights) (omega arith))
       (cases_lt (length xs) k)
 
--- of the weights of a write at most one is on a conit
-pub on_conit_cases : (weights : List Weight) → IsWeights weights → (conit : ℕ) → (on_conit conit weights ≡ []) ⊎ ((weight : Weight) × (on_conit conit weights ≡ weight ∷ []) × Contains weights weight × (weight.conit ≡ conit))
-on_conit_cases weights good conit =
-    go (on_conit conit weights) refl (IsConitList-once (λ weight. weight.conit) weight_in_limits weights good conit)
-  where
-    go : (list : List Weight) → on_conit conit weights ≡ list → length list ≤ 1 → (list ≡ []) ⊎ ((weight : Weight) × (list ≡ weight ∷ []) × Contains weights weight × (weight.conit ≡ conit))
-    go [] is few = inl refl
-    go (weight ∷ []) is few =
-        let here : Contains (on_conit conit weights) weight = rw is (Contains-first weight weight [] refl) in
-        inr (weight, refl, Contains-from_filter (λ weight. weight.conit == conit) weights weight here, eqb-true _ _ (passes_in_filter (λ weight. weight.conit == conit) weights weight here))
-    go (weight ∷ other ∷ rest) is few = absurd (omega arith)
-
 -- Over the weights of a write, one after another: one more is on the conit, or on another.
 module _ (part : ℤ → ℕ) (conit : ℕ) (weights : List Weight) (i : ℕ) (d : Weight) (within : i < length weights) where
-  pub sum_on_conit-fits : ((get_or weights i d).conit ≡ conit) → part_sum part conit (take i weights) + part (get_or weights i d).nweight ≤ part_sum part conit weights
+  pub sum_on_conit-fits : ((get_or weights i d).conit ≡ conit)
+      → part_sum part conit (take i weights) + part (get_or weights i d).nweight ≤ part_sum part conit weights
   sum_on_conit-fits same =
       let amount = λ (weight : Weight). part weight.nweight in
       let on = λ (list : List Weight). sum_by amount (on_conit conit list) in
@@ -85,3 +71,11 @@ module _ (part : ℤ → ℕ) (conit : ℕ) (weights : List Weight) (i : ℕ) (d
       ap on (sym (take-append-drop (i + 1) weights)) ∙ ap (sum_by amount) (filter-append (λ weight. weight.conit == conit) (take (i + 1) weights) (drop (i + 1) weights))
       ∙ sum_by-append amount (on_conit conit (take (i + 1) weights)) (on_conit conit (drop (i + 1) weights)) in
       omega (arith, more, split)
+
+-- the writes that are read from where a peer is known to be, at most at the end
+pub read_from_known : {T : Type 0} (lists weights : List T) (known at : ℕ)
+    → lists ≡ weights
+    → at ≡ min known (length lists)
+    → take (length lists - at) (drop at lists) ≡ drop known weights
+read_from_known lists weights known at same is =
+    take_rest lists at ∙ ap (λ n. drop n lists) is ∙ drop_min known lists ∙ ap (drop known) same

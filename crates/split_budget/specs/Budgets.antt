@@ -1,22 +1,19 @@
 -- The numerical budgets of one replica: its shares of the bounds of the others, what its own writes use of them, and
 -- what it lends of its own bound (this project's own rule).
-use Rattle.std.specs.Prelude.{◌≢◌, ℕ, ◌-◌, ◌*◌, ◌/◌, ◌%◌, ◌<◌, ◌==◌, not, max, ℤ, List, [], drop, map, filter, sum, sum_by, replicate, slice_index}
+use Rattle.std.specs.Prelude.{◌≢◌, ℕ, ◌-◌, ◌*◌, ◌/◌, ◌%◌, ◌<◌, max, ℤ, List, [], drop, map, sum, sum_by, replicate, slice_index}
 use Rattle.std.specs.List.{flat_map, range_with_len}
+use Rattle.tact_base.specs.Setup.{Setup, IsSetup, peers_of, place_of, alpha_of, loan_of}
 use Rattle.tact_base.specs.Sums.{above_zero, below_zero, on_conit}
 use Rattle.tact_base.specs.declared.conit_list.Weight.{Weight}
 use Rattle.split_budget.specs.declared.budget.Budget.{Budget}
-use Rattle.split_budget.specs.Opening.{place_of, alpha_of, loan_of}
 
--- The opening, as in a `Budget`; the weights of the replica's own writes, in order, and how many of these writes each
+-- The setup, and the replica; the weights of the replica's own writes, in order, and how many of these writes each
 -- replica is known to have; by conit, what is reserved; by replica and then conit, all that was ever lent to it and all
 -- that it told it lent, all that was ever given back to it and all that it told it gave back; and how many more writes
 -- can surely be added without taking memory.
 pub record BudgetState : Type 0 where
+  pub setup : Setup
   pub replica : ℕ
-  pub replicas : ℕ
-  pub conits : ℕ
-  pub alphas : List ℕ
-  pub loans : List ℕ
   pub weights : List (List Weight)
   pub known : List ℕ
   pub reserved : List ℕ
@@ -26,43 +23,38 @@ pub record BudgetState : Type 0 where
   pub returned_known : List ℕ
   pub room : ℕ
 
--- the opening that a state began with
-abbrev pub budget_of : BudgetState → Budget
-budget_of s = record { replica = s.replica; replicas = s.replicas; conits = s.conits; alphas = s.alphas; loans = s.loans }
+-- the setup of a budget
+abbrev pub setup_of : Budget → Setup
+setup_of b = record { replicas = b.replicas; conits = b.conits; alphas = b.alphas; loans = b.loans }
+
+-- its setup is without a fault, and its replica is one of the setup's
+pub record IsBudget (b : Budget) : Type 0 where
+  pub setup : IsSetup (setup_of b)
+  pub replica : b.replica < b.replicas
 
 -- a number for each replica and conit, by replica and then conit
-abbrev pub by_place : ℕ → ℕ → (ℕ → ℕ → ℕ) → List ℕ
-by_place replicas conits number = map (λ place. number (place / conits) (place % conits)) (range_with_len 0 (replicas * conits))
+abbrev pub by_place : Setup → (ℕ → ℕ → ℕ) → List ℕ
+by_place setup number =
+    map (λ place. number (place / setup.conits) (place % setup.conits)) (range_with_len 0 (setup.replicas * setup.conits))
 
--- the state at the opening, with so much room
-abbrev pub opening : Budget → ℕ → BudgetState
-opening b room = record {
-  replica = b.replica;
-  replicas = b.replicas;
-  conits = b.conits;
-  alphas = b.alphas;
-  loans = b.loans;
+-- the state of a replica of a setup at the opening, with so much room
+abbrev pub opening : Setup → ℕ → ℕ → BudgetState
+opening setup replica room = record {
+  setup = setup;
+  replica = replica;
   weights = [];
-  known = replicate b.replicas 0;
-  reserved = replicate b.conits 0;
-  lent = by_place b.replicas b.conits (λ holder conit. loan_of b b.replica conit holder);
-  lent_known = by_place b.replicas b.conits (λ owner conit. loan_of b owner conit b.replica);
-  returned = replicate (b.replicas * b.conits) 0;
-  returned_known = replicate (b.replicas * b.conits) 0;
+  known = replicate setup.replicas 0;
+  reserved = replicate setup.conits 0;
+  lent = by_place setup (λ holder conit. loan_of setup replica conit holder);
+  lent_known = by_place setup (λ owner conit. loan_of setup owner conit replica);
+  returned = replicate (setup.replicas * setup.conits) 0;
+  returned_known = replicate (setup.replicas * setup.conits) 0;
   room = room;
 }
 
 -- a replica other than the one whose budgets these are
 abbrev pub IsPeer : BudgetState → ℕ → Type 0
-IsPeer s peer = (peer < s.replicas) × (peer ≢ s.replica)
-
--- the peers, in rising number
-abbrev pub peers_of : BudgetState → List ℕ
-peers_of s = filter (λ peer. not (peer == s.replica)) (range_with_len 0 s.replicas)
-
--- where the numbers of a replica on a conit stand
-abbrev pub place_in : BudgetState → ℕ → ℕ → ℕ
-place_in s replica conit = place_of s.conits replica conit
+IsPeer s peer = (peer < s.setup.replicas) × (peer ≢ s.replica)
 
 -- what is reserved on a conit
 abbrev pub reserved_on : BudgetState → ℕ → ℕ
@@ -70,17 +62,17 @@ reserved_on s conit = slice_index s.reserved conit
 
 -- all that was ever lent to a holder, the opening loan included, and the greatest of what it told it gave back
 abbrev pub lent_to : BudgetState → ℕ → ℕ → ℕ
-lent_to s holder conit = slice_index s.lent (place_in s holder conit)
+lent_to s holder conit = slice_index s.lent (place_of s.setup holder conit)
 
 abbrev pub returned_by : BudgetState → ℕ → ℕ → ℕ
-returned_by s holder conit = slice_index s.returned_known (place_in s holder conit)
+returned_by s holder conit = slice_index s.returned_known (place_of s.setup holder conit)
 
 -- the greatest of what an owner told it lent, the opening loan included, and all that was ever given back to it
 abbrev pub lent_by : BudgetState → ℕ → ℕ → ℕ
-lent_by s owner conit = slice_index s.lent_known (place_in s owner conit)
+lent_by s owner conit = slice_index s.lent_known (place_of s.setup owner conit)
 
 abbrev pub returned_to : BudgetState → ℕ → ℕ → ℕ
-returned_to s owner conit = slice_index s.returned (place_in s owner conit)
+returned_to s owner conit = slice_index s.returned (place_of s.setup owner conit)
 
 -- the share of an owner's bound
 abbrev pub share : BudgetState → ℕ → ℕ → ℕ
@@ -92,11 +84,11 @@ out s holder conit = lent_to s holder conit - returned_by s holder conit
 
 -- what all peers have of it
 abbrev pub all_out : BudgetState → ℕ → ℕ
-all_out s conit = sum (map (λ peer. out s peer conit) (peers_of s))
+all_out s conit = sum (map (λ peer. out s peer conit) (peers_of s.setup s.replica))
 
 -- what of it is at home
 abbrev pub home : BudgetState → ℕ → ℕ
-home s conit = alpha_of (budget_of s) s.replica conit - all_out s conit
+home s conit = alpha_of s.setup s.replica conit - all_out s conit
 
 -- the sum of a part of each nweight on a conit, of weights
 abbrev pub part_sum : (ℤ → ℕ) → ℕ → List Weight → ℕ

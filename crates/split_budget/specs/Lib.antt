@@ -1,5 +1,3 @@
-pub mod Opening
 pub mod Budgets
 pub mod Kept
 pub mod Answers
-pub mod Inside

@@ -1,3 +1,7 @@
+ghost use Rattle.std.specs.Prelude.{◌≡◌};
+ghost use Rattle.tact_base.specs.Setup.{place_of};
+ghost use Rattle.split_budget.specs.Budgets.{setup_of};
+
 use tact_base::Numbers;
 
 /// What the budgets of a replica begin with. Alphas and loans are in units of weight.
@@ -13,4 +17,13 @@ pub struct Budget {
     pub alphas: Numbers,
     /// What of its bound an owner lends at the opening, by owner, conit and holder.
     pub loans: Numbers,
+}
+
+impl Budget {
+    // Where the numbers of a replica on a conit stand.
+    pub(crate) fn place_of(&self, replica: u32, conit: u32) -> usize
+        ensures { result ≡ place_of (setup_of self.now) replica conit }
+    {
+        replica as usize * self.conits as usize + conit as usize
+    }
 }

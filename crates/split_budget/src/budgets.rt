@@ -1,14 +1,14 @@
-ghost use Rattle.std.specs.Prelude.{◌≡◌, ◌+◌, ◌-◌, ◌<◌, ◌≤◌, [], ◌∷◌, ◌++◌, All, IfOk, OnOk, OnErr, IsOk, max, length, slice_index, slice_set, unsigned_abs};
+ghost use Rattle.std.specs.Prelude.{◌≡◌, ◌+◌, ◌-◌, ◌<◌, ◌≤◌, [], ◌∷◌, ◌++◌, All, IfOk, OnOk, OnErr, IsOk, max, slice_index, slice_set, unsigned_abs};
+ghost use Rattle.tact_base.specs.Setup.{place_of};
+ghost use Rattle.tact_base.specs.declared.fit.Fit.TheVariants.{Fits};
 ghost use Rattle.tact_base.specs.declared.limits.TheConstants.{LENT_MAX};
-ghost use Rattle.split_budget.specs.Opening.{IsBudget};
-ghost use Rattle.split_budget.specs.Budgets.{opening, IsPeer, place_in, reserved_on, lent_to, returned_by, lent_by, returned_to, share, out, home, missing_plus, missing_minus, free};
+ghost use Rattle.split_budget.specs.Budgets.{IsBudget, setup_of, opening, IsPeer, reserved_on, lent_to, returned_by, lent_by, returned_to, share, out, home, missing_plus, missing_minus, free};
 ghost use Rattle.split_budget.specs.Kept.{KeepsBudgets};
-ghost use Rattle.split_budget.specs.Answers.{refusal, answer, missing_on, weight_answer, reserve_answer};
-ghost use Rattle.split_budget.specs.declared.fit.Fit.TheVariants.{Fits};
+ghost use Rattle.split_budget.specs.Answers.{fit_by, answer, missing_on, weight_answer, reserve_answer};
 
-use crate::fit::Side;
 use crate::missing::{Row, sums_on};
-use crate::opening::{copy, lent, lent_known, place_of};
+use crate::opening::{copy, lent, lent_known};
+use crate::side::Side;
 use crate::{Budget, Fit};
 use std::alloc::Global;
 use std::marker::Model;
@@ -30,23 +30,33 @@ pub struct Budgets {
 }
 
 impl Model for Budgets {
-    ghost use Rattle.split_budget.specs.Budgets.{BudgetState};
+    ghost use Rattle.split_budget.specs.Budgets.{BudgetState, setup_of};
 
     ghost Value = { BudgetState };
 
-    ghost use Rattle.split_budget.specs.Inside.{state_of};
     ghost use Rattle.split_budget.specs.Kept.{KeepsBudgets};
 
-    ghost view = { state_of };
+    ghost view = { λ a. record {
+      setup = setup_of a.config;
+      replica = a.config.replica;
+      weights = a.weights.items;
+      known = a.known.items;
+      reserved = a.reserved.items;
+      lent = a.lent.items;
+      lent_known = a.lent_known.items;
+      returned = a.returned.items;
+      returned_known = a.returned_known.items;
+      room = a.weights.room;
+    } };
 
-    ghost invariant = { λ s. KeepsBudgets (state_of s) };
+    ghost invariant = { λ a. KeepsBudgets (view a) };
 }
 
 impl Budgets {
     /// The budgets at the opening, in memory of `alloc`: no write, nothing reserved and nothing given back.
     pub fn new(alloc: Global, config: &Budget) -> Result<Budgets, NoMemory>
         requires { IsBudget config.now }
-        ensures { IfOk result (λ made. made ≡ opening config.now made.room) }
+        ensures { IfOk result (λ made. made ≡ opening (setup_of config.now) config.now.replica made.room) }
     {
         let places = config.replicas as usize * config.conits as usize;
         Ok(Budgets {
@@ -64,11 +74,11 @@ impl Budgets {
     /// The share that the replica holds of the owner's bound on the conit. Takes no memory.
     pub fn share(&self, owner: u32, conit: u32) -> u64
         requires owner { IsPeer self.now owner }
-        requires conit { conit < self.now.conits }
+        requires conit { conit < self.now.setup.conits }
         ensures share { result ≡ share self.now owner conit }
         ensures kept { KeepsBudgets self.now }
     {
-        let place = place_of(self.config.conits, owner, conit);
+        let place = self.config.place_of(owner, conit);
         self.lent_known[place] - self.returned[place]
     }
 
@@ -76,7 +86,7 @@ impl Budgets {
     /// and that of the sizes of the negative ones. Takes no memory.
     pub fn missing(&self, peer: u32, conit: u32) -> (u64, u64)
         requires peer { IsPeer self.now peer }
-        requires conit { conit < self.now.conits }
+        requires conit { conit < self.now.setup.conits }
         ensures sums { result ≡ (missing_plus self.now peer conit, missing_minus self.now peer conit) }
         ensures kept { KeepsBudgets self.now }
     {
@@ -87,7 +97,7 @@ impl Budgets {
 
     /// What is reserved on the conit. Takes no memory.
     pub fn reserved(&self, conit: u32) -> u64
-        requires { conit < self.now.conits }
+        requires { conit < self.now.setup.conits }
         ensures reserved { result ≡ reserved_on self.now conit }
         ensures kept { KeepsBudgets self.now }
     {
@@ -96,11 +106,11 @@ impl Budgets {
 
     /// What of the replica's own bound on the conit isn't lent out. Takes no memory.
     pub fn home(&self, conit: u32) -> u64
-        requires { conit < self.now.conits }
+        requires { conit < self.now.setup.conits }
         ensures home { result ≡ home self.now conit }
         ensures kept { KeepsBudgets self.now }
     {
-        let place = place_of(self.config.conits, self.config.replica, conit);
+        let place = self.config.place_of(self.config.replica, conit);
         let mut home = self.config.alphas.items()[place];
         for peer in 0..self.config.replicas {
             if peer != self.config.replica {
@@ -113,11 +123,11 @@ impl Budgets {
     /// What the holder has of the replica's own bound on the conit. Takes no memory.
     pub fn out(&self, holder: u32, conit: u32) -> u64
         requires holder { IsPeer self.now holder }
-        requires conit { conit < self.now.conits }
+        requires conit { conit < self.now.setup.conits }
         ensures out { result ≡ out self.now holder conit }
         ensures kept { KeepsBudgets self.now }
     {
-        let place = place_of(self.config.conits, holder, conit);
+        let place = self.config.place_of(holder, conit);
         self.lent[place] - self.returned_known[place]
     }
 
@@ -125,27 +135,27 @@ impl Budgets {
     /// included. Takes no memory.
     pub fn lent(&self, holder: u32, conit: u32) -> u64
         requires holder { IsPeer self.now holder }
-        requires conit { conit < self.now.conits }
+        requires conit { conit < self.now.setup.conits }
         ensures lent { result ≡ lent_to self.now holder conit }
         ensures kept { KeepsBudgets self.now }
     {
-        self.lent[place_of(self.config.conits, holder, conit)]
+        self.lent[self.config.place_of(holder, conit)]
     }
 
     /// All that was ever given back to the owner of its bound on the conit. Takes no memory.
     pub fn returned(&self, owner: u32, conit: u32) -> u64
         requires owner { IsPeer self.now owner }
-        requires conit { conit < self.now.conits }
+        requires conit { conit < self.now.setup.conits }
         ensures returned { result ≡ returned_to self.now owner conit }
         ensures kept { KeepsBudgets self.now }
     {
-        self.returned[place_of(self.config.conits, owner, conit)]
+        self.returned[self.config.place_of(owner, conit)]
     }
 
     /// What of its share of the owner's bound on the conit the replica could give back. Takes no memory.
     pub fn free(&self, owner: u32, conit: u32) -> u64
         requires owner { IsPeer self.now owner }
-        requires conit { conit < self.now.conits }
+        requires conit { conit < self.now.setup.conits }
         ensures free { result ≡ free self.now owner conit }
         ensures kept { KeepsBudgets self.now }
     {
@@ -155,7 +165,7 @@ impl Budgets {
 
     /// Whether a write of this weight can be accepted. Takes no memory.
     pub fn test(&self, weight: Weight) -> Fit
-        requires { weight.conit < self.now.conits }
+        requires { weight.conit < self.now.setup.conits }
         ensures answer { result ≡ weight_answer self.now weight }
         ensures kept { KeepsBudgets self.now }
     {
@@ -169,7 +179,7 @@ impl Budgets {
 
     /// Whether the amount can be reserved on the conit, for weights of either sign. Takes no memory.
     pub fn test_reserve(&self, conit: u32, amount: u64) -> Fit
-        requires { conit < self.now.conits }
+        requires { conit < self.now.setup.conits }
         ensures answer { result ≡ reserve_answer self.now conit amount }
         ensures kept { KeepsBudgets self.now }
     {
@@ -178,60 +188,61 @@ impl Budgets {
 
     // The answer of the first peer that refuses the amount.
     fn answer(&self, conit: u32, amount: u64, side: Side) -> Fit
-        requires { conit < self.now.conits }
+        requires { conit < self.now.setup.conits }
         ensures answer { result ≡ answer self.now conit amount (missing_on side self.now conit) }
         ensures kept { KeepsBudgets self.now }
     {
         for peer in 0..self.config.replicas {
             if peer != self.config.replica {
-                if let Some(fit) = self.refusal(peer, conit, amount, side) {
-                    return fit;
+                match self.fit_by(peer, conit, amount, side) {
+                    Fit::Fits => {}
+                    refusal => return refusal,
                 }
             }
         }
         Fit::Fits
     }
 
-    // What the peer answers to the amount, where it refuses it. Nothing is added up, so that nothing can
-    // pass what a u64 holds.
-    fn refusal(&self, peer: u32, conit: u32, amount: u64, side: Side) -> Option<Fit>
+    // What the amount gets of the peer. Nothing is added up, so that nothing can pass what a u64 holds.
+    fn fit_by(&self, peer: u32, conit: u32, amount: u64, side: Side) -> Fit
         requires peer { IsPeer self.now peer }
-        requires conit { conit < self.now.conits }
-        ensures { result ≡ refusal self.now conit amount peer (missing_on side self.now conit peer) }
+        requires conit { conit < self.now.setup.conits }
+        ensures { result ≡ fit_by self.now conit amount peer (missing_on side self.now conit peer) }
     {
+        let weight = amount;
         let share = self.share(peer, conit);
         let reserved = self.reserved(conit);
         let missing = self.missing_on(side, peer, conit);
-        if amount > share {
-            Some(Fit::TooHeavy {
+        if weight > share {
+            Fit::TooHeavy {
                 peer,
-                weight: amount,
+                weight,
                 share,
-            })
-        } else if amount > share - reserved {
-            Some(Fit::WaitHeld {
+            }
+        } else if weight > share - reserved {
+            Fit::WaitHeld {
                 peer,
                 reserved,
-                weight: amount,
+                weight,
                 share,
-            })
-        } else if amount > share - reserved - missing {
-            Some(Fit::WaitShare {
+            }
+        } else if weight > share - reserved - missing {
+            Fit::WaitShare {
                 peer,
                 missing,
                 reserved,
-                weight: amount,
+                weight,
                 share,
-            })
+            }
         } else {
-            None
+            Fit::Fits
         }
     }
 
     // What the peer may miss on the conit, on this side.
     fn missing_on(&self, side: Side, peer: u32, conit: u32) -> u64
         requires peer { IsPeer self.now peer }
-        requires conit { conit < self.now.conits }
+        requires conit { conit < self.now.setup.conits }
         ensures { result ≡ missing_on side self.now conit peer }
     {
         let (plus, minus) = self.missing(peer, conit);
@@ -257,7 +268,7 @@ impl Budgets {
     /// Adds an own write with these weights, each of which fits. Takes no memory.
     pub fn add(&mut self, weights: &Weights)
         requires room { 0 < self.old.room }
-        requires conits { All (λ weight. weight.conit < self.old.conits) weights.now }
+        requires conits { All (λ weight. weight.conit < self.old.setup.conits) weights.now }
         requires fits { All (λ weight. weight_answer self.old weight ≡ Fits) weights.now }
         ensures added { self.new ≡ record self.old {
           weights = self.old.weights ++ weights.now ∷ [];
@@ -270,7 +281,7 @@ impl Budgets {
 
     /// Reserves an amount that fits on the conit. Takes no memory.
     pub fn hold(&mut self, conit: u32, amount: u64)
-        requires conit { conit < self.old.conits }
+        requires conit { conit < self.old.setup.conits }
         requires fits { reserve_answer self.old conit amount ≡ Fits }
         ensures { self.new ≡ record self.old {
           reserved = slice_set self.old.reserved conit (reserved_on self.old conit + amount);
@@ -281,7 +292,7 @@ impl Budgets {
 
     /// Frees an amount of what is reserved on the conit. Takes no memory.
     pub fn free_held(&mut self, conit: u32, amount: u64)
-        requires conit { conit < self.old.conits }
+        requires conit { conit < self.old.setup.conits }
         requires held { amount ≤ reserved_on self.old conit }
         ensures { self.new ≡ record self.old {
           reserved = slice_set self.old.reserved conit (reserved_on self.old conit - amount);
@@ -294,7 +305,7 @@ impl Budgets {
     /// no memory.
     pub fn spend(&mut self, weight: Weight)
         requires room { 0 < self.old.room }
-        requires conit { weight.conit < self.old.conits }
+        requires conit { weight.conit < self.old.setup.conits }
         requires held { unsigned_abs weight.nweight ≤ reserved_on self.old weight.conit }
         ensures spent { self.new ≡ record self.old {
           weights = self.old.weights ++ (weight ∷ []) ∷ [];
@@ -323,13 +334,13 @@ impl Budgets {
     /// changes nothing. Takes no memory.
     pub fn note_lent(&mut self, owner: u32, conit: u32, told: u64)
         requires owner { IsPeer self.old owner }
-        requires conit { conit < self.old.conits }
+        requires conit { conit < self.old.setup.conits }
         ensures { self.new ≡ record self.old {
-          lent_known = slice_set self.old.lent_known (place_in self.old owner conit)
+          lent_known = slice_set self.old.lent_known (place_of self.old.setup owner conit)
               (max (lent_by self.old owner conit) told);
         } }
     {
-        let place = place_of(self.config.conits, owner, conit);
+        let place = self.config.place_of(owner, conit);
         self.lent_known[place] = self.lent_known[place].max(told);
     }
 
@@ -337,43 +348,43 @@ impl Budgets {
     /// An older note changes nothing. Takes no memory.
     pub fn note_returned(&mut self, holder: u32, conit: u32, told: u64)
         requires holder { IsPeer self.old holder }
-        requires conit { conit < self.old.conits }
+        requires conit { conit < self.old.setup.conits }
         requires lent { told ≤ lent_to self.old holder conit }
         ensures { self.new ≡ record self.old {
-          returned_known = slice_set self.old.returned_known (place_in self.old holder conit)
+          returned_known = slice_set self.old.returned_known (place_of self.old.setup holder conit)
               (max (returned_by self.old holder conit) told);
         } }
     {
-        let place = place_of(self.config.conits, holder, conit);
+        let place = self.config.place_of(holder, conit);
         self.returned_known[place] = self.returned_known[place].max(told);
     }
 
     /// Lends the holder a further amount of what is at home on the conit. Takes no memory.
     pub fn lend(&mut self, holder: u32, conit: u32, amount: u64)
         requires holder { IsPeer self.old holder }
-        requires conit { conit < self.old.conits }
+        requires conit { conit < self.old.setup.conits }
         requires home { amount ≤ home self.old conit }
         requires limit { lent_to self.old holder conit + amount ≤ LENT_MAX }
         ensures { self.new ≡ record self.old {
-          lent = slice_set self.old.lent (place_in self.old holder conit)
+          lent = slice_set self.old.lent (place_of self.old.setup holder conit)
               (lent_to self.old holder conit + amount);
         } }
     {
-        let place = place_of(self.config.conits, holder, conit);
+        let place = self.config.place_of(holder, conit);
         self.lent[place] += amount;
     }
 
     /// Gives back to the owner an amount of its share on the conit that covers nothing. Takes no memory.
     pub fn give_back(&mut self, owner: u32, conit: u32, amount: u64)
         requires owner { IsPeer self.old owner }
-        requires conit { conit < self.old.conits }
+        requires conit { conit < self.old.setup.conits }
         requires free { amount ≤ free self.old owner conit }
         ensures { self.new ≡ record self.old {
-          returned = slice_set self.old.returned (place_in self.old owner conit)
+          returned = slice_set self.old.returned (place_of self.old.setup owner conit)
               (returned_to self.old owner conit + amount);
         } }
     {
-        let place = place_of(self.config.conits, owner, conit);
+        let place = self.config.place_of(owner, conit);
         self.returned[place] += amount;
     }
 }

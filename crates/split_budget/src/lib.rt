@@ -4,12 +4,10 @@
 
 mod budget;
 mod budgets;
-mod fit;
 mod missing;
 mod opening;
-#[cfg(test)]
-mod tests;
+mod side;
 
 pub use budget::Budget;
 pub use budgets::Budgets;
-pub use fit::Fit;
+pub use tact_base::Fit;

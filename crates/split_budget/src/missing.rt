@@ -2,10 +2,10 @@ ghost use Rattle.std.specs.Prelude.{◌≡◌, ◌<◌, ◌^◌};
 ghost use Rattle.tact_base.specs.Sums.{above_zero, below_zero};
 ghost use Rattle.split_budget.specs.Budgets.{part_sum, part_on};
 
-use tact_base::{Few, Weight};
+use tact_base::{Few, LIST_MAX, Weight};
 
 /// The weights of one write.
-pub(crate) type Row = Few<Weight, 4>;
+pub(crate) type Row = Few<Weight, LIST_MAX>;
 
 /// The sum of the positive nweights on the conit, and that of the sizes of the negative ones. Takes no
 /// memory.

@@ -1,6 +1,6 @@
-ghost use Rattle.std.specs.Prelude.{◌≡◌, ◌<◌, ◌≤◌, IfOk};
-ghost use Rattle.split_budget.specs.Opening.{IsBudget, loan_of, place_of};
-ghost use Rattle.split_budget.specs.Budgets.{by_place};
+ghost use Rattle.std.specs.Prelude.{◌≡◌, ◌<◌, IfOk};
+ghost use Rattle.tact_base.specs.Setup.{loan_of};
+ghost use Rattle.split_budget.specs.Budgets.{IsBudget, setup_of, by_place};
 
 use crate::Budget;
 use std::alloc::Global;
@@ -22,31 +22,29 @@ pub(crate) fn copy(alloc: Global, config: &Budget) -> Result<Budget, NoMemory>
 /// What the replica lends at the opening, by holder and then conit.
 pub(crate) fn lent(alloc: Global, config: &Budget) -> Result<Vec<u64>, NoMemory>
     requires { IsBudget config.now }
-    ensures { IfOk result (λ list. list.items ≡ by_place config.now.replicas config.now.conits
-        (λ holder conit. loan_of config.now config.now.replica conit holder)) }
+    ensures { IfOk result (λ list. list.items ≡ by_place (setup_of config.now)
+        (λ holder conit. loan_of (setup_of config.now) config.now.replica conit holder)) }
 {
-    let places = config.replicas * config.conits;
-    let mut list = Vec::with_capacity(alloc, places as usize)?;
-    for place in 0..places {
-        let (holder, conit) = (place / config.conits, place % config.conits);
-        list.push(loan(config, config.replica, conit, holder))?;
-    }
-    Ok(list)
+    let (conits, replica) = (config.conits, config.replica);
+    Ok(
+        (0..config.replicas * conits)
+            .map(|place| loan(config, replica, place % conits, place / conits))
+            .collect(alloc)?,
+    )
 }
 
 /// What the replica is lent at the opening, by owner and then conit.
 pub(crate) fn lent_known(alloc: Global, config: &Budget) -> Result<Vec<u64>, NoMemory>
     requires { IsBudget config.now }
-    ensures { IfOk result (λ list. list.items ≡ by_place config.now.replicas config.now.conits
-        (λ owner conit. loan_of config.now owner conit config.now.replica)) }
+    ensures { IfOk result (λ list. list.items ≡ by_place (setup_of config.now)
+        (λ owner conit. loan_of (setup_of config.now) owner conit config.now.replica)) }
 {
-    let places = config.replicas * config.conits;
-    let mut list = Vec::with_capacity(alloc, places as usize)?;
-    for place in 0..places {
-        let (owner, conit) = (place / config.conits, place % config.conits);
-        list.push(loan(config, owner, conit, config.replica))?;
-    }
-    Ok(list)
+    let (conits, replica) = (config.conits, config.replica);
+    Ok(
+        (0..config.replicas * conits)
+            .map(|place| loan(config, place / conits, place % conits, replica))
+            .collect(alloc)?,
+    )
 }
 
 // What the owner lends the holder on the conit at the opening.
@@ -55,18 +53,8 @@ fn loan(config: &Budget, owner: u32, conit: u32, holder: u32) -> u64
     requires owner { owner < config.now.replicas }
     requires conit { conit < config.now.conits }
     requires holder { holder < config.now.replicas }
-    ensures { result ≡ loan_of config.now owner conit holder }
+    ensures { result ≡ loan_of (setup_of config.now) owner conit holder }
 {
-    let row = place_of(config.conits, owner, conit);
+    let row = config.place_of(owner, conit);
     config.loans.items()[row * config.replicas as usize + holder as usize]
-}
-
-/// Where the numbers of a replica on a conit stand.
-pub(crate) fn place_of(conits: u32, replica: u32, conit: u32) -> usize
-    requires few { replica < 8 }
-    requires conits { conits ≤ 16 }
-    requires conit { conit < conits }
-    ensures { result ≡ place_of conits replica conit }
-{
-    replica as usize * conits as usize + conit as usize
 }

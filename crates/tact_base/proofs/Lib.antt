@@ -15,3 +15,4 @@ pub mod RangeLists
 pub mod FilterSums
 pub mod PeerSums
 pub mod SharesLemmas
+pub mod Peers

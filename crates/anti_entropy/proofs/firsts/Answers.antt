@@ -1,21 +1,15 @@
-use Rattle.std.proofs.Common.{rules, tests, ◌≡◌, ℕ, ◌==◌, min, if◌then◌else◌, List, [], ◌∷◌, ◌++◌, map, slice_index, sym, ap, ◌∙◌, arith}
-use Rattle.std.specs.List.{range_with_len}
-use Rattle.std.proofs.lemmas.List.FromFn.{map-range_with_len_more}
+use Rattle.std.proofs.Common.{rules, ◌≡◌, ℕ, [], slice_index, ◌∙◌}
+use Rattle.tact_base.proofs.RangeLists.{mapped_more}
+use Rattle.tact_base.specs.Counts.{first_index}
 use Rattle.anti_entropy.specs.Counts.{firsts_of}
 use Rattle.anti_entropy.proofs.CountsLemmas.{firsts_of-first_for}
 use Rattle.anti_entropy.proofs.firsts.Goals as goal
-use Rattle.anti_entropy.proofs.firsts.Goals.{then-origin-to, else-origin-to}
 
 pub loop-origin-preserved : goal.loop-origin-preserved
 loop-origin-preserved c =
-    let origin = c.loop-origin.origin in
-    let first_at : ℕ → ℕ = λ o. if o == c.args.to then slice_index c.args.haves.now o else min (slice_index c.args.haves.now o) (slice_index c.items-known.result.now o) in
-    let here : c.if-origin-to.first ≡ first_at origin =
-    elim c.if-origin-to.branch [ then-origin-to w ↦ grind (arith, tests) | else-origin-to w ↦ grind (arith, tests) ] in
-    c.in_ok-push.ensures.ok
-    ∙ ap (λ (firsts : List ℕ). firsts ++ c.if-origin-to.first ∷ []) c.loop-origin.invariant
-    ∙ ap (λ first. map first_at (range_with_len 0 origin) ++ first ∷ []) here
-    ∙ sym (map-range_with_len_more first_at 0 origin origin (omega arith))
+    let first : ℕ → ℕ = λ origin. first_index c.args.to origin (slice_index c.args.haves.now origin) (slice_index c.items-known.result.now origin) 0 in
+    let here : c.first_index.result ≡ first c.loop-origin.origin = search rules in
+    mapped_more first c.loop-origin.origin [] c.loop-origin.firsts _ c.first_index.result c.loop-origin.invariant c.in_ok-push.ensures.ok here
 
 pub returns-clause-of_message : goal.returns-clause-of_message
 returns-clause-of_message c =

@@ -1,13 +1,11 @@
-use Rattle.std.proofs.Common.{◌≡◌, arith}
+use Rattle.std.proofs.Common.{◌≡◌, get_or, arith}
 use Rattle.std.proofs.lemmas.List.{get_or_read}
-use Rattle.split_budget.specs.Inside.{state_of}
-use Rattle.split_budget.specs.Budgets.{reserved_on}
-use Rattle.split_budget.proofs.OriginState.{held-fits, KeepsBudgets-held}
+use Rattle.split_budget.proofs.AmountsKept.{held-fits, KeepsBudgets-held}
 use Rattle.split_budget.proofs.budgets.Budgets.hold.Goals as goal
 use Rattle.split_budget.proofs.budgets.Budgets.hold.Goals.{After-index_mut}
 
 -- what was reserved
-read : (c : After-index_mut) → c.index_mut.result.now ≡ reserved_on (state_of c.self.inside) c.args.conit
+read : (c : After-index_mut) → c.index_mut.result.now ≡ get_or c.self.inside.reserved.items c.args.conit 0
 read c =
     let conit = rw (← c.self.view_is) at c.requires.conit in
     get_or_read c.self.inside.reserved.items c.args.conit c.index_mut.result.now (rw c.self.invariant.reserved conit) c.index_mut.ensures.value 0
@@ -16,10 +14,10 @@ pub overflow_add-index_mut : goal.overflow_add-index_mut
 overflow_add-index_mut c =
     let conit = rw (← c.self.view_is) at c.requires.conit in
     let fits = rw (← c.self.view_is) at c.requires.fits in
-    omega (arith, read (goal.at.overflow_add-index_mut c).After-index_mut, held-fits (state_of c.self.inside) c.self.invariant c.args.conit c.args.amount conit fits)
+    omega (arith, read (goal.at.overflow_add-index_mut c).After-index_mut, held-fits _ c.self.invariant c.args.conit c.args.amount conit fits)
 
 pub invariant_of-self : goal.invariant_of-self
 invariant_of-self c =
     let conit = rw (← c.self.view_is) at c.requires.conit in
     let fits = rw (← c.self.view_is) at c.requires.fits in
-    rw (read (goal.at.invariant_of-self c).After-index_mut) (KeepsBudgets-held (state_of c.self.inside) c.self.invariant c.args.conit c.args.amount conit fits)
+    rw (read (goal.at.invariant_of-self c).After-index_mut) (KeepsBudgets-held _ c.self.invariant c.args.conit c.args.amount conit fits)

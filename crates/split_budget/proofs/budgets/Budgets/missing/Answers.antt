@@ -1,13 +1,13 @@
 use Rattle.std.proofs.Common.{◌≡◌, ◌-◌, min, length, take, drop, get_or, ◌∙◌, ap}
 use Rattle.std.proofs.lemmas.List.{get_or_read}
-use Rattle.split_budget.specs.Inside.{state_of}
-use Rattle.split_budget.specs.Budgets.{maybe_missed}
-use Rattle.split_budget.proofs.OriginState.{read_from_known, missing_plus-fits, missing_minus-fits}
+use Rattle.split_budget.proofs.AmountsKept.{missing_plus-fits, missing_minus-fits}
+use Rattle.split_budget.proofs.Parts.{read_from_known}
 use Rattle.split_budget.proofs.budgets.Budgets.missing.Goals as goal
 use Rattle.split_budget.proofs.budgets.Budgets.missing.Goals.{After-min-known}
 
 -- the writes that are read are those that the peer may miss
-read : (c : After-min-known) → take (length c.items-writes.result.now - c.min-known.result) (drop c.min-known.result c.items-writes.result.now) ≡ maybe_missed (state_of c.self.inside) c.args.peer
+read : (c : After-min-known)
+    → take (length c.items-writes.result.now - c.min-known.result) (drop c.min-known.result c.items-writes.result.now) ≡ drop (get_or c.self.inside.known.items c.args.peer 0) c.self.inside.weights.items
 read c =
     let peer = rw (← c.self.view_is) at c.requires.peer in
     let known = get_or_read c.self.inside.known.items c.args.peer c.index.result.now (rw c.self.invariant.known peer.0) c.index.ensures 0 in
@@ -19,10 +19,10 @@ pub sums_on-requires-clause-plus : goal.sums_on-requires-clause-plus
 sums_on-requires-clause-plus c =
     let peer = rw (← c.self.view_is) at c.requires.peer in
     let conit = rw (← c.self.view_is) at c.requires.conit in
-    rw (read (goal.at.sums_on-requires-clause-plus c).After-min-known) (missing_plus-fits (state_of c.self.inside) c.self.invariant c.args.peer c.args.conit peer conit)
+    rw (read (goal.at.sums_on-requires-clause-plus c).After-min-known) (missing_plus-fits _ c.self.invariant c.args.peer c.args.conit peer conit)
 
 pub sums_on-requires-clause-minus : goal.sums_on-requires-clause-minus
 sums_on-requires-clause-minus c =
     let peer = rw (← c.self.view_is) at c.requires.peer in
     let conit = rw (← c.self.view_is) at c.requires.conit in
-    rw (read (goal.at.sums_on-requires-clause-minus c).After-min-known) (missing_minus-fits (state_of c.self.inside) c.self.invariant c.args.peer c.args.conit peer conit)
+    rw (read (goal.at.sums_on-requires-clause-minus c).After-min-known) (missing_minus-fits _ c.self.invariant c.args.peer c.args.conit peer conit)

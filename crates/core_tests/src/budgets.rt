@@ -1,42 +1,60 @@
+//! The budgets of a replica: what is accepted, held, spent, lent and given back.
+
 ghost use Rattle.std.specs.Prelude.{◌≡◌, ◌<◌, ◌≤◌, IfOk};
 
-use crate::{Budget, Budgets, Fit};
+use run_model::Config;
+use split_budget::{Budget, Budgets, Fit};
 use std::alloc::Global;
 use std::test::Fail;
 use tact_base::{Numbers, Weight, Weights};
 
+// The budgets of replica 0 at the opening of a setup without a fault.
+fn opening(
+    alloc: Global,
+    replicas: u32,
+    conits: u32,
+    alphas: &[u64],
+    loans: &[u64],
+) -> Result<Budgets, Fail>
+    requires { 0 < replicas }
+    ensures replica { IfOk result (λ made. made.replica ≡ 0) }
+    ensures replicas { IfOk result (λ made. made.setup.replicas ≡ replicas) }
+    ensures conits { IfOk result (λ made. made.setup.conits ≡ conits) }
+{
+    Config::new(alloc, replicas, conits, alphas, loans)?;
+    let config = Budget {
+        replica: 0,
+        replicas,
+        conits,
+        alphas: Numbers::from_slice(alloc, alphas)?,
+        loans: Numbers::from_slice(alloc, loans)?,
+    };
+    Ok(Budgets::new(alloc, &config)?)
+}
+
 // The budgets of replica 0 of three, on one conit: each allows 10, and lends 5 to each other.
 fn three(alloc: Global) -> Result<Budgets, Fail>
     ensures replica { IfOk result (λ made. made.replica ≡ 0) }
-    ensures replicas { IfOk result (λ made. made.replicas ≡ 3) }
-    ensures conits { IfOk result (λ made. made.conits ≡ 1) }
+    ensures replicas { IfOk result (λ made. made.setup.replicas ≡ 3) }
+    ensures conits { IfOk result (λ made. made.setup.conits ≡ 1) }
 {
-    let config = Budget {
-        replica: 0,
-        replicas: 3,
-        conits: 1,
-        alphas: Numbers::from_slice(alloc, &[10, 10, 10])?,
-        loans: Numbers::from_slice(alloc, &[0, 5, 5, 5, 0, 5, 5, 5, 0])?,
-    };
-    Ok(Budgets::new(alloc, &config)?)
+    opening(alloc, 3, 1, &[10, 10, 10], &[0, 5, 5, 5, 0, 5, 5, 5, 0])
 }
 
 // The budgets of replica 0 of two, on two conits: on conit 0 each allows 10, and lends `loan`, and on
 // conit 1 it allows 7, and lends 1.
 fn pair(alloc: Global, loan: u64) -> Result<Budgets, Fail>
-    requires { loan ≤ 10 }
     ensures replica { IfOk result (λ made. made.replica ≡ 0) }
-    ensures replicas { IfOk result (λ made. made.replicas ≡ 2) }
-    ensures conits { IfOk result (λ made. made.conits ≡ 2) }
+    ensures replicas { IfOk result (λ made. made.setup.replicas ≡ 2) }
+    ensures conits { IfOk result (λ made. made.setup.conits ≡ 2) }
 {
-    let config = Budget {
-        replica: 0,
-        replicas: 2,
-        conits: 2,
-        alphas: Numbers::from_slice(alloc, &[10, 7, 10, 7])?,
-        loans: Numbers::from_slice(alloc, &[0, loan, 0, 1, loan, 0, 1, 0])?,
-    };
-    Ok(Budgets::new(alloc, &config)?)
+    opening(
+        alloc,
+        2,
+        2,
+        &[10, 7, 10, 7],
+        &[0, loan, 0, 1, loan, 0, 1, 0],
+    )
 }
 
 // A weight on conit 0.
@@ -52,10 +70,10 @@ fn weight(nweight: i64) -> Weight
 
 // The answer to a weight on conit 0, of which a write is added where it fits.
 fn accept(budgets: &mut Budgets, nweight: i64) -> Result<Fit, Fail>
-    requires { 0 < budgets.old.conits }
+    requires { 0 < budgets.old.setup.conits }
     ensures replica { budgets.new.replica ≡ budgets.old.replica }
-    ensures replicas { budgets.new.replicas ≡ budgets.old.replicas }
-    ensures conits { budgets.new.conits ≡ budgets.old.conits }
+    ensures replicas { budgets.new.setup.replicas ≡ budgets.old.setup.replicas }
+    ensures conits { budgets.new.setup.conits ≡ budgets.old.setup.conits }
 {
     budgets.reserve_room(1)?;
     let weight = weight(nweight);
