@@ -1,5 +1,5 @@
 -- Line by line, a world plays a script, and prints its text.
-use Rattle.std.proofs.Common.{◌≡◌, ℕ, ◌≤◌, ◌==◌, List, [], ◌∷◌, ◌++◌, length, take, Option, None, Some, Ok, inr, refl, sym, ap, ap₂, ◌∙◌, subst, append_assoc, arith}
+use Rattle.std.proofs.Common.{◌≡◌, ℕ, ◌≤◌, ◌==◌, List, [], ◌∷◌, ◌++◌, length, Option, None, Some, Ok, inr, refl, sym, ap, ap₂, ◌∙◌, subst, append_assoc, arith}
 use Rattle.std.specs.List.{slice_get, fold}
 use Rattle.std.specs.Prelude.{IfSome}
 use Rattle.std.proofs.lemmas.List.{append-nil}
@@ -22,7 +22,7 @@ use Rattle.script_run.specs.Forms.{NamesOnly, setup_of}
 use Rattle.script_run.specs.Playing.{IsPlayOf, Writes, WritesText}
 use Rattle.script_run.specs.Scripts.{FitsAfter, IsScript, script_of}
 use Rattle.run_model.specs.Loans.{MovesNoLoan, HasNoLoans}
-use Rattle.script_run.specs.Worlds.{IsEarly, Plays, Steps}
+use Rattle.script_run.specs.Worlds.{IsPlain, Plays, Steps}
 use Rattle.script_run.specs.declared.world.World.{World}
 use Rattle.script_run.proofs.LawfulLemmas.{IsPlayedBy, script_setup, script_is_played, script_runs}
 use Rattle.script_run.proofs.ReadLemmas.{no_loans_more}
@@ -67,8 +67,8 @@ module _ (setup : Setup) (before : List Line) (is : setup ≡ setup_of before) (
   made : IsPlayedBy before played
   made = subst (λ (s : Setup). IsPlayedBy before (played_by s before)) (sym is) (script_is_played before script few)
 
-  early : HasNoLoans played.history → IsEarly played.history
-  early quiet = record {
+  plain : HasNoLoans played.history → IsPlain played.history
+  plain quiet = record {
     few = omega (arith, made.few, few);
     moments = made.is_played.moments;
     room = λ k. record {
@@ -93,7 +93,7 @@ module _ (setup : Setup) (before : List Line) (is : setup ≡ setup_of before) (
     pub line_is_done : (old new : World) (start text text' : List ℕ) → old.config ≡ setup → HasNoLoans played.history → Plays old played → text ≡ start ++ lines_text setup not_played before
         → Steps old new l text text' → Plays new next × (text' ≡ start ++ lines_text setup not_played (before ++ l ∷ []))
     line_is_done old new start text text' config quiet plays was steps =
-        let done = steps played made.is_played.handed (early quiet) plays in (
+        let done = steps played made.is_played.handed (plain quiet) plays in (
           subst (Plays new) (ap (λ (s : Setup). after_line s played l) config ∙ sym next_is) done.0,
           done.1 ∙ ap₂ (λ (front : List ℕ) (s : Setup). front ++ text_after s played l) was config
               ∙ append_assoc start (lines_text setup not_played before) (text_after setup played l)

@@ -18,9 +18,10 @@ use Rattle.run_model.specs.declared.entry.Message.{Message}
 use Rattle.run_model.specs.declared.script_line.Line.{Line}
 use Rattle.run_model.specs.declared.script_line.Line.TheVariants as line
 use Rattle.run_model.proofs.PartLemmas.{sent_by, part_of-push_same, part_of-push_other, sent_in-push_none, sent_in-push_some}
-use Rattle.script_run.specs.Seats.{SeatStands, HasRoom, StandsWith, one_more, with_entry}
+use Rattle.tact_base.specs.Counts.{one_more}
+use Rattle.script_run.specs.Seats.{SeatStands, HasRoom, StandsWith, with_entry}
 use Rattle.script_run.specs.Shown.{seat_text}
-use Rattle.script_run.specs.Worlds.{StandsFor, Plays, IsEarly, GoesOn, Steps, IsWriteDue, IsSendDue, IsTakeDue, with_act}
+use Rattle.script_run.specs.Worlds.{StandsFor, Plays, IsPlain, GoesOn, Steps, IsWriteDue, IsSendDue, IsTakeDue, with_act}
 use Rattle.script_run.specs.declared.seat.Seat.{Seat}
 use Rattle.script_run.specs.declared.world.World.{World}
 use Rattle.script_run.proofs.ShownParts.{seat_text-show_text}
@@ -99,12 +100,12 @@ module _ (old mid new : World) (text text' : List ℕ) (r : ℕ) (did : Act) (co
   abbrev one : Entry
   one = record { replica = r; moment = 0; act = did }
 
-  pub plays_on : (played : Played) → IsEarly played.history → Plays old played → StandsFor mid (with_act played.history r did) → Plays new (record played { history = with_act played.history r did })
-  plays_on played early plays stands =
+  pub plays_on : (played : Played) → IsPlain played.history → Plays old played → StandsFor mid (with_act played.history r did) → Plays new (record played { history = with_act played.history r did })
+  plays_on played plain plays stands =
       subst (λ (w : World). Plays w (record played { history = with_act played.history r did })) (sym counted)
       (record {
         stands = record { seats = stands.seats; sent = stands.sent };
-        count = omega (arith, count, plays.count, early.few, length_push played.history one);
+        count = omega (arith, count, plays.count, plain.few, length_push played.history one);
       })
 
   pub prints : (setup : Setup) (played : Played) (l : Line) → line_comment setup played.history l ≡ [] → (after_line setup played l).history ≡ with_act played.history r did
@@ -116,8 +117,8 @@ module _ (old mid new : World) (text text' : List ℕ) (r : ℕ) (did : Act) (co
       ∙ one_entry_text setup played.history one none))
 
 -- what is due at moment 0 where the last moment is 0
-moment_is : (played : Played) (r : ℕ) → played.handed ≡ 0 → IsEarly played.history → moment_at (part_of played.history r) played.handed ≡ 0
-moment_is played r handed early = omega (arith, handed, early.moments r)
+moment_is : (played : Played) (r : ℕ) → played.handed ≡ 0 → IsPlain played.history → moment_at (part_of played.history r) played.handed ≡ 0
+moment_is played r handed plain = omega (arith, handed, plain.moments r)
 
 -- The acts of a line that writes, of one that sends and of one that takes, and their steps.
 module _ (old mid new : World) (text text' : List ℕ) (r : ℕ) (did : Act) (counted : new ≡ record mid { count = one_more mid.count }) (count : mid.count ≡ old.count)
@@ -129,10 +130,10 @@ module _ (old mid new : World) (text text' : List ℕ) (r : ℕ) (did : Act) (co
   playing played moment done = record played { history = played.history ++ at_moment moment done ∷ [] }
 
   pub write_steps : (client : ℕ) (weights : List Weight) (op : Op) → weights ≡ [] → GoesOn old mid r did (IsWriteDue r client weights op) → Steps old new (line.Write r client op weights) text text'
-  write_steps client weights op none goes played handed early plays =
-      let on = goes played.history early plays.stands in
+  write_steps client weights op none goes played handed plain plays =
+      let on = goes played.history plain plays.stands in
       let part = part_of played.history r in
-      let moment = moment_is played r handed early in
+      let moment = moment_is played r handed plain in
       let due : did ≡ act.Call client (calls_in part client) (request.Write weights op) (reply_of old.config r part (moment_at part played.handed) (request.Write weights op)) =
       subst (λ (ws : List Weight). did ≡ act.Call client (calls_in part client) (request.Write ws op) (reply_of old.config r part (moment_at part played.handed) (request.Write ws op)))
       (sym none) (subst (λ (ws : List Weight). IsWriteDue r client ws op played.history did) none on.0) in
@@ -140,43 +141,43 @@ module _ (old mid new : World) (text text' : List ℕ) (r : ℕ) (did : Act) (co
       ap₂ (playing played) moment (sym due) in
       let quiet : act_comments old.config (with_act played.history r did) r 0 did ≡ [] =
       ap (act_comments old.config (with_act played.history r did) r 0) on.0 in (
-        subst (Plays new) (sym made) (plays_on old mid new text text' r did counted count printed played early plays on.1),
+        subst (Plays new) (sym made) (plays_on old mid new text text' r did counted count printed played plain plays on.1),
         prints old mid new text text' r did counted count printed old.config played (line.Write r client op weights) refl (ap (λ (p : Played). p.history) made) quiet,
       )
 
   pub send_steps : (to : ℕ) (firsts : List ℕ) → GoesOn old mid r did (IsSendDue old.config r to firsts) → Steps old new (line.Send r to firsts) text text'
-  send_steps to firsts goes played handed early plays =
-      let on = goes played.history early plays.stands in
+  send_steps to firsts goes played handed plain plays =
+      let on = goes played.history plain plays.stands in
       let part = part_of played.history r in
-      let moment = moment_is played r handed early in
+      let moment = moment_is played r handed plain in
       let due : did ≡ act.Send (message_of old.config r part (moment_at part played.handed) to firsts) =
       on.0 ∙ ap (λ (t : ℕ). act.Send (message_of old.config r part t to firsts)) (sym moment) in
       let made : after_line old.config played (line.Send r to firsts) ≡ record played { history = with_act played.history r did } =
       ap₂ (playing played) moment (sym due) in
       let quiet : act_comments old.config (with_act played.history r did) r 0 did ≡ [] =
       ap (act_comments old.config (with_act played.history r did) r 0) on.0 in (
-        subst (Plays new) (sym made) (plays_on old mid new text text' r did counted count printed played early plays on.1),
+        subst (Plays new) (sym made) (plays_on old mid new text text' r did counted count printed played plain plays on.1),
         prints old mid new text text' r did counted count printed old.config played (line.Send r to firsts) refl (ap (λ (p : Played). p.history) made) quiet,
       )
 
   pub take_steps : (from number : ℕ) → GoesOn old mid r did (IsTakeDue from number) → Steps old new (line.Take r from number) text text'
-  take_steps from number goes played handed early plays =
-      let on = goes played.history early plays.stands in
+  take_steps from number goes played handed plain plays =
+      let on = goes played.history plain plays.stands in
       let message = on.0.0 in
-      let moment = moment_is played r handed early in
+      let moment = moment_is played r handed plain in
       let made : after_line old.config played (line.Take r from number) ≡ record played { history = with_act played.history r did } =
       ap (takes_one played r) on.0.1 ∙ ap₂ (playing played) moment (sym on.0.2) in
       let quiet : act_comments old.config (with_act played.history r did) r 0 did ≡ [] =
       ap (act_comments old.config (with_act played.history r did) r 0) on.0.2 in (
-        subst (Plays new) (sym made) (plays_on old mid new text text' r did counted count printed played early plays on.1),
+        subst (Plays new) (sym made) (plays_on old mid new text text' r did counted count printed played plain plays on.1),
         prints old mid new text text' r did counted count printed old.config played (line.Take r from number) refl (ap (λ (p : Played). p.history) made) quiet,
       )
 
 -- a line that only shows
-pub show_steps : (old : World) (text text' : List ℕ) (r : ℕ) → ((played : Played) → IsEarly played.history → Plays old played → text' ≡ text ++ show_text old.config played.history r) → Steps old old (line.Show r) text text'
-show_steps old text text' r shown played handed early plays = (
+pub show_steps : (old : World) (text text' : List ℕ) (r : ℕ) → ((played : Played) → IsPlain played.history → Plays old played → text' ≡ text ++ show_text old.config played.history r) → Steps old old (line.Show r) text text'
+show_steps old text text' r shown played handed plain plays = (
   plays,
-  shown played early plays ∙ ap (λ (more : List ℕ). text ++ more) (sym (ap (λ (rest : List ℕ). show_text old.config played.history r ++ rest) (no_entry_text old.config played.history) ∙ append-nil (show_text old.config played.history r))),
+  shown played plain plays ∙ ap (λ (more : List ℕ). text ++ more) (sym (ap (λ (rest : List ℕ). show_text old.config played.history r ++ rest) (no_entry_text old.config played.history) ∙ append-nil (show_text old.config played.history r))),
 )
 
 -- a replica that went on at moment 0 goes on under the number that it has
@@ -193,17 +194,17 @@ module _ (old new : World) (history : List Entry) (before : StandsFor old histor
   pub seat_stands : SeatStands r (part_of history r) seat
   seat_stands = subst (SeatStands r (part_of history r)) (sym is) (before.seats r seat r_in)
 
-  pub goes_on_quiet : (seat' : Seat) (did : Act) → IsEarly history → StandsWith seat seat' 0 did → new.config ≡ old.config → length old.seats.items ≡ old.config.replicas
+  pub goes_on_quiet : (seat' : Seat) (did : Act) → IsPlain history → StandsWith seat seat' 0 did → new.config ≡ old.config → length old.seats.items ≡ old.config.replicas
       → new.seats.items ≡ set old.seats.items r seat' → new.sent.items ≡ old.sent.items → sent_by_act did ≡ None → StandsFor new (with_act history r did)
-  goes_on_quiet seat' did early goes config sized seats sent none = record {
-    seats = seats_go_on old new r did history before config seat' seats (omega (arith, r_in, sized)) (stands_as r seat seat' (part_of history r) did seat_stands (early.room r) goes);
+  goes_on_quiet seat' did plain goes config sized seats sent none = record {
+    seats = seats_go_on old new r did history before config seat' seats (omega (arith, r_in, sized)) (stands_as r seat seat' (part_of history r) did seat_stands (plain.room r) goes);
     sent = sent_stays old new r did history before config sent none;
   }
 
-  pub goes_on_sending : (seat' : Seat) (message : Message) → IsEarly history → StandsWith seat seat' 0 (act.Send message) → new.config ≡ old.config → length old.seats.items ≡ old.config.replicas → length old.sent.items ≡ old.config.replicas
+  pub goes_on_sending : (seat' : Seat) (message : Message) → IsPlain history → StandsWith seat seat' 0 (act.Send message) → new.config ≡ old.config → length old.seats.items ≡ old.config.replicas → length old.sent.items ≡ old.config.replicas
       → new.seats.items ≡ set old.seats.items r seat' → new.sent.items ≡ set old.sent.items r (get_or old.sent.items r [] ++ message ∷ []) → StandsFor new (with_act history r (act.Send message))
-  goes_on_sending seat' message early goes config sized lists seats sent = record {
-    seats = seats_go_on old new r (act.Send message) history before config seat' seats (omega (arith, r_in, sized)) (stands_as r seat seat' (part_of history r) (act.Send message) seat_stands (early.room r) goes);
+  goes_on_sending seat' message plain goes config sized lists seats sent = record {
+    seats = seats_go_on old new r (act.Send message) history before config seat' seats (omega (arith, r_in, sized)) (stands_as r seat seat' (part_of history r) (act.Send message) seat_stands (plain.room r) goes);
     sent = sent_grows old new r (act.Send message) history before config message sent refl (omega (arith, r_in, lists));
   }
 

@@ -10,7 +10,7 @@ use Rattle.run_model.specs.declared.script_line.Line.TheVariants as line
 use Rattle.tact_base.specs.Setup.{Setup}
 use Rattle.script_run.specs.Forms.{sent_after, sent_by, setup_of, NamesOnly}
 use Rattle.script_run.specs.Scripts.{FitsAfter, AreLines, IsScript, IsAddressed}
-use Rattle.script_run.specs.Worlds.{IsWorld, Stands, TakesThere, MayStep, sent_counts, counts_after}
+use Rattle.script_run.specs.Worlds.{IsWorld, HasSent, TakesThere, MayStep, sent_counts, counts_after}
 use Rattle.script_run.specs.declared.world.World.{World}
 use Rattle.script_run.proofs.ScriptLemmas.{length-sent_by, setup_of_more, sent_by_more}
 use Rattle.script_run.proofs.WorldLemmas.{counts_set, counts_at}
@@ -37,7 +37,7 @@ counts_none zero = refl
 counts_none (suc n) = ap (λ ns. 0 ∷ ns) (counts_none n)
 
 -- a new world stands for the first line
-pub stands_first : (w : World) (first : Line) (later : List Line) → IsScript (first ∷ later) → IsWorld w → w.config ≡ setup_of (first ∷ later) → sent_counts w ≡ replicate w.config.replicas 0 → Stands w (first ∷ [])
+pub stands_first : (w : World) (first : Line) (later : List Line) → IsScript (first ∷ later) → IsWorld w → w.config ≡ setup_of (first ∷ later) → sent_counts w ≡ replicate w.config.replicas 0 → HasSent w (first ∷ [])
 stands_first w first later script world setup sent =
     let here : w.config ≡ setup_of (first ∷ []) = setup ∙ setup_of_first first later script in
     record {
@@ -63,7 +63,7 @@ takes_there n w sent (line.Take replica from number) counts size names addressed
 takes_there n w sent other counts size names addressed = tt
 
 -- a line that may follow these can be done by a world that stands for them
-pub may_step : (w : World) (before : List Line) (l : Line) → Stands w before → FitsAfter before l → MayStep w l
+pub may_step : (w : World) (before : List Line) (l : Line) → HasSent w before → FitsAfter before l → MayStep w l
 may_step w before l stands fits =
     let n : w.config.replicas ≡ (setup_of before).replicas = ap (λ (s : Setup). s.replicas) stands.setup in
     (subst (λ k. NamesOnly k l) (sym n) fits.0, takes_there (setup_of before).replicas w (sent_by before) l stands.sent (length-sent_by before) fits.0 fits.1)
@@ -73,7 +73,7 @@ counts_sent_after n sent (line.Send from to firsts) size names = sym (counts_set
 counts_sent_after n sent other size names = refl
 
 -- and then it stands for these with the line
-pub stands_more : (w v : World) (before : List Line) (l : Line) → IsScript before → FitsAfter before l → Stands w before → IsWorld v → v.config ≡ w.config → sent_counts v ≡ counts_after (sent_counts w) l → Stands v (before ++ l ∷ [])
+pub stands_more : (w v : World) (before : List Line) (l : Line) → IsScript before → FitsAfter before l → HasSent w before → IsWorld v → v.config ≡ w.config → sent_counts v ≡ counts_after (sent_counts w) l → HasSent v (before ++ l ∷ [])
 stands_more w v before l script fits stands world config sent = record {
   world_is = world;
   setup = config ∙ stands.setup ∙ sym (setup_of_more before l script);

@@ -1,14 +1,14 @@
 -- The state of a replica goes on standing for its part, entry by entry.
-use Rattle.std.proofs.Common.{◌≡◌, ◌≢◌, ℕ, ◌+◌, ◌<◌, ◌≤◌, ◌==◌, max, Bool, true, false, cond, List, [], ◌∷◌, ◌++◌, length, get_or, set, map, filter, filter_map, flat_map, Option, None, Some, refl, sym, ap, ap₂, subst, subst₂, ◌∙◌, ⊎_elim, arith, get_or-set_same, get_or-set_other}
+use Rattle.std.proofs.Common.{◌≡◌, ◌≢◌, ℕ, ◌+◌, ◌<◌, ◌≤◌, ◌==◌, max, Bool, true, false, cond, List, [], ◌∷◌, ◌++◌, length, get_or, set, map, filter, filter_map, Option, None, Some, refl, sym, ap, ap₂, subst, subst₂, ◌∙◌, ⊎_elim, arith, get_or-set_same, get_or-set_other}
 use Rattle.std.specs.List.{cons_option}
 use Rattle.std.proofs.lemmas.Bool.{cases_eq, eq-eqb, ne_eqb}
-use Rattle.std.proofs.lemmas.List.{length_push, map-append, append-nil}
-use Rattle.std.proofs.lemmas.List.Concat.{flat_map-append}
+use Rattle.std.proofs.lemmas.List.{length_push}
+use Rattle.tact_base.specs.Counts.{one_more}
 use Rattle.tact_base.specs.declared.conit_list.Weight.{Weight}
 use Rattle.tact_base.specs.declared.write.Cover.{Cover}
 use Rattle.tact_base.specs.declared.write.Op.{Op}
 use Rattle.tact_base.specs.declared.write.Write.{Write}
-use Rattle.run_model.specs.Histories.{sent_in, taken_in, sent_by_act, is_call_of, calls_in, greatest}
+use Rattle.run_model.specs.Histories.{sent_in, sent_by_act, is_call_of, calls_in, greatest}
 use Rattle.run_model.specs.OwnWrites.{own}
 use Rattle.run_model.specs.Taking.{OriginState, origin_state, after_taking, told_have, log_of, clock}
 use Rattle.run_model.specs.declared.call.Request.TheVariants as request
@@ -16,10 +16,10 @@ use Rattle.run_model.specs.declared.call.Reply.TheVariants as reply
 use Rattle.run_model.specs.declared.entry.Act.TheVariants as act
 use Rattle.run_model.specs.declared.entry.Entry.{Entry}
 use Rattle.run_model.specs.declared.entry.Message.{Message}
-use Rattle.run_model.proofs.PartLemmas.{accepted_in, taken_by, greatest-append, own-push_none, own-push_some, sent_in-push_none, sent_in-push_some, taken_in-push_none, taken_in-push_some, origin_state-push_none, origin_state-push_some, known-push_none, known-push_from, known-push_other, calls_in-push, last_moment-push}
+use Rattle.run_model.proofs.PartLemmas.{own-push_none, own-push_some, sent_in-push_none, sent_in-push_some, origin_state-push_none, origin_state-push_some, known-push_none, known-push_from, known-push_other, calls_in-push, last_moment-push}
 use Rattle.run_model.proofs.ClockLemmas.{clock-push_none, clock-accepted, clock-taken}
 use Rattle.run_model.proofs.Accepted.{log_of-same, log_of-other}
-use Rattle.script_run.specs.Seats.{State, StateStands, HasRoom, log_at, known_at, kept_at, kept_after, one_more, with_entry}
+use Rattle.script_run.specs.Seats.{State, StateStands, HasRoom, log_at, known_at, kept_at, kept_after, with_entry}
 
 -- the counts of a part are at most its length
 cons_option-le : {A : Type 0} (found : Option A) (xs : List A) (n : ℕ) → length xs ≤ n → length (cons_option found xs) ≤ n + 1

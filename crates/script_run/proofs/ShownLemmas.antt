@@ -13,18 +13,18 @@ use Rattle.std.proofs.lemmas.List.Sorted.{ranks_by}
 use Rattle.std.proofs.lemmas.List.Sums.{fold-append}
 use Rattle.tact_base.specs.Covers.{least_of, no_cover}
 use Rattle.tact_base.specs.declared.write.Cover.{Cover}
-use Rattle.tact_base.specs.WriteOrder.{comes_before, with_write, in_order, committed_to, tentative_past}
+use Rattle.tact_base.specs.declared.write.Place.{Place}
+use Rattle.tact_base.specs.WriteOrder.{place_cmp, write_place, comes_before, with_write, in_order, committed_to, tentative_past}
 use Rattle.tact_base.specs.declared.write.Write.{Write}
 use Rattle.tact_base.proofs.CommitLemmas.{committed_to-in_order, length-committed_tentative}
 use Rattle.tact_base.proofs.CompareLemmas.{before_upto}
 use Rattle.tact_base.proofs.CoversLemmas.{least_of-le, least_of-ge}
 use Rattle.tact_base.proofs.ListLemmas.{fold-push}
-use Rattle.tact_base.proofs.OrderLemmas.{IsOrdered, IsOrdered-in_order, length-in_order}
+use Rattle.tact_base.proofs.OrderLemmas.{IsSortedByPlace, IsSortedByPlace-in_order, length-in_order}
 use Rattle.run_model.specs.ScriptRuns.{place_token}
 use Rattle.run_model.specs.Text.{spaced}
-use Rattle.script_run.specs.Shown.{stamp_at, writes_tokens, place_of, place_cmp, place_before, later_place, later_to}
+use Rattle.script_run.specs.Shown.{stamp_at, writes_tokens, place_before, later_place, later_to}
 use Rattle.script_run.specs.declared.seat.Seat.{Seat}
-use Rattle.script_run.specs.declared.show.Place.{Place}
 use Rattle.tact_base.proofs.RangeLists.{map_more, flat_map_range_more}
 
 -- one more number
@@ -137,51 +137,51 @@ last_with_write before write (first ∷ rest) =
 
 -- the place of the last write
 last_place : List Write → Option Place
-last_place writes = option_map place_of (last_or None writes)
+last_place writes = option_map write_place (last_or None writes)
 
 -- of ordered writes with one more
-last_place-with_write : (write : Write) (writes : List Write) → IsOrdered writes → last_place (with_write write writes) ≡ later_of (Some (place_of write)) (last_place writes)
+last_place-with_write : (write : Write) (writes : List Write) → IsSortedByPlace writes → last_place (with_write write writes) ≡ later_of (Some (write_place write)) (last_place writes)
 unfolding last_place later_of
 last_place-with_write write [] ordered = refl
 last_place-with_write write (first ∷ rest) ordered = go (last_place-with_write write rest ordered.1) (comes_before write first) refl
   where
-    go : last_place (with_write write rest) ≡ later_of (Some (place_of write)) (last_place rest) → (is : Bool) → comes_before write first ≡ is
-        → last_place (if is then write ∷ first ∷ rest else first ∷ with_write write rest) ≡ later_of (Some (place_of write)) (last_place (first ∷ rest))
+    go : last_place (with_write write rest) ≡ later_of (Some (write_place write)) (last_place rest) → (is : Bool) → comes_before write first ≡ is
+        → last_place (if is then write ∷ first ∷ rest else first ∷ with_write write rest) ≡ later_of (Some (write_place write)) (last_place (first ∷ rest))
     go so_far true is =
         let before : All (λ later. comes_before write later ≡ true) (first ∷ rest) =
         All-cons (λ later. comes_before write later ≡ true) first rest is
         (All-weaker (λ later. comes_before later first ≡ false) (λ later. comes_before write later ≡ true) (λ x h. before_upto write first x is h) rest ordered.0) in
         let last = last_has (λ later. comes_before write later ≡ true) first rest before in
         rw (last.1, last.2) refl
-    go so_far false is = ap (option_map place_of) (last_with_write (Some first) write rest) ∙ (so_far ∙ behind rest)
+    go so_far false is = ap (option_map write_place) (last_with_write (Some first) write rest) ∙ (so_far ∙ behind rest)
       where
-        behind : (rest : List Write) → later_of (Some (place_of write)) (last_place rest) ≡ later_of (Some (place_of write)) (last_place (first ∷ rest))
+        behind : (rest : List Write) → later_of (Some (write_place write)) (last_place rest) ≡ later_of (Some (write_place write)) (last_place (first ∷ rest))
         behind [] = rw is refl
         behind (next ∷ rest) = refl
 
 -- the last place, as it is found write by write
-last_place-fold : (last : Option Place) (writes : List Write) → fold (λ before write. later_place before (place_of write)) last writes ≡ later_of last (last_place (in_order writes))
+last_place-fold : (last : Option Place) (writes : List Write) → fold (λ before write. later_place before (write_place write)) last writes ≡ later_of last (last_place (in_order writes))
 unfolding last_place later_of
 last_place-fold last [] = refl
 last_place-fold last (write ∷ writes) =
-    last_place-fold (later_place last (place_of write)) writes
-    ∙ (later_of_three last (place_of write) (last_place (in_order writes))
-    ∙ ap (later_of last) (sym (last_place-with_write write (in_order writes) (IsOrdered-in_order writes))))
+    last_place-fold (later_place last (write_place write)) writes
+    ∙ (later_of_three last (write_place write) (last_place (in_order writes))
+    ∙ ap (later_of last) (sym (last_place-with_write write (in_order writes) (IsSortedByPlace-in_order writes))))
 
 fold_to : (point : ℕ) (last : Option Place) (writes : List Write)
-    → fold (later_to point) last writes ≡ fold (λ before write. later_place before (place_of write)) last (committed_to point writes)
+    → fold (later_to point) last writes ≡ fold (λ before write. later_place before (write_place write)) last (committed_to point writes)
 fold_to point last [] = refl
 fold_to point last (write ∷ writes) = go (λ (next : Option Place). fold_to point next writes) (nat_le write.stamp point)
   where
-    go : ((next : Option Place) → fold (later_to point) next writes ≡ fold (λ before write. later_place before (place_of write)) next (committed_to point writes))
-        → (upto : Bool) → fold (later_to point) (if upto then later_place last (place_of write) else last) writes
-        ≡ fold (λ before write. later_place before (place_of write)) last (if upto then write ∷ committed_to point writes else committed_to point writes)
-    go rest true = rest (later_place last (place_of write))
+    go : ((next : Option Place) → fold (later_to point) next writes ≡ fold (λ before write. later_place before (write_place write)) next (committed_to point writes))
+        → (upto : Bool) → fold (later_to point) (if upto then later_place last (write_place write) else last) writes
+        ≡ fold (λ before write. later_place before (write_place write)) last (if upto then write ∷ committed_to point writes else committed_to point writes)
+    go rest true = rest (later_place last (write_place write))
     go rest false = rest last
 
 -- The last of the committed writes.
 pub last_committed_place : (point : ℕ) (writes : List Write)
-    → fold (later_to point) None writes ≡ option_map place_of (last_or None (committed_to point (in_order writes)))
+    → fold (later_to point) None writes ≡ option_map write_place (last_or None (committed_to point (in_order writes)))
 unfolding last_place later_of
 last_committed_place point writes =
     fold_to point None writes ∙ (last_place-fold None (committed_to point writes)

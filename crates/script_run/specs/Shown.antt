@@ -1,14 +1,13 @@
 -- What is shown of a replica: what it has of each origin, its clock, and what is committed and tentative of the writes that it has.
 use Rattle.std.specs.Prelude.{ℕ, ◌==◌, Bool, nat_le, List, [], ◌∷◌, ◌++◌, length, map, slice_index_or, codes, decimal, Option, None, Some, if◌then◌else◌}
 use Rattle.std.specs.List.{flat_map, last_or, range_with_len}
-use Rattle.std.specs.declared.cmp.Ordering.{Ordering}
-use Rattle.std.specs.Ordering.{nat_cmp, ordering_then, is_lt}
+use Rattle.std.specs.Ordering.{is_lt}
 use Rattle.tact_base.specs.Covers.{no_cover, least_of}
-use Rattle.tact_base.specs.WriteOrder.{in_order, committed_to, tentative_past}
+use Rattle.tact_base.specs.WriteOrder.{place_cmp, write_place, in_order, committed_to, tentative_past}
+use Rattle.tact_base.specs.declared.write.Place.{Place}
 use Rattle.tact_base.specs.declared.write.Write.{Write}
 use Rattle.run_model.specs.ScriptRuns.{comment, place_token}
 use Rattle.script_run.specs.declared.seat.Seat.{Seat}
-use Rattle.script_run.specs.declared.show.Place.{Place}
 
 -- the log that a replica has of an origin
 abbrev pub log_at : Seat → ℕ → List Write
@@ -47,13 +46,6 @@ shown_text replica haves clock point writes =
 abbrev pub seat_text : Seat → List ℕ
 seat_text seat = shown_text seat.replica (haves_at seat) seat.clock (point_at seat) (writes_at seat)
 
--- the place of a write in the order of all writes
-abbrev pub place_of : Write → Place
-place_of write = record { stamp = write.stamp; origin = write.origin; index = write.index }
-
-abbrev pub place_cmp : Place → Place → Ordering
-place_cmp a b = ordering_then (nat_cmp a.stamp b.stamp) (ordering_then (nat_cmp a.origin b.origin) (nat_cmp a.index b.index))
-
 -- whether the first place comes before the second
 abbrev pub place_before : Place → Place → Bool
 place_before a b = is_lt (place_cmp a b)
@@ -65,4 +57,4 @@ later_place (Some last) place = Some (if place_before last place then place else
 
 -- the last place so far after one more write, which counts up to the point
 abbrev pub later_to : ℕ → Option Place → Write → Option Place
-later_to point last write = if nat_le write.stamp point then later_place last (place_of write) else last
+later_to point last write = if nat_le write.stamp point then later_place last (write_place write) else last

@@ -2,7 +2,7 @@
 ghost use Rattle.std.specs.Prelude.{◌≡◌, ◌<◌, ◌≤◌, ◌^◌, ◌∷◌, ◌++◌, [], length, map, fold, codes, decimal, None, OnOk, OnErr};
 ghost use Rattle.std.specs.List.{last_or};
 ghost use Rattle.std.specs.Option.{option_map};
-ghost use Rattle.tact_base.specs.WriteOrder.{in_order, committed_to, tentative_past};
+ghost use Rattle.tact_base.specs.WriteOrder.{write_place, in_order, committed_to, tentative_past};
 ghost use Rattle.run_model.specs.ScriptRuns.{place_token};
 ghost use Rattle.run_model.specs.Text.{spaced, BeginsWith};
 ghost use Rattle.script_run.specs.Shown as shown;
@@ -10,25 +10,7 @@ ghost use Rattle.script_run.specs.Shown as shown;
 use crate::seat::Seat;
 use run_model::{all_or_nothing, put_number, put_row, put_token};
 use std::mem::size_of_val;
-use tact_base::{Bytes, NoMemory, Write, print_number};
-
-/// The place of a write in the order of all writes.
-#[derive(Clone, Copy, PartialEq, Eq, PartialOrd, Ord)]
-struct Place {
-    stamp: u64,
-    origin: u32,
-    index: u64,
-}
-
-fn place_of(write: &Write) -> Place
-    ensures { result ≡ shown.place_of write.now }
-{
-    Place {
-        stamp: write.stamp,
-        origin: write.origin,
-        index: write.index,
-    }
-}
+use tact_base::{Bytes, NoMemory, Place, Write, print_number};
 
 // The later of two places, of which the first may be missing.
 fn later_place(last: Option<Place>, place: Place) -> Option<Place>
@@ -66,7 +48,7 @@ fn last_of(log: &[Write], point: u64, last: Option<Place>) -> Option<Place>
     let mut last = last;
     for write in log {
         if write.stamp <= point {
-            last = later_place(last, place_of(write));
+            last = later_place(last, write.place());
         }
     }
     last
@@ -107,7 +89,7 @@ fn count_committed(seat: &Seat, point: u64) -> u64
 
 /// The place of the last of these.
 fn last_committed(seat: &Seat, point: u64) -> Option<Place>
-    ensures { result ≡ option_map shown.place_of (last_or None (committed_to point (in_order (shown.writes_at seat.now)))) }
+    ensures { result ≡ option_map write_place (last_or None (committed_to point (in_order (shown.writes_at seat.now)))) }
 {
     let mut last = None;
     for origin in 0..seat.replicas() {
