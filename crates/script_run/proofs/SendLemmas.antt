@@ -24,7 +24,9 @@ writes_told state to given =
     (All-range _ 0 state.replicas (λ origin low high. ap (λ (k : ℕ). drop k (log_at state origin)) (get_or-map_range (first_told state to given) state.replicas origin 0 (omega (arith, high))))))
 
 -- a message that it sends is among as many replicas
-pub next_is_for : (setup : Setup) (state : State) (moment to : ℕ) (given : List ℕ) → state.replica < state.replicas → IsFor state.replicas (next_message setup state moment to given)
+pub next_is_for : (setup : Setup) (state : State) (moment to : ℕ) (given : List ℕ)
+    → state.replica < state.replicas
+    → IsFor state.replicas (next_message setup state moment to given)
 next_is_for setup state moment to given among = record {
   from = among;
   haves = length-map-range_with_len (λ origin. length (log_at state origin)) 0 state.replicas;
@@ -42,10 +44,13 @@ module _ (setup : Setup) (replica : ℕ) (part : List Entry) (state : State) (st
   stands_first to given to_in origin within =
       ap₂ (λ (n known : ℕ). first_index to origin n known (get_or given origin 0)) (stands_have replica part state stands origin within) (stands.known to origin to_in within)
 
-  over_replicas : {A : Type 0} (f g : ℕ → A) → ((origin : ℕ) → origin < state.replicas → f origin ≡ g origin) → map f (origins_of state) ≡ map g (replicas_of setup)
+  over_replicas : {A : Type 0} (f g : ℕ → A)
+      → ((origin : ℕ) → origin < state.replicas → f origin ≡ g origin)
+      → map f (origins_of state) ≡ map g (replicas_of setup)
   over_replicas f g agree = map_range_agree f g state.replicas agree ∙ ap (λ (n : ℕ). map g (range_with_len 0 n)) (sym size)
 
-  stands_writes : (to : ℕ) (given : List ℕ) → to < state.replicas
+  stands_writes : (to : ℕ) (given : List ℕ)
+      → to < state.replicas
       → take MESSAGE_WRITES (flat_map (λ origin. drop (first_told state to given origin) (log_at state origin)) (origins_of state)) ≡ writes_for setup replica part to given
   stands_writes to given to_in =
       ap (take MESSAGE_WRITES)
@@ -54,7 +59,10 @@ module _ (setup : Setup) (replica : ℕ) (part : List Entry) (state : State) (st
       (λ origin low high. ap₂ drop (stands_first to given to_in origin (omega (arith, high))) (stands.logs origin (omega (arith, high)))))
       ∙ ap (λ (n : ℕ). flat_map (λ origin. drop (first_for replica part to given origin) (log_of replica part origin)) (range_with_len 0 n)) (sym size))
 
-  pub next_due : (moment to : ℕ) (given : List ℕ) → to < state.replicas → HasNoLoans part → next_message setup state moment to given ≡ message_of setup replica part moment to given
+  pub next_due : (moment to : ℕ) (given : List ℕ)
+      → to < state.replicas
+      → HasNoLoans part
+      → next_message setup state moment to given ≡ message_of setup replica part moment to given
   next_due moment to given to_in none = same_message _ _ to _ _ _ _ _ _ _ _ _ _ _ _ _ _
       stands.replica_is stands.sends
       (over_replicas (λ origin. length (log_at state origin)) (have replica part) (stands_have replica part state stands))

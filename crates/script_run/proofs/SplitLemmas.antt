@@ -7,7 +7,12 @@ eqb_no : (a b : ℕ) → a ≢ b → eqb a b ≡ false
 eqb_no a b h = grind (arith, nat_tests)
 
 -- the first piece ends at the first separator
-pub first_piece : (s : ℕ) (bs : List ℕ) (k : ℕ) → 0 < length bs → k ≤ length bs → ((j : ℕ) → j < k → get_or bs j 0 ≢ s) → (k < length bs → get_or bs k 0 ≡ s) → pieces_of s bs ≡ take k bs ∷ pieces_of s (drop (k + 1) bs)
+pub first_piece : (s : ℕ) (bs : List ℕ) (k : ℕ)
+    → 0 < length bs
+    → k ≤ length bs
+    → ((j : ℕ) → j < k → get_or bs j 0 ≢ s)
+    → (k < length bs → get_or bs k 0 ≡ s)
+    → pieces_of s bs ≡ take k bs ∷ pieces_of s (drop (k + 1) bs)
 first_piece s [] k some within before here = absurd (omega arith)
 first_piece s (b ∷ bs) zero some within before here = let e : eqb b s ≡ true = eq-eqb b s (here (omega arith)) in rw e refl
 first_piece s (b ∷ []) (suc k) some within before here =
@@ -21,13 +26,19 @@ first_piece s (b ∷ c ∷ cs) (suc k) some within before here =
     rw (e, more) (ap (with_front b) rest)
 
 -- an empty first piece is no token
-pub tokens_empty : (bs t after : List ℕ) → pieces_of 32 bs ≡ t ∷ pieces_of 32 after → length t ≡ 0 → tokens bs ≡ tokens after
+pub tokens_empty : (bs t after : List ℕ)
+    → pieces_of 32 bs ≡ t ∷ pieces_of 32 after
+    → length t ≡ 0
+    → tokens bs ≡ tokens after
 unfolding tokens
 tokens_empty bs [] after e h = rw e refl
 tokens_empty bs (b ∷ t) after e h = absurd (omega arith)
 
 -- another is one
-pub tokens_some : (bs t after : List ℕ) → pieces_of 32 bs ≡ t ∷ pieces_of 32 after → 0 < length t → tokens bs ≡ t ∷ tokens after
+pub tokens_some : (bs t after : List ℕ)
+    → pieces_of 32 bs ≡ t ∷ pieces_of 32 after
+    → 0 < length t
+    → tokens bs ≡ t ∷ tokens after
 unfolding tokens
 tokens_some bs [] after e h = absurd (omega arith)
 tokens_some bs (b ∷ t) after e h = rw e refl

@@ -22,7 +22,11 @@ fn each_command_line_has_its_status(rt: HostRuntime) -> Result<(), Fail> {
         }
         let mut source = MemSource::new(alloc, b"start 2 1 0 0\n", &[])?;
         let mut sink = MemSink::new(alloc, &[])?;
-        assert_eq!(rt; tact(alloc, &words, &mut source, &mut sink), wanted, "{line}");
+        assert_eq!(rt;
+            tact(alloc, &words, &mut source, &mut sink),
+            wanted,
+            "{line}"
+        );
         assert_eq!(rt; sink.bytes().is_empty(), wanted != Status::Done, "{line}");
     }
     Ok(())

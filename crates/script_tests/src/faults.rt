@@ -23,7 +23,11 @@ fn the_outside_is_named(rt: HostRuntime) -> Result<(), Fail> {
         let (status, sink) = played(rt.alloc(), script.as_bytes(), reads, writes)?;
         assert_eq!(rt; status, wanted, "{script} {reads:?} {writes:?}");
         let is_written = !sink.bytes().is_empty();
-        assert_eq!(rt; is_written, wanted == Status::Done, "{script} {reads:?} {writes:?}");
+        assert_eq!(rt;
+            is_written,
+            wanted == Status::Done,
+            "{script} {reads:?} {writes:?}"
+        );
     }
     Ok(())
 }

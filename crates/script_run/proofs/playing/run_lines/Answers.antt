@@ -1,5 +1,6 @@
 use Rattle.std.proofs.Common.{◌≡◌, ◌≤◌, ◌∷◌, ◌++◌, List, length, ap, sym, ◌∙◌, subst, take, arith}
 use Rattle.std.proofs.lemmas.List.{length-take-le}
+use Rattle.tact_base.specs.declared.limits.TheConstants.{SCRIPT_LINES}
 use Rattle.run_model.specs.ScriptRuns.{not_played, played_by, lines_text}
 use Rattle.script_run.specs.Forms.{setup_of}
 use Rattle.run_model.specs.Loans.{HasNoLoans}
@@ -31,7 +32,7 @@ loop-line-preserved c =
     let next = next_fits first later k l c.loop-line-test.true c.line-item.is invariant.0 in
     let more = front_more first later k l c.loop-line-test.true c.line-item.is in
     let is : setup ≡ setup_of before = setup_same first (take k later) later invariant.1 in
-    let few : length before ≤ 10000 = omega (arith, c.requires.few, length-take-le k later) in
+    let few : length before ≤ SCRIPT_LINES = omega (arith, c.requires.few, length-take-le k later) in
     let done = line_is_done setup before is invariant.1 few l next.0 old new c.args.text.now c.loop-line.text c.step.new.out
     (invariant.2.setup ∙ sym is) invariant.4 invariant.3 invariant.5 c.in_ok-step.ensures.steps in (
       next.1,
