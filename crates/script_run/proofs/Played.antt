@@ -43,7 +43,9 @@ pub record IsPlayed (setup : Setup) (sent : List (List ℕ)) (played : Played) :
   pub handed : played.handed ≡ 0
   pub moments : (replica : ℕ) → last_moment (part_of played.history replica) ≡ 0
   pub size : length sent ≡ setup.replicas
-  pub receivers : (from : ℕ) → from < setup.replicas → map receiver_of (sent_in (part_of played.history from)) ≡ get_or sent from []
+  pub receivers : (from : ℕ)
+      → from < setup.replicas
+      → map receiver_of (sent_in (part_of played.history from)) ≡ get_or sent from []
 
 -- the entry of a replica, with what it does where it stands
 abbrev pub entry_of : Played → ℕ → (List Entry → ℕ → Act) → Entry
@@ -82,7 +84,10 @@ module _ (setup : Setup) (good : IsSetup setup) (sent : List (List ℕ)) (played
   room_here = omega (arith, length-mine played.history replica, room)
 
   -- an entry whose act is in range and due is due
-  due : (does : List Entry → ℕ → Act) → IsActInRange setup replica (does part (moment_at part played.handed)) → IsActDue setup replica part (moment_at part played.handed) (does part (moment_at part played.handed)) → IsDue setup part (entry_of played replica does)
+  due : (does : List Entry → ℕ → Act)
+      → IsActInRange setup replica (does part (moment_at part played.handed))
+      → IsActDue setup replica part (moment_at part played.handed) (does part (moment_at part played.handed))
+      → IsDue setup part (entry_of played replica does)
   due does in_range act_due = record {
     room = room_here;
     moment = omega (arith, is.moments replica);
@@ -94,13 +99,20 @@ module _ (setup : Setup) (good : IsSetup setup) (sent : List (List ℕ)) (played
   no_weights : AreWeightsInRange setup []
   no_weights = record { each = All-nil (IsWeightInRange setup); listed = refl }
 
-  pub write_is_lawful : (client : ℕ) (op : Op) (weights : List Weight) → client < CLIENTS → weights ≡ [] → IsOpInRange op → IsLawful setup played.history (entry_of played replica (writes setup replica client op weights))
+  pub write_is_lawful : (client : ℕ) (op : Op) (weights : List Weight)
+      → client < CLIENTS
+      → weights ≡ []
+      → IsOpInRange op
+      → IsLawful setup played.history (entry_of played replica (writes setup replica client op weights))
   write_is_lawful client op weights client_in none op_in = record {
     due = due (writes setup replica client op weights) (client_in, (subst (AreWeightsInRange setup) (sym none) no_weights, op_in)) (refl, refl);
     sent = tt;
   }
 
-  pub send_is_lawful : (to : ℕ) (given : List ℕ) → to < setup.replicas → to ≢ replica → IsLawful setup played.history (entry_of played replica (sends_to setup replica to given))
+  pub send_is_lawful : (to : ℕ) (given : List ℕ)
+      → to < setup.replicas
+      → to ≢ replica
+      → IsLawful setup played.history (entry_of played replica (sends_to setup replica to given))
   send_is_lawful to given to_in other = record {
     due = due (sends_to setup replica to given)
         (due_message_in_range setup good replica part sound replica_in room_here (moment_at part played.handed) (omega (arith, now)) to to_in (λ same. other (sym same)) given, refl)
@@ -108,19 +120,28 @@ module _ (setup : Setup) (good : IsSetup setup) (sent : List (List ℕ)) (played
     sent = tt;
   }
 
-  pub take_is_lawful : (message : Message) → IsMessageInRange setup message → message.to ≡ replica → Contains (sent_in (part_of played.history message.from)) message → IsLawful setup played.history (entry_of played replica (takes_it message))
+  pub take_is_lawful : (message : Message)
+      → IsMessageInRange setup message
+      → message.to ≡ replica
+      → Contains (sent_in (part_of played.history message.from)) message
+      → IsLawful setup played.history (entry_of played replica (takes_it message))
   take_is_lawful message in_range to was_sent = record {
     due = due (takes_it message) (in_range, to) to;
     sent = was_sent;
   }
 
   -- after a lawful entry that sends nothing, and after one that sends
-  moments_after : (does : List Entry → ℕ → Act) → (other : ℕ) → last_moment (part_of (played.history ++ entry_of played replica does ∷ []) other) ≡ 0
+  moments_after : (does : List Entry → ℕ → Act)
+      → (other : ℕ)
+      → last_moment (part_of (played.history ++ entry_of played replica does ∷ []) other) ≡ 0
   moments_after does =
       part_of-push_cases played.history (entry_of played replica does) (λ other part. last_moment part ≡ 0)
       (last_moment-push part (entry_of played replica does) ∙ now) is.moments
 
-  pub played_quiet : (does : List Entry → ℕ → Act) → sent_by (entry_of played replica does) ≡ None → IsLawful setup played.history (entry_of played replica does) → IsPlayed setup sent (with_entry played (entry_of played replica does))
+  pub played_quiet : (does : List Entry → ℕ → Act)
+      → sent_by (entry_of played replica does) ≡ None
+      → IsLawful setup played.history (entry_of played replica does)
+      → IsPlayed setup sent (with_entry played (entry_of played replica does))
   played_quiet does none lawful = record {
     run = EachAfter-push (IsLawful setup) played.history (entry_of played replica does) is.run lawful;
     handed = is.handed;
@@ -151,7 +172,10 @@ module _ (setup : Setup) (good : IsSetup setup) (sent : List (List ℕ)) (played
         ∙ ap (λ (before : List ℕ). before ++ message.to ∷ []) (is.receivers replica replica_in)
         ∙ sym (get_or-set_same sent replica tos [] (omega (arith, is.size, replica_in)))
 
-    there : (other : ℕ) → other < setup.replicas → (replica ≡ other → ⊥) → map receiver_of (sent_in (part_of further other)) ≡ get_or (set sent replica tos) other []
+    there : (other : ℕ)
+        → other < setup.replicas
+        → (replica ≡ other → ⊥)
+        → map receiver_of (sent_in (part_of further other)) ≡ get_or (set sent replica tos) other []
     there other within differ =
         ap (λ part. map receiver_of (sent_in part)) (part_of-push_other played.history entry other differ)
         ∙ is.receivers other within
@@ -181,7 +205,10 @@ module _ (setup : Setup) (sent : List (List ℕ)) (played : Played) (is : IsPlay
   abbrev list : List Message
   list = sent_in (part_of played.history from)
 
-  named_is : (message : Message) → slice_get list number ≡ Some message → message.to ≡ replica → IsNamed setup played.history replica from number message
+  named_is : (message : Message)
+      → slice_get list number ≡ Some message
+      → message.to ≡ replica
+      → IsNamed setup played.history replica from number message
   named_is message found to =
       let contains : Contains list message = (number, slice_get_within list number message found, get_or_from_slice_get list number message message found) in
       let sender : message.from ≡ from = (All-contains (IsSoundMessage played.history from) list message ((Sound-run setup played.history is.run).sent from) contains).from in
@@ -193,7 +220,8 @@ module _ (setup : Setup) (sent : List (List ℕ)) (played : Played) (is : IsPlay
         was_sent = subst (λ f. Contains (sent_in (part_of played.history f)) message) (sym sender) contains;
       }
 
-  pub named_message : is_sent sent from number replica ≡ true → (message : Message) × IsNamed setup played.history replica from number message
+  pub named_message : is_sent sent from number replica ≡ true
+      → (message : Message) × IsNamed setup played.history replica from number message
   named_message addressed = go (slice_get list number) refl there
     where
       there : option_map_or (λ receiver. receiver == replica) (option_map receiver_of (slice_get list number)) false ≡ true
@@ -202,6 +230,9 @@ module _ (setup : Setup) (sent : List (List ℕ)) (played : Played) (is : IsPlay
           (sym (slice_get-map receiver_of list number) ∙ ap (λ (tos : List ℕ). slice_get tos number) (is.receivers from from_in))
           ∙ addressed
 
-      go : (found : Option Message) → slice_get list number ≡ found → option_map_or (λ receiver. receiver == replica) (option_map receiver_of found) false ≡ true → (message : Message) × IsNamed setup played.history replica from number message
+      go : (found : Option Message)
+          → slice_get list number ≡ found
+          → option_map_or (λ receiver. receiver == replica) (option_map receiver_of found) false ≡ true
+          → (message : Message) × IsNamed setup played.history replica from number message
       go None none agrees = cc
       go (Some message) some agrees = (message, named_is message some (eqb-true message.to replica agrees))

@@ -1,10 +1,8 @@
 -- What a replica reads of itself, where it stands for a part.
-use Rattle.std.proofs.Common.{◌≡◌, ℕ, ◌<◌, ◌==◌, max, true, false, cond, List, [], ◌∷◌, ◌++◌, length, take, drop, sym, ap, ap₂, ◌∙◌, ⊎_elim}
+use Rattle.std.proofs.Common.{◌≡◌, ℕ, ◌<◌, ◌==◌, true, false, cond, List, [], ◌∷◌, ◌++◌, length, sym, ap, ap₂, ◌∙◌, ⊎_elim}
 use Rattle.std.proofs.lemmas.Bool.{cases_eq, eq-eqb, ne_eqb}
-use Rattle.std.proofs.lemmas.List.Elements.{All-nil, All-push}
+use Rattle.std.proofs.lemmas.List.Elements.{All-push}
 use Rattle.tact_base.specs.declared.write.Cover.{Cover}
-use Rattle.tact_base.specs.declared.write.Write.{Write}
-use Rattle.run_model.specs.Histories.{moment_at}
 use Rattle.run_model.specs.Taking.{log_of, have, cover_of}
 use Rattle.run_model.specs.declared.entry.Entry.{Entry}
 use Rattle.run_model.proofs.Accepted.{log_of-same}
@@ -17,16 +15,14 @@ abbrev own_at : ℕ → ℕ → ℕ → Cover
 own_at count stamp moment = record { count = count; stamp = stamp; moment = moment }
 
 module _ (replica : ℕ) (part : List Entry) (state : State) (stands : StateStands replica part state) where
-  pub stands_have : (origin : ℕ) → origin < state.replicas → length (log_at state origin) ≡ have replica part origin
+  pub stands_have : (origin : ℕ)
+      → origin < state.replicas
+      → length (log_at state origin) ≡ have replica part origin
   stands_have origin within = ap length (stands.logs origin within)
 
-  pub stands_moment : (handed : ℕ) → max handed state.last ≡ moment_at part handed
-  stands_moment handed = ap (max handed) stands.last
-
-  pub stands_stretch : (origin first most : ℕ) → origin < state.replicas → take most (drop first (log_at state origin)) ≡ take most (drop first (log_of replica part origin))
-  stands_stretch origin first most within = ap (λ (log : List Write). take most (drop first log)) (stands.logs origin within)
-
-  pub stands_cover : (moment origin : ℕ) → origin < state.replicas → cover_told state moment origin ≡ cover_of replica part moment origin
+  pub stands_cover : (moment origin : ℕ)
+      → origin < state.replicas
+      → cover_told state moment origin ≡ cover_of replica part moment origin
   stands_cover moment origin within = ⊎_elim
       (λ (same : origin ≡ replica).
       let test : (origin == state.replica) ≡ true = eq-eqb origin state.replica (same ∙ sym stands.replica_is) in
@@ -40,8 +36,8 @@ module _ (replica : ℕ) (part : List Entry) (state : State) (stands : StateStan
       (cases_eq origin replica)
 
 -- a part goes on without loans
-pub no_loans_at_first : HasNoLoans []
-no_loans_at_first = All-nil (λ (entry : Entry). MovesNoLoan entry.act)
-
-pub no_loans_more : (part : List Entry) (entry : Entry) → HasNoLoans part → MovesNoLoan entry.act → HasNoLoans (part ++ entry ∷ [])
+pub no_loans_more : (part : List Entry) (entry : Entry)
+    → HasNoLoans part
+    → MovesNoLoan entry.act
+    → HasNoLoans (part ++ entry ∷ [])
 no_loans_more part entry none here = All-push (λ (entry : Entry). MovesNoLoan entry.act) part entry none here

@@ -1,14 +1,15 @@
 -- The state of a replica goes on standing for its part, entry by entry.
-use Rattle.std.proofs.Common.{◌≡◌, ◌≢◌, ℕ, ◌+◌, ◌<◌, ◌≤◌, ◌==◌, max, Bool, true, false, cond, List, [], ◌∷◌, ◌++◌, length, get_or, set, map, filter, filter_map, flat_map, Option, None, Some, refl, sym, ap, ap₂, subst, subst₂, ◌∙◌, ⊎_elim, arith, get_or-set_same, get_or-set_other}
+use Rattle.std.proofs.Common.{◌≡◌, ◌≢◌, ℕ, ◌+◌, ◌<◌, ◌≤◌, ◌==◌, max, Bool, true, false, cond, List, [], ◌∷◌, ◌++◌, length, get_or, set, map, filter, filter_map, Option, None, Some, refl, sym, ap, ap₂, subst, subst₂, ◌∙◌, ⊎_elim, arith, get_or-set_same, get_or-set_other}
 use Rattle.std.specs.List.{cons_option}
 use Rattle.std.proofs.lemmas.Bool.{cases_eq, eq-eqb, ne_eqb}
-use Rattle.std.proofs.lemmas.List.{length_push, map-append, append-nil}
-use Rattle.std.proofs.lemmas.List.Concat.{flat_map-append}
+use Rattle.std.proofs.lemmas.List.{length_push}
+use Rattle.tact_base.specs.declared.limits.TheConstants.{CLIENTS}
+use Rattle.tact_base.specs.Counts.{one_more}
 use Rattle.tact_base.specs.declared.conit_list.Weight.{Weight}
 use Rattle.tact_base.specs.declared.write.Cover.{Cover}
 use Rattle.tact_base.specs.declared.write.Op.{Op}
 use Rattle.tact_base.specs.declared.write.Write.{Write}
-use Rattle.run_model.specs.Histories.{sent_in, taken_in, sent_by_act, is_call_of, calls_in, greatest}
+use Rattle.run_model.specs.Histories.{sent_in, sent_by_act, is_call_of, calls_in, greatest}
 use Rattle.run_model.specs.OwnWrites.{own}
 use Rattle.run_model.specs.Taking.{OriginState, origin_state, after_taking, told_have, log_of, clock}
 use Rattle.run_model.specs.declared.call.Request.TheVariants as request
@@ -16,21 +17,26 @@ use Rattle.run_model.specs.declared.call.Reply.TheVariants as reply
 use Rattle.run_model.specs.declared.entry.Act.TheVariants as act
 use Rattle.run_model.specs.declared.entry.Entry.{Entry}
 use Rattle.run_model.specs.declared.entry.Message.{Message}
-use Rattle.run_model.proofs.PartLemmas.{accepted_in, taken_by, greatest-append, own-push_none, own-push_some, sent_in-push_none, sent_in-push_some, taken_in-push_none, taken_in-push_some, origin_state-push_none, origin_state-push_some, known-push_none, known-push_from, known-push_other, calls_in-push, last_moment-push}
+use Rattle.run_model.proofs.PartLemmas.{own-push_none, own-push_some, sent_in-push_none, sent_in-push_some, origin_state-push_none, origin_state-push_some, known-push_none, known-push_from, known-push_other, calls_in-push, last_moment-push}
 use Rattle.run_model.proofs.ClockLemmas.{clock-push_none, clock-accepted, clock-taken}
 use Rattle.run_model.proofs.Accepted.{log_of-same, log_of-other}
-use Rattle.script_run.specs.Seats.{State, StateStands, HasRoom, log_at, known_at, kept_at, kept_after, one_more, with_entry}
+use Rattle.script_run.specs.Seats.{State, StateStands, HasRoom, log_at, known_at, kept_at, kept_after, with_entry}
 
 -- the counts of a part are at most its length
-cons_option-le : {A : Type 0} (found : Option A) (xs : List A) (n : ℕ) → length xs ≤ n → length (cons_option found xs) ≤ n + 1
+cons_option-le : {A : Type 0} (found : Option A) (xs : List A) (n : ℕ)
+    → length xs ≤ n
+    → length (cons_option found xs) ≤ n + 1
 cons_option-le None xs n few = omega arith
 cons_option-le (Some y) xs n few = omega arith
 
-filter_map-le : {A B : Type 0} (f : A → Option B) (xs : List A) → length (filter_map f xs) ≤ length xs
+filter_map-le : {A B : Type 0} (f : A → Option B) (xs : List A)
+    → length (filter_map f xs) ≤ length xs
 filter_map-le f [] = omega arith
 filter_map-le f (x ∷ xs) = omega (arith, cons_option-le (f x) (filter_map f xs) (length xs) (filter_map-le f xs))
 
-cond-le : {A : Type 0} (yes : Bool) (x : A) (xs : List A) (n : ℕ) → length xs ≤ n → length (cond yes (x ∷ xs) xs) ≤ n + 1
+cond-le : {A : Type 0} (yes : Bool) (x : A) (xs : List A) (n : ℕ)
+    → length xs ≤ n
+    → length (cond yes (x ∷ xs) xs) ≤ n + 1
 cond-le true x xs n few = omega arith
 cond-le false x xs n few = omega arith
 
@@ -40,7 +46,9 @@ filter-le p (x ∷ xs) = omega (arith, cond-le (p x) x (filter p xs) (length xs)
 
 module _ (replica : ℕ) (part : List Entry) (state : State) (stands : StateStands replica part state) (moment : ℕ) where
   -- a message was sent
-  pub stands_sent : (message : Message) → HasRoom part → StateStands replica (with_entry replica part moment (act.Send message)) (record state { sends = one_more state.sends; last = moment })
+  pub stands_sent : (message : Message)
+      → HasRoom part
+      → StateStands replica (with_entry replica part moment (act.Send message)) (record state { sends = one_more state.sends; last = moment })
   stands_sent message room =
       let entry : Entry = record { replica = replica; moment = moment; act = act.Send message } in
       record {
@@ -76,7 +84,11 @@ module _ (replica : ℕ) (part : List Entry) (state : State) (stands : StateStan
       last = moment;
     }
 
-    accepted_logs : replica < state.replicas → length state.logs ≡ state.replicas → (origin : ℕ) → origin < state.replicas → log_at accepting origin ≡ log_of replica (part ++ accepted ∷ []) origin
+    accepted_logs : replica < state.replicas
+        → length state.logs ≡ state.replicas
+        → (origin : ℕ)
+        → origin < state.replicas
+        → log_at accepting origin ≡ log_of replica (part ++ accepted ∷ []) origin
     accepted_logs among sized origin within = ⊎_elim
         (λ (same : origin ≡ replica).
         rw same
@@ -89,7 +101,12 @@ module _ (replica : ℕ) (part : List Entry) (state : State) (stands : StateStan
         ∙ sym (log_of-other replica (part ++ accepted ∷ []) origin other ∙ ap (λ (kept : OriginState). kept.log) (origin_state-push_none part accepted origin refl)))
         (cases_eq origin replica)
 
-    accepted_calls : HasRoom part → client < 8 → length state.calls ≡ 8 → (other : ℕ) → other < 8 → get_or accepting.calls other 0 ≡ calls_in (part ++ accepted ∷ []) other
+    accepted_calls : HasRoom part
+        → client < CLIENTS
+        → length state.calls ≡ CLIENTS
+        → (other : ℕ)
+        → other < CLIENTS
+        → get_or accepting.calls other 0 ≡ calls_in (part ++ accepted ∷ []) other
     accepted_calls room of_client sized other within =
         let more = calls_in-push part accepted other in
         let few = filter-le (λ (e : Entry). is_call_of other e.act) part in
@@ -108,7 +125,12 @@ module _ (replica : ℕ) (part : List Entry) (state : State) (stands : StateStan
         omega (arith, none, there, stands.calls other within))
         (cases_eq other client)
 
-    pub stands_accepted : HasRoom part → replica < state.replicas → length state.logs ≡ state.replicas → length state.calls ≡ 8 → client < 8 → StateStands replica (part ++ accepted ∷ []) accepting
+    pub stands_accepted : HasRoom part
+        → replica < state.replicas
+        → length state.logs ≡ state.replicas
+        → length state.calls ≡ CLIENTS
+        → client < CLIENTS
+        → StateStands replica (part ++ accepted ∷ []) accepting
     stands_accepted room among sized calls_sized of_client = record {
       replica_is = stands.replica_is;
       logs = accepted_logs among sized;
@@ -125,7 +147,10 @@ module _ (replica : ℕ) (part : List Entry) (state : State) (stands : StateStan
     abbrev taken : Entry
     taken = record { replica = replica; moment = moment; act = act.Take message }
 
-    kept_other : (origin : ℕ) → origin < state.replicas → (origin ≡ replica → ⊥) → kept_at after origin ≡ origin_state (part ++ taken ∷ []) origin
+    kept_other : (origin : ℕ)
+        → origin < state.replicas
+        → (origin ≡ replica → ⊥)
+        → kept_at after origin ≡ origin_state (part ++ taken ∷ []) origin
     kept_other origin within other =
         let test : (origin == state.replica) ≡ false = ne_eqb origin state.replica (λ same. other (same ∙ stands.replica_is)) in
         let was : kept_at state origin ≡ origin_state part origin =
@@ -135,7 +160,9 @@ module _ (replica : ℕ) (part : List Entry) (state : State) (stands : StateStan
         ∙ ap (λ (k : OriginState). after_taking origin k message) was
         ∙ sym (origin_state-push_some part taken origin message refl)
 
-    taken_logs : (origin : ℕ) → origin < state.replicas → log_at after origin ≡ log_of replica (part ++ taken ∷ []) origin
+    taken_logs : (origin : ℕ)
+        → origin < state.replicas
+        → log_at after origin ≡ log_of replica (part ++ taken ∷ []) origin
     taken_logs origin within = ⊎_elim
         (λ (same : origin ≡ replica).
         let test : (origin == state.replica) ≡ true = eq-eqb origin state.replica (same ∙ sym stands.replica_is) in
@@ -148,12 +175,15 @@ module _ (replica : ℕ) (part : List Entry) (state : State) (stands : StateStan
         ap (λ (k : OriginState). k.log) (kept_other origin within other) ∙ sym (log_of-other replica (part ++ taken ∷ []) origin other))
         (cases_eq origin replica)
 
-    pub stands_taken : after.replica ≡ state.replica → after.replicas ≡ state.replicas
+    pub stands_taken : after.replica ≡ state.replica
+        → after.replicas ≡ state.replicas
         → ((origin : ℕ) → origin < state.replicas → known_at after message.from origin ≡ max (known_at state message.from origin) (told_have message origin))
         → ((peer origin : ℕ) → peer ≢ message.from → peer < state.replicas → origin < state.replicas → known_at after peer origin ≡ known_at state peer origin)
         → message.from < state.replicas
         → after.clock ≡ max state.clock (greatest (map (λ (cover : Cover). cover.stamp) message.covers))
-        → after.calls ≡ state.calls → after.sends ≡ state.sends → after.last ≡ moment
+        → after.calls ≡ state.calls
+        → after.sends ≡ state.sends
+        → after.last ≡ moment
         → StateStands replica (part ++ taken ∷ []) after
     stands_taken same_replica same_replicas learned others from rises same_calls same_sends is_last = record {
       replica_is = same_replica ∙ stands.replica_is;
@@ -180,7 +210,10 @@ module _ (replica : ℕ) (part : List Entry) (state : State) (stands : StateStan
 
 -- the state after an accepted write, by the numbers that were taken for it
 accepting_as : (state : State) (index stamp calls moment client : ℕ) (weights given : List Weight) (op : Op) (replica : ℕ) (now : State)
-    → index ≡ length (log_at state replica) → stamp ≡ one_more state.clock → calls ≡ one_more (get_or state.calls client 0) → given ≡ weights
+    → index ≡ length (log_at state replica)
+    → stamp ≡ one_more state.clock
+    → calls ≡ one_more (get_or state.calls client 0)
+    → given ≡ weights
     → now ≡ record state { logs = set state.logs replica (log_at state replica ++ record { origin = replica; index = index; stamp = stamp; moment = moment; weights = given; op = op } ∷ []) }
     → (let after : State = record now { clock = stamp; calls = set now.calls client calls; last = moment } in after)
     ≡ record state {
@@ -198,10 +231,18 @@ accepting_as state index stamp calls moment client weights given op replica now 
     ∙ ap₂ (λ (n : ℕ) (ws : List Weight). after (length (log_at state replica)) (one_more state.clock) n ws) calls_is given_is
 
 pub stands_accepted_as : (state : State) (index stamp calls moment client : ℕ) (weights given : List Weight) (op : Op) (replica : ℕ) (now : State)
-    → index ≡ length (log_at state replica) → stamp ≡ one_more state.clock → calls ≡ one_more (get_or state.calls client 0) → given ≡ weights
+    → index ≡ length (log_at state replica)
+    → stamp ≡ one_more state.clock
+    → calls ≡ one_more (get_or state.calls client 0)
+    → given ≡ weights
     → now ≡ record state { logs = set state.logs replica (log_at state replica ++ record { origin = replica; index = index; stamp = stamp; moment = moment; weights = given; op = op } ∷ []) }
-    → replica < state.replicas → length state.logs ≡ state.replicas → length state.calls ≡ 8 → client < 8
-    → (part : List Entry) → StateStands replica part state → HasRoom part
+    → replica < state.replicas
+    → length state.logs ≡ state.replicas
+    → length state.calls ≡ CLIENTS
+    → client < CLIENTS
+    → (part : List Entry)
+    → StateStands replica part state
+    → HasRoom part
     → StateStands replica (with_entry replica part moment (act.Call client (get_or state.calls client 0) (request.Write weights op) (reply.Done index stamp)))
     (record now { clock = stamp; calls = set now.calls client calls; last = moment })
 stands_accepted_as state index stamp calls moment client weights given op replica now index_is stamp_is calls_is given_is is among sized calls_sized of_client part stands room =

@@ -11,20 +11,20 @@ use Rattle.std.proofs.lemmas.List.Elements.{All-cons, All-head, All-tail, All-we
 use Rattle.std.proofs.lemmas.List.FromFn.{get_or-map-range_with_len, length-map-range_with_len}
 use Rattle.std.proofs.lemmas.List.Sorted.{ranks_by}
 use Rattle.std.proofs.lemmas.List.Sums.{fold-append}
-use Rattle.tact_base.specs.Covers.{least_of, no_cover}
+use Rattle.tact_base.specs.Covers.{least_of}
+use Rattle.tact_base.specs.declared.write.Place.{Place}
+use Rattle.tact_base.specs.WriteOrder.{place_cmp, write_place, comes_before, with_write, in_order, committed_to, tentative_past}
 use Rattle.tact_base.specs.declared.write.Cover.{Cover}
-use Rattle.tact_base.specs.WriteOrder.{comes_before, with_write, in_order, committed_to, tentative_past}
 use Rattle.tact_base.specs.declared.write.Write.{Write}
 use Rattle.tact_base.proofs.CommitLemmas.{committed_to-in_order, length-committed_tentative}
 use Rattle.tact_base.proofs.CompareLemmas.{before_upto}
 use Rattle.tact_base.proofs.CoversLemmas.{least_of-le, least_of-ge}
 use Rattle.tact_base.proofs.ListLemmas.{fold-push}
-use Rattle.tact_base.proofs.OrderLemmas.{IsOrdered, IsOrdered-in_order, length-in_order}
+use Rattle.tact_base.proofs.OrderLemmas.{IsSortedByPlace, IsSortedByPlace-in_order, length-in_order}
 use Rattle.run_model.specs.ScriptRuns.{place_token}
 use Rattle.run_model.specs.Text.{spaced}
-use Rattle.script_run.specs.Shown.{stamp_at, writes_tokens, place_of, place_cmp, place_before, later_place, later_to}
-use Rattle.script_run.specs.declared.seat.Seat.{Seat}
-use Rattle.script_run.specs.declared.show.Place.{Place}
+use Rattle.script_run.specs.Shown.{stamp_at, writes_tokens, place_before, later_place, later_to}
+use Rattle.script_run.specs.Seats.{State, log_at, cover_at}
 use Rattle.tact_base.proofs.RangeLists.{map_more, flat_map_range_more}
 
 -- one more number
@@ -61,7 +61,8 @@ module _ (log : ℕ → List Write) where
       ∙ (ap length (filter-append (λ write. nat_le write.stamp point) (logs n) (log n)) ∙ length-append (committed_to point (logs n)) (committed_to point (log n)))
 
 -- in order they are as many
-pub length-committed_in_order : (point : ℕ) (writes : List Write) → length (committed_to point (in_order writes)) ≡ length (committed_to point writes)
+pub length-committed_in_order : (point : ℕ) (writes : List Write)
+    → length (committed_to point (in_order writes)) ≡ length (committed_to point writes)
 length-committed_in_order point writes = ap length (committed_to-in_order point writes) ∙ length-in_order (committed_to point writes)
 
 pub length-both_in_order : (point : ℕ) (writes : List Write)
@@ -80,7 +81,10 @@ least_of_again xs k within =
     at zero below = least_of-le xs k within
     at (suc j) below = least_of-le xs j (omega arith)
 
-pub least_of_range : (f : ℕ → ℕ) (at n x : ℕ) → at < n → f at ≡ x → fold min x (map f (range_with_len 0 n)) ≡ least_of (map f (range_with_len 0 n))
+pub least_of_range : (f : ℕ → ℕ) (at n x : ℕ)
+    → at < n
+    → f at ≡ x
+    → fold min x (map f (range_with_len 0 n)) ≡ least_of (map f (range_with_len 0 n))
 least_of_range f at n x within is =
     let numbers = map f (range_with_len 0 n) in
     let here : get_or numbers at 0 ≡ x = get_or-map-range_with_len f 0 n at at 0 within (omega arith) ∙ is in
@@ -95,7 +99,10 @@ place_total =
 place_order : IsStrictWeakOrder place_before
 place_order = ranks_by place_total (λ place. place)
 
-place_trans : (a b c : Place) → place_before a b ≡ true → place_before b c ≡ true → place_before a c ≡ true
+place_trans : (a b c : Place)
+    → place_before a b ≡ true
+    → place_before b c ≡ true
+    → place_before a c ≡ true
 place_trans a b c first later = go (place_before a c) refl
   where
     go : (is : Bool) → place_before a c ≡ is → is ≡ true
@@ -108,14 +115,20 @@ later_of last None = last
 later_of last (Some place) = later_place last place
 
 -- of three places, in either way
-later_of_three : (last : Option Place) (place : Place) (next : Option Place) → later_of (later_place last place) next ≡ later_of last (later_of (Some place) next)
+later_of_three : (last : Option Place) (place : Place) (next : Option Place)
+    → later_of (later_place last place) next ≡ later_of last (later_of (Some place) next)
 unfolding later_of
 later_of_three last place None = refl
 later_of_three None place (Some next) = refl
 later_of_three (Some last) place (Some next) =
     go (place_before last place) refl (place_before place next) refl (place_before last next) refl
   where
-    go : (lp : Bool) → place_before last place ≡ lp → (pn : Bool) → place_before place next ≡ pn → (ln : Bool) → place_before last next ≡ ln
+    go : (lp : Bool)
+        → place_before last place ≡ lp
+        → (pn : Bool)
+        → place_before place next ≡ pn
+        → (ln : Bool)
+        → place_before last next ≡ ln
         → later_place (Some (if lp then place else last)) next ≡ later_place (Some last) (if pn then next else place)
     go true lp true pn ln is = rw (pn, place_trans last place next lp pn) refl
     go true lp false pn ln is = rw (pn, lp) refl
@@ -123,11 +136,14 @@ later_of_three (Some last) place (Some next) =
     go false lp false pn ln is = rw (lp, place_order.chain last place next lp pn) refl
 
 -- the last of writes that all have a property has it
-last_has : (P : Write → Type 0) (first : Write) (rest : List Write) → All P (first ∷ rest) → (last : Write) × (last_or (Some first) rest ≡ Some last) × P last
+last_has : (P : Write → Type 0) (first : Write) (rest : List Write)
+    → All P (first ∷ rest)
+    → (last : Write) × (last_or (Some first) rest ≡ Some last) × P last
 last_has P first [] all = (first, refl, All-head P first [] all)
 last_has P first (next ∷ rest) all = last_has P next rest (All-tail P first (next ∷ rest) all)
 
-last_with_write : (before : Option Write) (write : Write) (writes : List Write) → last_or before (with_write write writes) ≡ last_or None (with_write write writes)
+last_with_write : (before : Option Write) (write : Write) (writes : List Write)
+    → last_or before (with_write write writes) ≡ last_or None (with_write write writes)
 last_with_write before write [] = refl
 last_with_write before write (first ∷ rest) =
     elim (comes_before write first) as (λ is. last_or before (if is then write ∷ first ∷ rest else first ∷ with_write write rest) ≡ last_or None (if is then write ∷ first ∷ rest else first ∷ with_write write rest)) [
@@ -137,51 +153,58 @@ last_with_write before write (first ∷ rest) =
 
 -- the place of the last write
 last_place : List Write → Option Place
-last_place writes = option_map place_of (last_or None writes)
+last_place writes = option_map write_place (last_or None writes)
 
 -- of ordered writes with one more
-last_place-with_write : (write : Write) (writes : List Write) → IsOrdered writes → last_place (with_write write writes) ≡ later_of (Some (place_of write)) (last_place writes)
+last_place-with_write : (write : Write) (writes : List Write)
+    → IsSortedByPlace writes
+    → last_place (with_write write writes) ≡ later_of (Some (write_place write)) (last_place writes)
 unfolding last_place later_of
 last_place-with_write write [] ordered = refl
 last_place-with_write write (first ∷ rest) ordered = go (last_place-with_write write rest ordered.1) (comes_before write first) refl
   where
-    go : last_place (with_write write rest) ≡ later_of (Some (place_of write)) (last_place rest) → (is : Bool) → comes_before write first ≡ is
-        → last_place (if is then write ∷ first ∷ rest else first ∷ with_write write rest) ≡ later_of (Some (place_of write)) (last_place (first ∷ rest))
+    go : last_place (with_write write rest) ≡ later_of (Some (write_place write)) (last_place rest)
+        → (is : Bool)
+        → comes_before write first ≡ is
+        → last_place (if is then write ∷ first ∷ rest else first ∷ with_write write rest) ≡ later_of (Some (write_place write)) (last_place (first ∷ rest))
     go so_far true is =
         let before : All (λ later. comes_before write later ≡ true) (first ∷ rest) =
         All-cons (λ later. comes_before write later ≡ true) first rest is
         (All-weaker (λ later. comes_before later first ≡ false) (λ later. comes_before write later ≡ true) (λ x h. before_upto write first x is h) rest ordered.0) in
         let last = last_has (λ later. comes_before write later ≡ true) first rest before in
         rw (last.1, last.2) refl
-    go so_far false is = ap (option_map place_of) (last_with_write (Some first) write rest) ∙ (so_far ∙ behind rest)
+    go so_far false is = ap (option_map write_place) (last_with_write (Some first) write rest) ∙ (so_far ∙ behind rest)
       where
-        behind : (rest : List Write) → later_of (Some (place_of write)) (last_place rest) ≡ later_of (Some (place_of write)) (last_place (first ∷ rest))
+        behind : (rest : List Write)
+            → later_of (Some (write_place write)) (last_place rest) ≡ later_of (Some (write_place write)) (last_place (first ∷ rest))
         behind [] = rw is refl
         behind (next ∷ rest) = refl
 
 -- the last place, as it is found write by write
-last_place-fold : (last : Option Place) (writes : List Write) → fold (λ before write. later_place before (place_of write)) last writes ≡ later_of last (last_place (in_order writes))
+last_place-fold : (last : Option Place) (writes : List Write)
+    → fold (λ before write. later_place before (write_place write)) last writes ≡ later_of last (last_place (in_order writes))
 unfolding last_place later_of
 last_place-fold last [] = refl
 last_place-fold last (write ∷ writes) =
-    last_place-fold (later_place last (place_of write)) writes
-    ∙ (later_of_three last (place_of write) (last_place (in_order writes))
-    ∙ ap (later_of last) (sym (last_place-with_write write (in_order writes) (IsOrdered-in_order writes))))
+    last_place-fold (later_place last (write_place write)) writes
+    ∙ (later_of_three last (write_place write) (last_place (in_order writes))
+    ∙ ap (later_of last) (sym (last_place-with_write write (in_order writes) (IsSortedByPlace-in_order writes))))
 
 fold_to : (point : ℕ) (last : Option Place) (writes : List Write)
-    → fold (later_to point) last writes ≡ fold (λ before write. later_place before (place_of write)) last (committed_to point writes)
+    → fold (later_to point) last writes ≡ fold (λ before write. later_place before (write_place write)) last (committed_to point writes)
 fold_to point last [] = refl
 fold_to point last (write ∷ writes) = go (λ (next : Option Place). fold_to point next writes) (nat_le write.stamp point)
   where
-    go : ((next : Option Place) → fold (later_to point) next writes ≡ fold (λ before write. later_place before (place_of write)) next (committed_to point writes))
-        → (upto : Bool) → fold (later_to point) (if upto then later_place last (place_of write) else last) writes
-        ≡ fold (λ before write. later_place before (place_of write)) last (if upto then write ∷ committed_to point writes else committed_to point writes)
-    go rest true = rest (later_place last (place_of write))
+    go : ((next : Option Place) → fold (later_to point) next writes ≡ fold (λ before write. later_place before (write_place write)) next (committed_to point writes))
+        → (upto : Bool)
+        → fold (later_to point) (if upto then later_place last (write_place write) else last) writes
+        ≡ fold (λ before write. later_place before (write_place write)) last (if upto then write ∷ committed_to point writes else committed_to point writes)
+    go rest true = rest (later_place last (write_place write))
     go rest false = rest last
 
 -- The last of the committed writes.
 pub last_committed_place : (point : ℕ) (writes : List Write)
-    → fold (later_to point) None writes ≡ option_map place_of (last_or None (committed_to point (in_order writes)))
+    → fold (later_to point) None writes ≡ option_map write_place (last_or None (committed_to point (in_order writes)))
 unfolding last_place later_of
 last_committed_place point writes =
     fold_to point None writes ∙ (last_place-fold None (committed_to point writes)
@@ -191,22 +214,18 @@ last_committed_place point writes =
     none_before None = refl
     none_before (Some place) = refl
 
--- the stamp of a cover that a replica has, and of its own
-pub cover_stamp : (seat : Seat) (origin : ℕ) (own other : Cover) → own.stamp ≡ seat.clock → other ≡ get_or seat.covers.items origin no_cover
-    → (if origin == seat.replica then own else other).stamp ≡ stamp_at seat origin
-cover_stamp seat origin own other part_of kept = go (origin == seat.replica)
-  where
-    go : (is : Bool) → (if is then own else other).stamp ≡ (if is then seat.clock else (get_or seat.covers.items origin no_cover).stamp)
-    go true = part_of
-    go false = ap (λ (cover : Cover). cover.stamp) kept
-
-pub own_stamp : (seat : Seat) → stamp_at seat seat.replica ≡ seat.clock
-own_stamp seat =
-    let same : (seat.replica == seat.replica) ≡ true = eq-eqb seat.replica seat.replica refl in
-    rw same refl
+-- the stamp of its own cover is its clock
+pub own_stamp : (state : State) → stamp_at state state.replica ≡ state.clock
+own_stamp state =
+    let own : Cover = record { count = length (log_at state state.replica); stamp = state.clock; moment = 0 } in
+    ap (λ yes. (if yes then own else cover_at state state.replica).stamp) (eq-eqb state.replica state.replica refl)
 
 -- a text that grew by tokens, four times
-grown_four : (old a b c d : List ℕ) (k l m n : List (List ℕ)) → a ≡ old ++ spaced k → b ≡ a ++ spaced l → c ≡ b ++ spaced m → d ≡ c ++ spaced n
+grown_four : (old a b c d : List ℕ) (k l m n : List (List ℕ))
+    → a ≡ old ++ spaced k
+    → b ≡ a ++ spaced l
+    → c ≡ b ++ spaced m
+    → d ≡ c ++ spaced n
     → d ≡ old ++ spaced (k ++ (l ++ (m ++ n)))
 grown_four old a b c d k l m n at_a at_b at_c at_d =
     let token = λ (word : List ℕ). 32 ∷ word in
@@ -219,8 +238,10 @@ grown_four old a b c d k l m n at_a at_b at_c at_d =
 
 -- the text of what is committed and what is tentative
 pub grown_by_writes : (point : ℕ) (writes : List Write) (committed all : ℕ) (old a b c d : List ℕ)
-    → committed ≡ length (committed_to point (in_order writes)) → all ≡ length writes
-    → a ≡ old ++ spaced (codes "committed" ∷ decimal committed ∷ []) → b ≡ a ++ spaced (codes "last" ∷ [])
+    → committed ≡ length (committed_to point (in_order writes))
+    → all ≡ length writes
+    → a ≡ old ++ spaced (codes "committed" ∷ decimal committed ∷ [])
+    → b ≡ a ++ spaced (codes "last" ∷ [])
     → c ≡ b ++ spaced (place_token (last_or None (committed_to point (in_order writes))) ∷ [])
     → d ≡ c ++ spaced (codes "tentative" ∷ decimal (all - committed) ∷ [])
     → d ≡ old ++ spaced (writes_tokens point writes)

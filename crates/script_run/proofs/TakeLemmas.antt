@@ -35,20 +35,32 @@ module _ (start : State) (origin known : ℕ) (writes : List Write) where
     told_count same = ap length (told_one same) ∙ length_push (told at) write
 
     -- a write of another origin
-    pub other_write : (now : State) → now ≡ with_told at → write.origin ≢ origin → now ≡ with_told (at + 1)
+    pub other_write : (now : State)
+        → now ≡ with_told at
+        → write.origin ≢ origin
+        → now ≡ with_told (at + 1)
     other_write now was other =
         was ∙ ap (λ (ws : List Write). let s : State = record start { logs = set start.logs origin (log_at start origin ++ drop known ws) } in s) (sym (told_other other))
 
     -- one that was known
-    pub known_write : (now : State) → now ≡ with_told at → write.origin ≡ origin → length (told at) < known → now ≡ with_told (at + 1)
+    pub known_write : (now : State)
+        → now ≡ with_told at
+        → write.origin ≡ origin
+        → length (told at) < known
+        → now ≡ with_told (at + 1)
     known_write now was same few =
         let before : drop known (told at) ≡ [] = drop_all known (told at) (omega arith) in
         let after : drop known (told (at + 1)) ≡ [] = drop_all known (told (at + 1)) (omega (arith, told_count same)) in
         was ∙ ap (λ (ws : List Write). let s : State = record start { logs = set start.logs origin (log_at start origin ++ ws) } in s) (before ∙ sym after)
 
     -- one that was lacking
-    pub new_write : (now after : State) → now ≡ with_told at → write.origin ≡ origin → known ≤ length (told at) → origin < length start.logs
-        → after ≡ record now { logs = set now.logs origin (log_at now origin ++ write ∷ []) } → after ≡ with_told (at + 1)
+    pub new_write : (now after : State)
+        → now ≡ with_told at
+        → write.origin ≡ origin
+        → known ≤ length (told at)
+        → origin < length start.logs
+        → after ≡ record now { logs = set now.logs origin (log_at now origin ++ write ∷ []) }
+        → after ≡ with_told (at + 1)
     new_write now after was same many sized grew =
         let front = log_at start origin in
         let onto = λ (log : List Write). let s : State = record start { logs = set start.logs origin log } in s in
@@ -76,7 +88,10 @@ module _ (now after : State) (from at told : ℕ) (is : after ≡ record now { k
       ap (λ (s : State). known_at s from at) is
       ∙ get_or-set_same now.known (from * now.replicas + at) (max (known_at now from at) told) 0 (omega (arith, mul-add-lt from now.replicas at now.replicas from_in at_in, sized))
 
-  pub learned_elsewhere : (peer origin : ℕ) → origin < now.replicas → ((peer ≡ from) × (origin ≡ at) → ⊥) → known_at after peer origin ≡ known_at now peer origin
+  pub learned_elsewhere : (peer origin : ℕ)
+      → origin < now.replicas
+      → ((peer ≡ from) × (origin ≡ at) → ⊥)
+      → known_at after peer origin ≡ known_at now peer origin
   learned_elsewhere peer origin within other =
       ap (λ (s : State). known_at s peer origin) is
       ∙ get_or-set_other now.known (from * now.replicas + at) (peer * now.replicas + origin) (max (known_at now from at) told) 0
@@ -85,12 +100,26 @@ module _ (now after : State) (from at told : ℕ) (is : after ≡ record now { k
 -- One message's counts, learned up to an origin.
 pub record IsLearned (start : State) (message : Message) (at : ℕ) (now : State) : Type 0 where
   pub only : now ≡ record start { known = now.known }
-  pub learned : (origin : ℕ) → origin < at → known_at now message.from origin ≡ max (known_at start message.from origin) (told_have message origin)
-  pub later : (origin : ℕ) → at ≤ origin → origin < start.replicas → known_at now message.from origin ≡ known_at start message.from origin
-  pub others : (peer origin : ℕ) → peer ≢ message.from → peer < start.replicas → origin < start.replicas → known_at now peer origin ≡ known_at start peer origin
+  pub learned : (origin : ℕ)
+      → origin < at
+      → known_at now message.from origin ≡ max (known_at start message.from origin) (told_have message origin)
+  pub later : (origin : ℕ)
+      → at ≤ origin
+      → origin < start.replicas
+      → known_at now message.from origin ≡ known_at start message.from origin
+  pub others : (peer origin : ℕ)
+      → peer ≢ message.from
+      → peer < start.replicas
+      → origin < start.replicas
+      → known_at now peer origin ≡ known_at start peer origin
 
-pub learned_more : (start : State) (message : Message) (at : ℕ) (now after : State) → IsLearned start message at now → after ≡ record now { known = set now.known (message.from * now.replicas + at) (max (known_at now message.from at) (told_have message at)) }
-    → message.from < start.replicas → at < start.replicas → length now.known ≡ start.replicas * start.replicas → IsLearned start message (at + 1) after
+pub learned_more : (start : State) (message : Message) (at : ℕ) (now after : State)
+    → IsLearned start message at now
+    → after ≡ record now { known = set now.known (message.from * now.replicas + at) (max (known_at now message.from at) (told_have message at)) }
+    → message.from < start.replicas
+    → at < start.replicas
+    → length now.known ≡ start.replicas * start.replicas
+    → IsLearned start message (at + 1) after
 learned_more start message at now after was is from_in at_in sized =
     let same : now.replicas ≡ start.replicas = ap (λ (s : State). s.replicas) was.only in
     let size : length now.known ≡ now.replicas * now.replicas = sized ∙ ap (λ (n : ℕ). n * n) (sym same) in

@@ -7,7 +7,11 @@ use Rattle.script_run.specs.declared.seat.Seat.{Seat}
 use Rattle.script_run.specs.Seats.{AreSeats, AreSent, IsFor}
 
 -- one more replica
-pub seats_more : (n c : ℕ) (seats : List Seat) (seat : Seat) → AreSeats n c seats → seat.replicas ≡ n → seat.replica ≡ c → AreSeats n (c + 1) (seats ++ seat ∷ [])
+pub seats_more : (n c : ℕ) (seats : List Seat) (seat : Seat)
+    → AreSeats n c seats
+    → seat.replicas ≡ n
+    → seat.replica ≡ c
+    → AreSeats n (c + 1) (seats ++ seat ∷ [])
 seats_more n c seats seat are size place = record {
   length_is = omega (arith, are.length_is, length-append seats (seat ∷ []));
   sizes = λ k d lt. elim (cases_eq k c) [
@@ -20,11 +24,11 @@ seats_more n c seats seat are size place = record {
   ];
 }
 
--- lists that are all empty hold no message
-pub sent_none : (n : ℕ) (sent : List (List Message)) → ((k : ℕ) → k < length sent → length (get_or sent k []) ≡ 0) → AreSent n sent
-sent_none n sent empty from number d lt some = absurd (omega (arith, empty from lt, some))
-
-pub empty_more : (sent : List (List Message)) → ((k : ℕ) → k < length sent → length (get_or sent k []) ≡ 0) → (k : ℕ) → k < length (sent ++ [] ∷ []) → length (get_or (sent ++ [] ∷ []) k []) ≡ 0
+pub empty_more : (sent : List (List Message))
+    → ((k : ℕ) → k < length sent → length (get_or sent k []) ≡ 0)
+    → (k : ℕ)
+    → k < length (sent ++ [] ∷ [])
+    → length (get_or (sent ++ [] ∷ []) k []) ≡ 0
 empty_more sent empty k lt =
     elim (cases_eq k (length sent)) [
       | inl is ↦ rw (get_or_push sent [] [] k (sym is)) refl
@@ -34,7 +38,11 @@ empty_more sent empty k lt =
     ]
 
 -- one more message of a replica
-pub sent_more : (n : ℕ) (sent : List (List Message)) (from : ℕ) (message : Message) → AreSent n sent → IsFor n message → from < length sent → AreSent n (set sent from (get_or sent from [] ++ message ∷ []))
+pub sent_more : (n : ℕ) (sent : List (List Message)) (from : ℕ) (message : Message)
+    → AreSent n sent
+    → IsFor n message
+    → from < length sent
+    → AreSent n (set sent from (get_or sent from [] ++ message ∷ []))
 sent_more n sent from message are is_for within f number d lt some =
     elim (cases_eq f from) as (λ _. IsFor n (get_or (get_or (set sent from (get_or sent from [] ++ message ∷ [])) f []) number d)) [
       | inl is ↦
@@ -53,7 +61,12 @@ sent_more n sent from message are is_for within f number d lt some =
     ]
 
 -- a replica that moved on
-pub seats_set : (n c k : ℕ) (seats : List Seat) (seat : Seat) → AreSeats n c seats → k < c → seat.replicas ≡ n → seat.replica ≡ k → AreSeats n c (set seats k seat)
+pub seats_set : (n c k : ℕ) (seats : List Seat) (seat : Seat)
+    → AreSeats n c seats
+    → k < c
+    → seat.replicas ≡ n
+    → seat.replica ≡ k
+    → AreSeats n c (set seats k seat)
 seats_set n c k seats seat are lt size place = record {
   length_is = length-set seats k seat ∙ are.length_is;
   sizes = λ j d below. elim (cases_eq j k) [
@@ -67,23 +80,37 @@ seats_set n c k seats seat are lt size place = record {
 }
 
 -- how many messages each replica sent, after one more
-pub counts_set : {A : Type 0} (sent : List (List A)) (from : ℕ) (message : A) → from < length sent → map length (set sent from (get_or sent from [] ++ message ∷ [])) ≡ set (map length sent) from (get_or (map length sent) from 0 + 1)
+pub counts_set : {A : Type 0} (sent : List (List A)) (from : ℕ) (message : A)
+    → from < length sent
+    → map length (set sent from (get_or sent from [] ++ message ∷ [])) ≡ set (map length sent) from (get_or (map length sent) from 0 + 1)
 counts_set [] from message h = absurd (omega arith)
 counts_set (m ∷ ms) zero message h = ap (λ n. n ∷ map length ms) (length-append m (message ∷ []))
 counts_set (m ∷ ms) (suc from) message h = ap (λ ns. length m ∷ ns) (counts_set ms from message (omega arith))
 
-pub counts_at : {A : Type 0} (sent : List (List A)) (k : ℕ) → k < length sent → get_or (map length sent) k 0 ≡ length (get_or sent k [])
+pub counts_at : {A : Type 0} (sent : List (List A)) (k : ℕ)
+    → k < length sent
+    → get_or (map length sent) k 0 ≡ length (get_or sent k [])
 counts_at [] k h = absurd (omega arith)
 counts_at (m ∷ ms) zero h = refl
 counts_at (m ∷ ms) (suc k) h = counts_at ms k (omega arith)
 
-pub counts_kept : (sent : List (List Message)) (from : ℕ) (message : Message) (list new : List Message) → from < length sent → list ≡ get_or sent from list → new ≡ list ++ message ∷ [] → map length (set sent from new) ≡ set (map length sent) from (get_or (map length sent) from 0 + 1)
+pub counts_kept : (sent : List (List Message)) (from : ℕ) (message : Message) (list new : List Message)
+    → from < length sent
+    → list ≡ get_or sent from list
+    → new ≡ list ++ message ∷ []
+    → map length (set sent from new) ≡ set (map length sent) from (get_or (map length sent) from 0 + 1)
 counts_kept sent from message list new h read is =
     let here : list ≡ get_or sent from [] = get_or_read sent from list h read [] in
     ap (λ (xs : List Message). map length (set sent from xs)) (is ∙ ap (λ (xs : List Message). xs ++ message ∷ []) here) ∙ counts_set sent from message h
 
 -- a message that a replica sent is among so many
-pub sent_is_for : (n : ℕ) (sent : List (List Message)) (from number : ℕ) (list : List Message) (m : Message) → AreSent n sent → from < length sent → list ≡ get_or sent from list → number < get_or (map length sent) from 0 → m ≡ get_or list number m → IsFor n m
+pub sent_is_for : (n : ℕ) (sent : List (List Message)) (from number : ℕ) (list : List Message) (m : Message)
+    → AreSent n sent
+    → from < length sent
+    → list ≡ get_or sent from list
+    → number < get_or (map length sent) from 0
+    → m ≡ get_or list number m
+    → IsFor n m
 sent_is_for n sent from number list m are within read some is =
     let here : list ≡ get_or sent from [] = get_or_read sent from list within read [] in
     let below : number < length (get_or sent from []) = omega (arith, some, counts_at sent from within) in

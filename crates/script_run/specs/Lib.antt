@@ -1,4 +1,4 @@
-pub mod Cutting
+pub mod Splitting
 pub mod Words
 pub mod Fields
 pub mod Forms

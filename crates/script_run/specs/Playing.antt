@@ -9,18 +9,21 @@ use Rattle.run_model.specs.Runs.{IsRun}
 use Rattle.run_model.specs.ScriptRuns.{history_of, play_text}
 use Rattle.script_run.specs.Forms.{setup_of}
 use Rattle.script_run.specs.Scripts.{script_of, IsScript}
-use Rattle.script_run.specs.declared.playing.TheConstants.{INPUT_MAX}
 use Rattle.tact_io.specs.Faults.{HasRisen}
 use Rattle.tact_io.specs.Sink.{Gains, GainsPart}
 use Rattle.tact_io.specs.Source.{IsAtEnd}
 
+-- the greatest count of bytes of an input
+abbrev pub input_max : ℕ
+input_max = 67108864
+
 -- the cause of each answer: by what the source had left and both counts of faults before and after
 abbrev pub HasCause : Status → Option (List ℕ) → Option (List ℕ) → ℕ → ℕ → ℕ → ℕ → Type 0
 HasCause status.Done left rest reads reads' writes writes' =
-    IsAtEnd rest × IfSome left (λ input. (length input ≤ INPUT_MAX) × (lines : List Line) × IsScript lines × (script_of input ≡ Ok lines))
+    IsAtEnd rest × IfSome left (λ input. (length input ≤ input_max) × (lines : List Line) × IsScript lines × (script_of input ≡ Ok lines))
 HasCause (status.BadInput place (input.Line kind)) left rest reads reads' writes writes' =
-    IsAtEnd rest × IfSome left (λ input. script_of input ≡ Err (place, kind))
-HasCause status.TooLong left rest reads reads' writes writes' = IfSome left (λ input. INPUT_MAX < length input)
+    IsAtEnd rest × IfSome left (λ input. (length input ≤ input_max) × (script_of input ≡ Err (place, kind)))
+HasCause status.TooLong left rest reads reads' writes writes' = IfSome left (λ input. input_max < length input)
 HasCause status.ReadFault left rest reads reads' writes writes' = HasRisen reads reads'
 HasCause status.WriteFault left rest reads reads' writes writes' = HasRisen writes writes'
 HasCause status.NoMemory left rest reads reads' writes writes' = Unit {0}
@@ -51,7 +54,7 @@ WritesText text other before after = after ≡ before
 abbrev pub Completes : Status → Option (List ℕ) → ℕ → ℕ → ℕ → ℕ → Type 0
 Completes answer left reads reads' writes writes' =
     ¬ HasRisen reads reads' → ¬ HasRisen writes writes'
-    → IfSome left (λ input. length input ≤ INPUT_MAX → (lines : List Line) → script_of input ≡ Ok lines
+    → IfSome left (λ input. length input ≤ input_max → (lines : List Line) → script_of input ≡ Ok lines
     → (answer ≡ status.Done) ⊎ (answer ≡ status.NoMemory))
 
 -- the status after a text was written, and its cause

@@ -4,10 +4,10 @@ use Rattle.std.specs.List.{list_any}
 use Rattle.run_model.specs.declared.script_line.Line.{Line}
 use Rattle.run_model.specs.declared.status.LineKind.{LineKind}
 use Rattle.run_model.specs.declared.status.LineKind.TheVariants.{TooManyLines, LongLine, BadByte, NoStart}
-use Rattle.script_run.specs.declared.reader.TheConstants.{SCRIPT_LINES, LINE_MAX}
-use Rattle.script_run.specs.declared.script.ScriptFault.{ScriptFault}
-use Rattle.script_run.specs.declared.script.ScriptFault.TheVariants as faults
-use Rattle.script_run.specs.Cutting.{raw_lines, tokens}
+use Rattle.tact_base.specs.declared.limits.TheConstants.{SCRIPT_LINES, LINE_MAX}
+use Rattle.script_run.specs.declared.fault.ScriptFault.{ScriptFault}
+use Rattle.script_run.specs.declared.fault.ScriptFault.TheVariants as faults
+use Rattle.script_run.specs.Splitting.{raw_lines, tokens}
 use Rattle.script_run.specs.Fields.{◌>>=◌, Tokens}
 use Rattle.script_run.specs.Forms.{first_at, later_at, of_whole, is_sent, sent_by, setup_of, opening, NamesOnly}
 use Rattle.tact_base.specs.Setup.{IsSetup}

@@ -1,15 +1,15 @@
 -- The replicas of a world, and how each stands for its part of a history.
-use Rattle.std.specs.Prelude.{◌≡◌, ◌≢◌, ℕ, ◌+◌, ◌-◌, ◌*◌, ◌^◌, ◌<◌, ◌==◌, min, max, List, [], ◌∷◌, ◌++◌, All, take, drop, length, map, slice_index, slice_index_or, if◌then◌else◌}
+use Rattle.std.specs.Prelude.{◌≡◌, ◌≢◌, ℕ, ◌+◌, ◌*◌, ◌<◌, ◌==◌, List, [], ◌∷◌, ◌++◌, take, drop, length, map, slice_index, slice_index_or, if◌then◌else◌}
 use Rattle.std.specs.List.{flat_map, range_with_len}
+use Rattle.tact_base.specs.Counts.{first_index}
 use Rattle.tact_base.specs.Covers.{no_cover}
-use Rattle.tact_base.specs.declared.limits.TheConstants.{MESSAGE_WRITES, STAMP_MAX}
+use Rattle.tact_base.specs.declared.limits.TheConstants.{CLIENTS, MESSAGE_WRITES, STAMP_MAX}
 use Rattle.tact_base.specs.declared.write.Cover.{Cover}
 use Rattle.tact_base.specs.declared.write.Write.{Write}
 use Rattle.tact_base.specs.Setup.{Setup, loan_of, conits_of}
 use Rattle.run_model.specs.Histories.{sent_in, calls_in, last_moment}
 use Rattle.run_model.specs.Taking.{OriginState, origin_state, after_taking, log_of, clock, known}
 use Rattle.run_model.specs.declared.entry.Act.{Act}
-use Rattle.run_model.specs.declared.entry.Act.TheVariants as act
 use Rattle.run_model.specs.declared.entry.Entry.{Entry}
 use Rattle.run_model.specs.declared.entry.Message.{Message}
 use Rattle.script_run.specs.declared.seat.Seat.{Seat}
@@ -78,7 +78,7 @@ pub record StateStands (replica : ℕ) (part : List Entry) (state : State) : Typ
   pub covers : (origin : ℕ) → origin < state.replicas → origin ≢ replica → cover_at state origin ≡ (origin_state part origin).cover
   pub known : (peer origin : ℕ) → peer < state.replicas → origin < state.replicas → known_at state peer origin ≡ known part peer origin
   pub clock : state.clock ≡ clock part
-  pub calls : (client : ℕ) → client < 8 → slice_index state.calls client ≡ calls_in part client
+  pub calls : (client : ℕ) → client < CLIENTS → slice_index state.calls client ≡ calls_in part client
   pub sends : state.sends ≡ length (sent_in part)
   pub last : state.last ≡ last_moment part
 
@@ -91,10 +91,6 @@ pub record HasRoom (part : List Entry) : Type 0 where
   pub clock : clock part < STAMP_MAX
   pub entries : length part < STAMP_MAX
 
--- one more, at most the greatest u64
-abbrev pub one_more : ℕ → ℕ
-one_more n = min (n + 1) (2 ^ 64 - 1)
-
 -- the cover that it tells of an origin: of itself its own state at a moment
 abbrev pub cover_told : State → ℕ → ℕ → Cover
 cover_told state moment origin =
@@ -102,9 +98,7 @@ cover_told state moment origin =
 
 -- where the writes of an origin that it tells another begin
 abbrev pub first_told : State → ℕ → List ℕ → ℕ → ℕ
-first_told state to given origin =
-    if origin == to then length (log_at state origin)
-    else min (length (log_at state origin)) (max (slice_index given origin) (known_at state to origin))
+first_told state to given origin = first_index to origin (length (log_at state origin)) (known_at state to origin) (slice_index given origin)
 
 -- the numbers of its origins
 abbrev pub origins_of : State → List ℕ

@@ -1,34 +1,29 @@
 -- What is shown of a replica: what it has of each origin, its clock, and what is committed and tentative of the writes that it has.
-use Rattle.std.specs.Prelude.{ℕ, ◌==◌, Bool, nat_le, List, [], ◌∷◌, ◌++◌, length, map, slice_index_or, codes, decimal, Option, None, Some, if◌then◌else◌}
-use Rattle.std.specs.List.{flat_map, last_or, range_with_len}
-use Rattle.std.specs.declared.cmp.Ordering.{Ordering}
-use Rattle.std.specs.Ordering.{nat_cmp, ordering_then, is_lt}
-use Rattle.tact_base.specs.Covers.{no_cover, least_of}
-use Rattle.tact_base.specs.WriteOrder.{in_order, committed_to, tentative_past}
+use Rattle.std.specs.Prelude.{ℕ, Bool, nat_le, List, [], ◌∷◌, ◌++◌, length, map, codes, decimal, Option, None, Some, if◌then◌else◌}
+use Rattle.std.specs.List.{flat_map, last_or}
+use Rattle.std.specs.Ordering.{is_lt}
+use Rattle.tact_base.specs.Covers.{least_of}
+use Rattle.tact_base.specs.WriteOrder.{place_cmp, write_place, in_order, committed_to, tentative_past}
+use Rattle.tact_base.specs.declared.write.Place.{Place}
 use Rattle.tact_base.specs.declared.write.Write.{Write}
 use Rattle.run_model.specs.ScriptRuns.{comment, place_token}
-use Rattle.script_run.specs.declared.seat.Seat.{Seat}
-use Rattle.script_run.specs.declared.show.Place.{Place}
-
--- the log that a replica has of an origin
-abbrev pub log_at : Seat → ℕ → List Write
-log_at seat origin = slice_index_or seat.logs.items origin []
+use Rattle.script_run.specs.Seats.{State, log_at, origins_of, cover_told}
 
 -- the writes of all logs
-abbrev pub writes_at : Seat → List Write
-writes_at seat = flat_map (log_at seat) (range_with_len 0 seat.replicas)
+abbrev pub writes_at : State → List Write
+writes_at state = flat_map (log_at state) (origins_of state)
 
 -- how many writes of each origin it has
-abbrev pub haves_at : Seat → List ℕ
-haves_at seat = map (λ origin. length (log_at seat origin)) (range_with_len 0 seat.replicas)
+abbrev pub haves_at : State → List ℕ
+haves_at state = map (λ origin. length (log_at state origin)) (origins_of state)
 
--- the stamp of its cover of an origin: of itself its clock
-abbrev pub stamp_at : Seat → ℕ → ℕ
-stamp_at seat origin = if origin == seat.replica then seat.clock else (slice_index_or seat.covers.items origin no_cover).stamp
+-- the stamp of its cover of an origin
+abbrev pub stamp_at : State → ℕ → ℕ
+stamp_at state origin = (cover_told state 0 origin).stamp
 
 -- the least stamp over the covers of all replicas
-abbrev pub point_at : Seat → ℕ
-point_at seat = least_of (map (stamp_at seat) (range_with_len 0 seat.replicas))
+abbrev pub point_at : State → ℕ
+point_at state = least_of (map (stamp_at state) (origins_of state))
 
 -- what of these writes is committed at a point, and what is tentative
 unfoldable pub writes_tokens : ℕ → List Write → List (List ℕ)
@@ -44,15 +39,8 @@ shown_text replica haves clock point writes =
     ++ codes "clock" ∷ decimal clock ∷ codes "point" ∷ decimal point ∷ writes_tokens point writes)
 
 -- and of this one
-abbrev pub seat_text : Seat → List ℕ
-seat_text seat = shown_text seat.replica (haves_at seat) seat.clock (point_at seat) (writes_at seat)
-
--- the place of a write in the order of all writes
-abbrev pub place_of : Write → Place
-place_of write = record { stamp = write.stamp; origin = write.origin; index = write.index }
-
-abbrev pub place_cmp : Place → Place → Ordering
-place_cmp a b = ordering_then (nat_cmp a.stamp b.stamp) (ordering_then (nat_cmp a.origin b.origin) (nat_cmp a.index b.index))
+abbrev pub state_text : State → List ℕ
+state_text state = shown_text state.replica (haves_at state) state.clock (point_at state) (writes_at state)
 
 -- whether the first place comes before the second
 abbrev pub place_before : Place → Place → Bool
@@ -65,4 +53,4 @@ later_place (Some last) place = Some (if place_before last place then place else
 
 -- the last place so far after one more write, which counts up to the point
 abbrev pub later_to : ℕ → Option Place → Write → Option Place
-later_to point last write = if nat_le write.stamp point then later_place last (place_of write) else last
+later_to point last write = if nat_le write.stamp point then later_place last (write_place write) else last

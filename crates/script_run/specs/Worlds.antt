@@ -45,7 +45,7 @@ abbrev pub MayStep : World → Line → Type 0
 MayStep world line = NamesOnly world.config.replicas line × TakesThere world line
 
 -- a world in which the messages of these lines were sent
-pub record Stands (world : World) (lines : List Line) : Type 0 where
+pub record HasSent (world : World) (lines : List Line) : Type 0 where
   pub world_is : IsWorld world
   pub setup : world.config ≡ setup_of lines
   pub sent : sent_counts world ≡ map length (sent_by lines)
@@ -61,7 +61,7 @@ pub record Plays (world : World) (played : Played) : Type 0 where
   pub count : world.count ≡ length played.history
 
 -- a history in which all happens at moment 0, within the limits and without loans
-pub record IsEarly (history : List Entry) : Type 0 where
+pub record IsPlain (history : List Entry) : Type 0 where
   pub few : length history < STAMP_MAX
   pub moments : (k : ℕ) → last_moment (part_of history k) ≡ 0
   pub room : (k : ℕ) → HasRoom (part_of history k)
@@ -85,13 +85,13 @@ IsTakeDue from number history did =
 abbrev pub with_act : List Entry → ℕ → Act → List Entry
 with_act history replica did = history ++ record { replica = replica; moment = 0; act = did } ∷ []
 
--- what a replica did was due, and with it the world stands for each early history that it stood for
+-- what a replica did was due, and with it the world stands for each plain history that it stood for
 abbrev pub GoesOn : World → World → ℕ → Act → (List Entry → Act → Type 0) → Type 0
 GoesOn old new replica did IsDue =
-    (history : List Entry) → IsEarly history → StandsFor old history → IsDue history did × StandsFor new (with_act history replica did)
+    (history : List Entry) → IsPlain history → StandsFor old history → IsDue history did × StandsFor new (with_act history replica did)
 
 -- a line was done: the world plays on, and the text got what the line prints
 abbrev pub Steps : World → World → Line → List ℕ → List ℕ → Type 0
 Steps old new line text text' =
-    (played : Played) → played.handed ≡ 0 → IsEarly played.history → Plays old played
+    (played : Played) → played.handed ≡ 0 → IsPlain played.history → Plays old played
     → Plays new (after_line old.config played line) × (text' ≡ text ++ text_after old.config played line)

@@ -1,6 +1,7 @@
-//! Why a line wasn't read.
+//! Why a line wasn't read, and why a text isn't read as a script.
 ghost use Rattle.std.specs.Prelude.{◌≡◌};
-ghost use Rattle.script_run.specs.declared.fault.LineFault.TheVariants.{NoMemory as OutOfMemory, Kind};
+ghost use Rattle.script_run.specs.declared.fault.LineFault.TheVariants as line;
+ghost use Rattle.script_run.specs.declared.fault.ScriptFault.TheVariants as script;
 
 use run_model::LineKind;
 use tact_base::NoMemory;
@@ -15,7 +16,7 @@ pub(crate) enum LineFault {
 }
 
 impl From<NoMemory> for LineFault {
-    ghost from_gives = { λ _ fault. fault ≡ OutOfMemory };
+    ghost from_gives = { λ _ fault. fault ≡ line.NoMemory };
 
     fn from(_: NoMemory) -> Self {
         LineFault::NoMemory
@@ -23,9 +24,26 @@ impl From<NoMemory> for LineFault {
 }
 
 impl From<LineKind> for LineFault {
-    ghost from_gives = { λ kind fault. fault ≡ Kind kind };
+    ghost from_gives = { λ kind fault. fault ≡ line.Kind kind };
 
     fn from(kind: LineKind) -> Self {
         LineFault::Kind(kind)
+    }
+}
+
+/// Why a text isn't read as a script.
+#[derive(Clone, Copy, Debug, PartialEq, Eq)]
+pub enum ScriptFault {
+    /// The first line at fault, counted from 1, and its first fault.
+    Bad { place: u64, kind: LineKind },
+    /// Want of memory.
+    NoMemory,
+}
+
+impl From<NoMemory> for ScriptFault {
+    ghost from_gives = { λ _ fault. fault ≡ script.NoMemory };
+
+    fn from(_: NoMemory) -> Self {
+        ScriptFault::NoMemory
     }
 }

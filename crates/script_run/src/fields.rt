@@ -2,12 +2,13 @@
 //! is left after it.
 ghost use Rattle.std.specs.Prelude.{◌≡◌, ◌≢◌, ◌-◌, ◌<◌, ◌≤◌, ◌^◌, IfOk, unsigned_abs};
 ghost use Rattle.tact_base.specs.Numbers.{whole_number, whole_signed};
+ghost use Rattle.tact_base.specs.declared.limits.TheConstants.{CLIENTS};
 ghost use Rattle.run_model.specs.Ranges.{IsOpInRange};
-ghost use Rattle.script_run.specs.Cutting.{tokens};
+ghost use Rattle.script_run.specs.Splitting.{tokens};
 ghost use Rattle.script_run.specs.Fields.{Gives, token_at, in_line, number_at, count_at, signed_at, replica_at, other_replica_at, client_at, put_at, add_at, shift_at, op_at, end_at};
 
-use crate::cutting::next_token;
 use crate::fault::LineFault;
+use crate::splitting::next_token;
 use run_model::LineKind;
 use tact_base::{CLIENTS, KEY_MAX, Op, TokenFault, VALUE_MAX, whole_number, whole_signed};
 
@@ -106,7 +107,7 @@ pub(crate) fn other_replica_at(
 }
 
 pub(crate) fn client_at(rest: &[u8]) -> Result<(u32, &[u8]), LineFault>
-    ensures within { IfOk result (λ x. x.0 < 8) }
+    ensures within { IfOk result (λ x. x.0 < CLIENTS) }
     ensures client { Gives (λ x. (x.0, tokens x.1.now)) result (client_at (tokens rest.now)) }
 {
     let (number, rest) = number_at(rest, u64::from(CLIENTS - 1))?;

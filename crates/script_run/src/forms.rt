@@ -1,10 +1,11 @@
 //! The forms of a script's lines. Each reader is given what is left of the line after its first word.
 ghost use Rattle.std.specs.Prelude.{◌≡◌, ◌<◌, ◌≤◌, [], ◌∷◌, ◌++◌, ◌==◌, false, length, OnOk, IfOk, Ok, Err, replicate, if◌then◌else◌};
 ghost use Rattle.std.specs.List.{flat_map, range_with_len};
+ghost use Rattle.tact_base.specs.declared.limits.TheConstants.{CONITS_MAX, REPLICAS_MAX};
 ghost use Rattle.tact_base.specs.Setup.{IsSetup};
 ghost use Rattle.script_run.specs.Scripts.{IsScript};
 ghost use Rattle.run_model.specs.declared.status.LineKind.TheVariants.{LoansOver};
-ghost use Rattle.script_run.specs.Cutting.{tokens};
+ghost use Rattle.script_run.specs.Splitting.{tokens};
 ghost use Rattle.script_run.specs.Fields.{Gives};
 ghost use Rattle.script_run.specs.Forms.{opening, opening_row, opening_loans, is_over, setup_of, start_at, write_at, send_at, take_at, show_at, NamesOnly};
 
@@ -15,17 +16,6 @@ use std::alloc::Global;
 use tact_base::{
     ALPHA_MAX, AMOUNT_MAX, CONITS_MAX, NoMemory, Numbers, REPLICAS_MAX, REPLICAS_MIN, Weights,
 };
-
-// A list of so many equal numbers.
-pub(crate) fn copies(alloc: Global, count: u32, number: u64) -> Result<Numbers, NoMemory>
-    ensures { IfOk result (λ list. list ≡ replicate count number) }
-{
-    let mut list = Numbers::new(alloc);
-    for _ in 0..count {
-        list.push(number)?;
-    }
-    Ok(list)
-}
 
 // What an owner lends to a holder: nothing to itself.
 fn loan_to(loan: u64, owner: u32, holder: u32) -> u64
@@ -79,13 +69,13 @@ pub(crate) fn opening(
     alpha: u64,
     loan: u64,
 ) -> Result<Config, LineFault>
-    requires few_replicas { replicas ≤ 8 }
-    requires few_conits { conits ≤ 16 }
+    requires few_replicas { replicas ≤ REPLICAS_MAX }
+    requires few_conits { conits ≤ CONITS_MAX }
     ensures ok { IfOk result (λ config. config ≡ opening replicas conits alpha loan) }
     ensures sound { OnOk result (IsSetup (opening replicas conits alpha loan)) }
     ensures fault { Gives (λ _. false) result (if is_over replicas conits alpha loan then Err LoansOver else Ok false) }
 {
-    let alphas = copies(alloc, replicas * conits, alpha)?;
+    let alphas = Numbers::filled(alloc, alpha, replicas * conits)?;
     let loans = opening_loans(alloc, replicas, conits, loan)?;
     match Config::new(alloc, replicas, conits, alphas.items(), loans.items()) {
         Ok(config) => Ok(config),
@@ -156,7 +146,7 @@ pub(crate) fn send_at(alloc: Global, rest: &[u8], replicas: u32) -> Result<Line,
     let (from, rest) = replica_at(rest, replicas)?;
     let (to, rest) = other_replica_at(rest, replicas, from)?;
     end_at(rest, LineKind::NotBuilt)?;
-    let firsts = copies(alloc, replicas, 0)?;
+    let firsts = Numbers::filled(alloc, 0, replicas)?;
     Ok(Line::Send { from, to, firsts })
 }
 

@@ -2,21 +2,20 @@
 ghost use Rattle.std.specs.Prelude.{◌≡◌, ◌≤◌, ◌⊎◌, [], ◌∷◌, ◌++◌, length, replicate, IfOk, OnOk};
 ghost use Rattle.run_model.specs.ScriptRuns.{not_played, played_by, lines_text, play_text};
 ghost use Rattle.run_model.specs.declared.status.Status.TheVariants.{Done, NoMemory as OutOfMemory};
+ghost use Rattle.tact_base.specs.declared.limits.TheConstants.{SCRIPT_LINES};
 ghost use Rattle.tact_io.specs.Faults.{HasRisen};
 ghost use Rattle.script_run.specs.Forms.{setup_of};
 ghost use Rattle.script_run.specs.Playing.{Completes, HasCause, IsWritten, Writes, WritesText};
 ghost use Rattle.script_run.specs.Scripts.{IsScript};
-ghost use Rattle.script_run.specs.Worlds.{IsWorld, Plays, Stands, sent_counts};
+ghost use Rattle.script_run.specs.Worlds.{IsWorld, Plays, HasSent, sent_counts};
 
-use crate::script::{Script, ScriptFault, parse_script};
+use crate::fault::ScriptFault;
+use crate::script::{Script, parse_script};
 use crate::world::World;
 use run_model::{InputKind, Line, Status, end_of, head_of};
 use std::alloc::Global;
-use tact_base::{Bytes, NoMemory};
+use tact_base::{Bytes, INPUT_MAX, NoMemory};
 use tact_io::{OutFault, ReadEnd, Sink, Source, read_all, write_all};
-
-/// The greatest length of an input, in bytes.
-pub const INPUT_MAX: u64 = 67_108_864;
 
 /// Reads a script to its end, runs it, and writes the text of the run: the lines that a record begins
 /// with, for each line of the script what it prints, and the line with the count of entries.
@@ -75,7 +74,7 @@ fn written<K: Sink>(sink: &mut K, text: &[u8]) -> Status
 // The text of the script's run.
 fn text_of(alloc: Global, script: &Script) -> Result<Bytes, NoMemory>
     requires script { IsScript script.now }
-    requires few { length script.now ≤ 10000 }
+    requires few { length script.now ≤ SCRIPT_LINES }
     ensures { IfOk result (λ text. text ≡ play_text (setup_of script.now) script.now) }
 {
     let mut text = Bytes::new(alloc);
@@ -89,7 +88,7 @@ fn text_of(alloc: Global, script: &Script) -> Result<Bytes, NoMemory>
 // Does what the lines of a script say, in a world in which nothing has happened.
 fn run_script(world: &mut World, lines: &[Line], text: &mut Bytes) -> Result<(), NoMemory>
     requires script { IsScript lines.now }
-    requires few { length lines.now ≤ 10000 }
+    requires few { length lines.now ≤ SCRIPT_LINES }
     requires world { IsWorld world.old }
     requires config { world.old.config ≡ setup_of lines.now }
     requires sent { sent_counts world.old ≡ replicate world.old.config.replicas 0 }
@@ -114,9 +113,9 @@ fn run_lines(
     text: &mut Bytes,
 ) -> Result<(), NoMemory>
     requires script { IsScript (first.now ∷ later.now) }
-    requires world { Stands world.old (first.now ∷ []) }
+    requires world { HasSent world.old (first.now ∷ []) }
     requires plays { Plays world.old not_played }
-    requires few { length (first.now ∷ later.now) ≤ 10000 }
+    requires few { length (first.now ∷ later.now) ≤ SCRIPT_LINES }
     ensures plays { OnOk result (Plays world.new (played_by (setup_of (first.now ∷ later.now)) (first.now ∷ later.now))) }
     ensures text { OnOk result (text.new ≡ text.old ++ lines_text (setup_of (first.now ∷ later.now)) not_played (first.now ∷ later.now)) }
 {

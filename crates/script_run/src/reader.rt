@@ -3,28 +3,22 @@ ghost use Rattle.std.specs.Prelude.{◌≡◌, ◌+◌, ◌<◌, ◌≤◌, ℕ,
 ghost use Rattle.run_model.specs.declared.status.LineKind.{LineKind};
 ghost use Rattle.std.specs.List.{list_any};
 ghost use Rattle.std.specs.Option.{option_map};
+ghost use Rattle.tact_base.specs.declared.limits.TheConstants.{SCRIPT_LINES};
 ghost use Rattle.run_model.specs.declared.script_line.Line.{Line};
-ghost use Rattle.script_run.specs.Cutting.{tokens, raw_lines};
+ghost use Rattle.script_run.specs.Splitting.{tokens, raw_lines};
 ghost use Rattle.script_run.specs.Fields.{Gives, Fails};
 ghost use Rattle.script_run.specs.Forms.{first_at, later_at, of_whole, sent_after, sent_by, setup_of, NamesOnly};
 ghost use Rattle.script_run.specs.Scripts.{is_bad_byte, is_comment, fault_of, is_skipped, later_line, line_after, with_line, lines_after, begun_by, read_from, goes_on, script_of, IsAddressed, FitsAfter, IsReading, IsScript, Reads};
 
-use crate::cutting::{next_token, split_first};
-use crate::fault::LineFault;
+use crate::fault::{LineFault, ScriptFault};
 use crate::fields::token_at;
 use crate::forms::{send_at, show_at, start_at, take_at, write_at};
-use crate::script::ScriptFault;
 use crate::sent::Sent;
+use crate::splitting::{next_token, split_first};
 use crate::word::{Word, word_of};
 use run_model::{Config, Line, LineKind};
 use std::alloc::Global;
-use tact_base::{Items, NoMemory};
-
-/// The greatest count of a script's lines.
-const SCRIPT_LINES: u64 = 10_000;
-
-/// The greatest length of a line in bytes, without the line end.
-const LINE_MAX: usize = 400;
+use tact_base::{Items, LINE_MAX, NoMemory, SCRIPT_LINES};
 
 /// The lines of a script so far, the setup that the first made, and the messages that they sent.
 #[derive(Drop)]
@@ -37,7 +31,7 @@ pub(crate) struct Reader {
 // What is judged of every line, whatever it says.
 #[tactic(auto, unfolding(crate::specs::Scripts::fault_of))]
 fn fault_of(number: u64, raw: &[u8]) -> Option<LineKind>
-    ensures few { IfNone result (number ≤ 10000) }
+    ensures few { IfNone result (number ≤ SCRIPT_LINES) }
     ensures fault { result ≡ fault_of number raw.now }
 {
     if number > SCRIPT_LINES {
@@ -200,10 +194,10 @@ fn add_line(reader: &mut Reader, line: Line) -> Result<(), NoMemory>
 
 // One more line of the text, after those that were read.
 #[tactic(auto, unfolding(crate::specs::Scripts::lines_after, crate::specs::Scripts::with_line))]
-fn one_more(reader: &mut Reader, alloc: Global, number: u64, raw: &[u8]) -> Result<(), LineFault>
+fn read_line(reader: &mut Reader, alloc: Global, number: u64, raw: &[u8]) -> Result<(), LineFault>
     requires { IsReading reader.old }
     ensures reading { OnOk result (IsReading reader.new) }
-    ensures few { OnOk result (number ≤ 10000) }
+    ensures few { OnOk result (number ≤ SCRIPT_LINES) }
     ensures grows { OnOk result (length reader.new.lines ≤ length reader.old.lines + 1) }
     ensures read { Gives (λ _. reader.new.lines) result (lines_after number reader.old.lines raw.now) }
 {
@@ -222,7 +216,7 @@ fn one_more(reader: &mut Reader, alloc: Global, number: u64, raw: &[u8]) -> Resu
 // skipped too.
 #[tactic(auto, unfolding(crate::specs::Scripts::lines_after, crate::specs::Scripts::with_line, crate::specs::Scripts::line_after))]
 fn first_line(alloc: Global, number: u64, raw: &[u8]) -> Result<Option<(Line, Config)>, LineFault>
-    ensures few { OnOk result (number ≤ 10000) }
+    ensures few { OnOk result (number ≤ SCRIPT_LINES) }
     ensures begun { IfOk result (λ found. IfSome found (λ x. (x.1 ≡ setup_of (x.0 ∷ [])) × IsScript (x.0 ∷ []))) }
     ensures read { Gives (λ found. begun_by (option_map (λ x. x.0) found)) result (lines_after number [] raw.now) }
 {
@@ -255,9 +249,9 @@ fn begun(alloc: Global, line: Line, config: Config) -> Result<Reader, NoMemory>
 
 /// The reader that the text begins, the number of the line after it, and what is left of the text.
 #[tactic(auto, unfolding(crate::specs::Scripts::script_of))]
-pub(crate) fn begin(alloc: Global, bytes: &[u8]) -> Result<(Reader, u64, &[u8]), ScriptFault>
+pub(crate) fn read_first(alloc: Global, bytes: &[u8]) -> Result<(Reader, u64, &[u8]), ScriptFault>
     ensures reading { IfOk result (λ x. IsReading x.0) }
-    ensures few { IfOk result (λ x. x.1 ≤ 10001) }
+    ensures few { IfOk result (λ x. x.1 ≤ SCRIPT_LINES + 1) }
     ensures lines { IfOk result (λ x. length x.0.lines < x.1) }
     ensures ok { IfOk result (λ x. read_from x.1 x.0.lines (raw_lines x.2.now) ≡ script_of bytes.now) }
     ensures err { IfErr result (λ fault. Reads (Err fault) (script_of bytes.now)) }
@@ -284,17 +278,17 @@ pub(crate) fn begin(alloc: Global, bytes: &[u8]) -> Result<(Reader, u64, &[u8]),
 }
 
 /// Reads what is left of the text, whose first line has this number.
-pub(crate) fn go_on(
+pub(crate) fn read_later(
     reader: &mut Reader,
     alloc: Global,
     first: u64,
     text: &[u8],
 ) -> Result<(), ScriptFault>
     requires reading { IsReading reader.old }
-    requires few { first ≤ 10001 }
+    requires few { first ≤ SCRIPT_LINES + 1 }
     requires lines { length reader.old.lines < first }
     ensures reading { OnOk result (IsReading reader.new) }
-    ensures few { OnOk result (length reader.new.lines ≤ 10000) }
+    ensures few { OnOk result (length reader.new.lines ≤ SCRIPT_LINES) }
     ensures ok { OnOk result (read_from first reader.old.lines (raw_lines text.now) ≡ Ok reader.new.lines) }
     ensures err { IfErr result (λ fault. Reads (Err fault) (read_from first reader.old.lines (raw_lines text.now))) }
 {
@@ -302,7 +296,7 @@ pub(crate) fn go_on(
     let mut number = first;
     while !rest.is_empty() {
         let (raw, after) = split_first(rest, b'\n');
-        match one_more(reader, alloc, number, raw) {
+        match read_line(reader, alloc, number, raw) {
             Err(fault) => return Err(at_line(number, fault)),
             Ok(()) => {}
         }

@@ -1,31 +1,15 @@
-//! Scripts and their reader.
+//! Scripts: their setup and their lines.
 ghost use Rattle.std.specs.Prelude.{◌≡◌, ◌≤◌, length, IfOk};
-ghost use Rattle.script_run.specs.declared.script.ScriptFault.TheVariants.{NoMemory as OutOfMemory};
+ghost use Rattle.tact_base.specs.declared.limits.TheConstants.{SCRIPT_LINES};
 ghost use Rattle.script_run.specs.Forms.{setup_of};
 ghost use Rattle.script_run.specs.Scripts.{script_of, IsScript, Reads};
 
-use crate::reader::{Reader, begin, go_on};
-use run_model::{Config, Line, LineKind};
+use crate::fault::ScriptFault;
+use crate::reader::{Reader, read_first, read_later};
+use run_model::{Config, Line};
 use std::alloc::Global;
 use std::marker::Model;
-use tact_base::{Items, NoMemory};
-
-/// Why a text isn't read as a script.
-#[derive(Clone, Copy, Debug, PartialEq, Eq)]
-pub enum ScriptFault {
-    /// The first line at fault, counted from 1, and its first fault.
-    Bad { place: u64, kind: LineKind },
-    /// Want of memory.
-    NoMemory,
-}
-
-impl From<NoMemory> for ScriptFault {
-    ghost from_gives = { λ _ fault. fault ≡ OutOfMemory };
-
-    fn from(_: NoMemory) -> Self {
-        ScriptFault::NoMemory
-    }
-}
+use tact_base::Items;
 
 /// A script: its setup, and its lines that aren't skipped, the `start` line first.
 #[derive(Debug, Drop)]
@@ -66,11 +50,11 @@ impl Script {
 /// line's first fault.
 pub fn parse_script(alloc: Global, bytes: &[u8]) -> Result<Script, ScriptFault>
     ensures script { IfOk result IsScript }
-    ensures few { IfOk result (λ script. length script ≤ 10000) }
+    ensures few { IfOk result (λ script. length script ≤ SCRIPT_LINES) }
     ensures read { Reads result (script_of bytes.now) }
 {
-    let (mut reader, number, rest) = begin(alloc, bytes)?;
-    go_on(&mut reader, alloc, number, rest)?;
+    let (mut reader, number, rest) = read_first(alloc, bytes)?;
+    read_later(&mut reader, alloc, number, rest)?;
     let Reader {
         config,
         lines,

@@ -1,6 +1,7 @@
 //! A replica as plain lists: what it has of each origin, and what it knows of its peers.
 ghost use Rattle.std.specs.Prelude.{◌≡◌, ◌*◌, ◌+◌, ◌<◌, ◌≤◌, max, List, [], ◌∷◌, ◌++◌, length, map, take, drop, vec_len, slice_index, slice_set, IfOk, OnOk, OnErr};
 ghost use Rattle.tact_base.specs.Covers.{cover_after};
+ghost use Rattle.tact_base.specs.declared.limits.TheConstants.{CLIENTS, REPLICAS_MAX};
 ghost use Rattle.run_model.specs.Histories.{greatest, calls_in};
 ghost use Rattle.run_model.specs.Taking.{have, clock};
 ghost use Rattle.run_model.specs.declared.call.Request.TheVariants as request;
@@ -10,7 +11,10 @@ ghost use Rattle.run_model.specs.declared.entry.Entry.{Entry};
 
 use run_model::{Act, Reply, Request};
 use std::alloc::Global;
-use tact_base::{Cover, NoMemory, Op, Weights, Write, WriteList};
+use tact_base::{CLIENTS, Cover, NoMemory, Op, Weights, Write, WriteList};
+
+/// How many clients a replica has, as a length.
+const CLIENT_COUNT: usize = CLIENTS as usize;
 
 /// The state of one replica.
 #[derive(Drop)]
@@ -26,25 +30,26 @@ pub(crate) struct Seat {
     known: Vec<u64>,
     clock: u64,
     /// By client, how many calls it made.
-    calls: [u64; 8],
+    calls: [u64; CLIENT_COUNT],
     /// How many messages it sent.
     sends: u64,
     /// The moment of its last entry.
     last: u64,
-    ghost few: { replicas ≤ 8 },
+    ghost few: { replicas ≤ REPLICAS_MAX },
     ghost among: { replica < replicas },
     ghost logs_sized: { vec_len logs ≡ replicas },
     ghost covers_sized: { vec_len covers ≡ replicas },
     ghost known_sized: { vec_len known ≡ replicas * replicas },
-    ghost calls_sized: { length calls ≡ 8 },
+    ghost calls_sized: { length calls ≡ CLIENTS },
 }
 
 impl Seat {
-    ghost use Rattle.script_run.specs.Seats.{state_of, log_at, SeatStands, SameSize, cover_at, known_at, cover_told, one_more, HasRoom, StandsWith};
+    ghost use Rattle.tact_base.specs.Counts.{one_more};
+    ghost use Rattle.script_run.specs.Seats.{state_of, log_at, SeatStands, SameSize, cover_at, known_at, cover_told, HasRoom, StandsWith};
 
     /// A replica that has done nothing.
     pub(crate) fn new(alloc: Global, replica: u32, replicas: u32) -> Result<Self, NoMemory>
-        requires few { replicas ≤ 8 }
+        requires few { replicas ≤ REPLICAS_MAX }
         requires among { replica < replicas }
         ensures size { IfOk result (λ seat. (seat.replica ≡ replica) × (seat.replicas ≡ replicas)) }
         ensures stands { IfOk result (SeatStands replica []) }
@@ -60,17 +65,10 @@ impl Seat {
             covers: vec![in alloc; Cover::default(); replicas as usize]?,
             known: vec![in alloc; 0; (replicas * replicas) as usize]?,
             clock: 0,
-            calls: [0; 8],
+            calls: [0; CLIENT_COUNT],
             sends: 0,
             last: 0,
         })
-    }
-
-    /// The moment of its next entry, where this one is handed.
-    pub(crate) fn moment_at(&self, handed: u64) -> u64
-        ensures { result ≡ max handed self.now.last }
-    {
-        handed.max(self.last)
     }
 
     /// How many writes of an origin it has.
@@ -80,9 +78,6 @@ impl Seat {
     {
         self.logs[origin as usize].len() as u64
     }
-}
-
-impl Seat {
 
     /// Its number.
     pub(crate) fn replica(&self) -> u32
@@ -146,7 +141,7 @@ impl Seat {
     }
 
     /// At most so many writes of an origin from the first on.
-    pub(crate) fn stretch(&self, origin: u32, first: u64, most: usize) -> &[Write]
+    pub(crate) fn writes_from(&self, origin: u32, first: u64, most: usize) -> &[Write]
         requires { origin < self.now.replicas }
         ensures { result.now ≡ take most (drop first (log_at (state_of self.now) origin)) }
     {
@@ -224,7 +219,7 @@ impl Seat {
         op: Op,
         weights: Weights,
     ) -> Result<Act, NoMemory>
-        requires { client < 8 }
+        requires { client < CLIENTS }
         ensures same { SameSize self.old self.new }
         // the call has the next number, and its write the next index and the next stamp
         ensures due { IfOk result (λ done. (part : List Entry) → SeatStands self.old.replica part self.old → HasRoom part
@@ -262,11 +257,8 @@ impl Seat {
 fn cover_after(have: u64, kept: Cover, told: Cover) -> Cover
     ensures { result ≡ cover_after have kept told }
 {
-    let is_later = kept.count <= told.count
-        && kept.stamp <= told.stamp
-        && kept.moment <= told.moment;
-    if told.count <= have && is_later {
-        told
+    if told.count <= have {
+        kept.later(told)
     } else {
         kept
     }

@@ -2,33 +2,16 @@
 ghost use Rattle.std.specs.Prelude.{◌≡◌, ◌<◌, ◌≤◌, ◌^◌, ◌∷◌, ◌++◌, [], length, map, fold, codes, decimal, None, OnOk, OnErr};
 ghost use Rattle.std.specs.List.{last_or};
 ghost use Rattle.std.specs.Option.{option_map};
-ghost use Rattle.tact_base.specs.WriteOrder.{in_order, committed_to, tentative_past};
+ghost use Rattle.tact_base.specs.WriteOrder.{write_place, in_order, committed_to, tentative_past};
 ghost use Rattle.run_model.specs.ScriptRuns.{place_token};
 ghost use Rattle.run_model.specs.Text.{spaced, BeginsWith};
+ghost use Rattle.script_run.specs.Seats.{log_at, state_of};
 ghost use Rattle.script_run.specs.Shown as shown;
 
 use crate::seat::Seat;
 use run_model::{all_or_nothing, put_number, put_row, put_token};
 use std::mem::size_of_val;
-use tact_base::{Bytes, NoMemory, Write, print_number};
-
-/// The place of a write in the order of all writes.
-#[derive(Clone, Copy, PartialEq, Eq, PartialOrd, Ord)]
-struct Place {
-    stamp: u64,
-    origin: u32,
-    index: u64,
-}
-
-fn place_of(write: &Write) -> Place
-    ensures { result ≡ shown.place_of write.now }
-{
-    Place {
-        stamp: write.stamp,
-        origin: write.origin,
-        index: write.index,
-    }
-}
+use tact_base::{Bytes, NoMemory, Place, Write, print_number};
 
 // The later of two places, of which the first may be missing.
 fn later_place(last: Option<Place>, place: Place) -> Option<Place>
@@ -43,7 +26,7 @@ fn later_place(last: Option<Place>, place: Place) -> Option<Place>
 // The log of an origin. It lies in memory, where a write takes 16 bytes and more.
 fn log_of(seat: &Seat, origin: u32) -> &[Write]
     requires { origin < seat.now.replicas }
-    ensures log { result.now ≡ shown.log_at seat.now origin }
+    ensures log { result.now ≡ log_at (state_of seat.now) origin }
     ensures few { length result.now < 2 ^ 60 }
 {
     let log = seat.log(origin);
@@ -66,7 +49,7 @@ fn last_of(log: &[Write], point: u64, last: Option<Place>) -> Option<Place>
     let mut last = last;
     for write in log {
         if write.stamp <= point {
-            last = later_place(last, place_of(write));
+            last = later_place(last, write.place());
         }
     }
     last
@@ -74,7 +57,7 @@ fn last_of(log: &[Write], point: u64, last: Option<Place>) -> Option<Place>
 
 /// The least stamp over the covers of all replicas.
 fn point(seat: &Seat) -> u64
-    ensures { result ≡ shown.point_at seat.now }
+    ensures { result ≡ shown.point_at (state_of seat.now) }
 {
     let mut point = seat.clock();
     for origin in 0..seat.replicas() {
@@ -85,7 +68,7 @@ fn point(seat: &Seat) -> u64
 
 /// How many writes a replica has.
 fn count_all(seat: &Seat) -> u64
-    ensures { result ≡ length (shown.writes_at seat.now) }
+    ensures { result ≡ length (shown.writes_at (state_of seat.now)) }
 {
     let mut count = 0;
     for origin in 0..seat.replicas() {
@@ -96,7 +79,7 @@ fn count_all(seat: &Seat) -> u64
 
 /// How many of them are committed up to the point.
 fn count_committed(seat: &Seat, point: u64) -> u64
-    ensures { result ≡ length (committed_to point (in_order (shown.writes_at seat.now))) }
+    ensures { result ≡ length (committed_to point (in_order (shown.writes_at (state_of seat.now)))) }
 {
     let mut count = 0;
     for origin in 0..seat.replicas() {
@@ -107,7 +90,7 @@ fn count_committed(seat: &Seat, point: u64) -> u64
 
 /// The place of the last of these.
 fn last_committed(seat: &Seat, point: u64) -> Option<Place>
-    ensures { result ≡ option_map shown.place_of (last_or None (committed_to point (in_order (shown.writes_at seat.now)))) }
+    ensures { result ≡ option_map write_place (last_or None (committed_to point (in_order (shown.writes_at (state_of seat.now))))) }
 {
     let mut last = None;
     for origin in 0..seat.replicas() {
@@ -118,7 +101,7 @@ fn last_committed(seat: &Seat, point: u64) -> Option<Place>
 
 // Appends how many writes of each origin a replica has.
 fn print_haves(seat: &Seat, out: &mut Bytes) -> Result<(), NoMemory>
-    ensures ok { OnOk result (out.new ≡ out.old ++ spaced (map decimal (shown.haves_at seat.now))) }
+    ensures ok { OnOk result (out.new ≡ out.old ++ spaced (map decimal (shown.haves_at (state_of seat.now)))) }
     ensures err { OnErr result (BeginsWith out.old out.new) }
 {
     for origin in 0..seat.replicas() {
@@ -130,7 +113,7 @@ fn print_haves(seat: &Seat, out: &mut Bytes) -> Result<(), NoMemory>
 // Appends which replica it is, and how many writes of each origin it has.
 fn print_logs(seat: &Seat, out: &mut Bytes) -> Result<(), NoMemory>
     ensures ok { OnOk result (out.new ≡ out.old
-        ++ spaced (codes "show" ∷ decimal seat.now.replica ∷ codes "have" ∷ map decimal (shown.haves_at seat.now))) }
+        ++ spaced (codes "show" ∷ decimal seat.now.replica ∷ codes "have" ∷ map decimal (shown.haves_at (state_of seat.now)))) }
     ensures err { OnErr result (BeginsWith out.old out.new) }
 {
     put_row(b"show", &[u64::from(seat.replica())], out)?;
@@ -141,7 +124,7 @@ fn print_logs(seat: &Seat, out: &mut Bytes) -> Result<(), NoMemory>
 // Appends the place of the last committed write.
 fn print_last(seat: &Seat, point: u64, out: &mut Bytes) -> Result<(), NoMemory>
     ensures ok { OnOk result (out.new ≡ out.old
-        ++ spaced (place_token (last_or None (committed_to point (in_order (shown.writes_at seat.now)))) ∷ [])) }
+        ++ spaced (place_token (last_or None (committed_to point (in_order (shown.writes_at (state_of seat.now))))) ∷ [])) }
     ensures err { OnErr result (BeginsWith out.old out.new) }
 {
     match last_committed(seat, point) {
@@ -156,7 +139,7 @@ fn print_last(seat: &Seat, point: u64, out: &mut Bytes) -> Result<(), NoMemory>
 
 // Appends what of the writes of a replica is committed at the point, and what is tentative.
 fn print_writes(seat: &Seat, point: u64, out: &mut Bytes) -> Result<(), NoMemory>
-    ensures ok { OnOk result (out.new ≡ out.old ++ spaced (shown.writes_tokens point (shown.writes_at seat.now))) }
+    ensures ok { OnOk result (out.new ≡ out.old ++ spaced (shown.writes_tokens point (shown.writes_at (state_of seat.now)))) }
     ensures err { OnErr result (BeginsWith out.old out.new) }
 {
     let committed = count_committed(seat, point);
@@ -170,7 +153,7 @@ fn print_writes(seat: &Seat, point: u64, out: &mut Bytes) -> Result<(), NoMemory
 // Appends its clock, its point, and what of its writes is committed and tentative.
 fn print_state(seat: &Seat, out: &mut Bytes) -> Result<(), NoMemory>
     ensures ok { OnOk result (out.new ≡ out.old ++ spaced (codes "clock" ∷ decimal seat.now.clock
-        ∷ codes "point" ∷ decimal (shown.point_at seat.now) ∷ shown.writes_tokens (shown.point_at seat.now) (shown.writes_at seat.now))) }
+        ∷ codes "point" ∷ decimal (shown.point_at (state_of seat.now)) ∷ shown.writes_tokens (shown.point_at (state_of seat.now)) (shown.writes_at (state_of seat.now)))) }
     ensures err { OnErr result (BeginsWith out.old out.new) }
 {
     let point = point(seat);
@@ -180,7 +163,7 @@ fn print_state(seat: &Seat, out: &mut Bytes) -> Result<(), NoMemory>
 }
 
 fn print_seat(seat: &Seat, out: &mut Bytes) -> Result<(), NoMemory>
-    ensures ok { OnOk result (out.new ≡ out.old ++ shown.seat_text seat.now) }
+    ensures ok { OnOk result (out.new ≡ out.old ++ shown.state_text (state_of seat.now)) }
     ensures err { OnErr result (BeginsWith out.old out.new) }
 {
     out.append(b"#")?;
@@ -191,7 +174,7 @@ fn print_seat(seat: &Seat, out: &mut Bytes) -> Result<(), NoMemory>
 
 /// Appends the line that shows a replica, with its line feed. `NoMemory` leaves `out` as it was.
 pub(crate) fn show(seat: &Seat, out: &mut Bytes) -> Result<(), NoMemory>
-    ensures ok { OnOk result (out.new ≡ out.old ++ shown.seat_text seat.now) }
+    ensures ok { OnOk result (out.new ≡ out.old ++ shown.state_text (state_of seat.now)) }
     ensures err { OnErr result (out.new ≡ out.old) }
 {
     let start = out.len();

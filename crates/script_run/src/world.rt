@@ -2,7 +2,8 @@
 ghost use Rattle.std.specs.Prelude.{◌≡◌, ◌+◌, ◌<◌, ◌≤◌, [], ◌∷◌, ◌++◌, length, map, replicate, slice_set, slice_index, slice_index_or, IfOk, OnOk};
 ghost use Rattle.run_model.specs.ScriptRuns.{not_played};
 ghost use Rattle.run_model.specs.Text.{entry_text};
-ghost use Rattle.script_run.specs.Seats.{one_more};
+ghost use Rattle.tact_base.specs.Counts.{one_more};
+ghost use Rattle.tact_base.specs.declared.limits.TheConstants.{CLIENTS};
 ghost use Rattle.script_run.specs.Forms.{NamesOnly};
 
 use crate::seat::Seat;
@@ -119,7 +120,7 @@ impl World {
     ) -> Result<Act, NoMemory>
         requires world { IsWorld self.old }
         requires replica { replica < self.old.config.replicas }
-        requires client { client < 8 }
+        requires client { client < CLIENTS }
         ensures world { OnOk result (IsWorld self.new) }
         ensures config { self.new.config ≡ self.old.config }
         ensures sent { OnOk result (sent_counts self.new ≡ sent_counts self.old) }

@@ -1,5 +1,6 @@
 -- The forms in memory: what they hold, and which of their calls fail.
-use Rattle.std.specs.Prelude.{ℕ, ◌+◌, ◌-◌, ◌^◌, min, List, Contains}
+use Rattle.std.specs.Prelude.{ℕ, List, Contains}
+use Rattle.tact_base.specs.Counts.{one_more}
 
 -- how many calls were made, the numbers from 0 of those that fail, and how many failed
 pub record Schedule : Type 0 where
@@ -24,10 +25,6 @@ unused fails = record { calls = 0; fails = fails; faults = 0 }
 -- the next call fails
 abbrev pub FailsNext : Schedule → Type 0
 FailsNext schedule = Contains schedule.fails schedule.calls
-
--- one more, up to the greatest u64
-abbrev pub one_more : ℕ → ℕ
-one_more count = min (count + 1) (2 ^ 64 - 1)
 
 -- after a call that didn't fail
 abbrev pub after_success : Schedule → Schedule

@@ -2,26 +2,25 @@
 //! with a count of its faults, their forms in memory, and the real edge.
 #![tactic(auto)]
 
+mod edge;
 mod fault;
 mod memory_sink;
 mod memory_source;
-mod read;
+mod reading;
 mod schedule;
 mod sink;
 mod source;
 mod std_sink;
 mod std_source;
-mod write;
+mod writing;
 
+pub use edge::StdStream;
 pub use fault::{Failed, OutFault};
 pub use memory_sink::{MemSink, SureSink};
 pub use memory_source::{MemSource, SureSource};
-pub use read::{ReadEnd, read_all};
+pub use reading::{ReadEnd, read_all};
 pub use sink::Sink;
 pub use source::Source;
 pub use std_sink::StdSink;
 pub use std_source::StdSource;
-pub use write::write_all;
-
-#[cfg(test)]
-mod tests;
+pub use writing::write_all;

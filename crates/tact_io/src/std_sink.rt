@@ -1,34 +1,14 @@
-ghost use Rattle.std.specs.Prelude.{◌≡◌, ◌<◌, ◌≤◌, length, IfOk, OnErr, IsOkUnless};
+ghost use Rattle.std.specs.Prelude.{◌≡◌, ◌<◌, ◌≤◌, length, IfOk, OnOk, OnErr, IsOkUnless};
+ghost use Rattle.tact_base.specs.Counts.{one_more};
 
+use crate::edge::StdStream;
 use crate::{OutFault, Sink};
-use std::marker::Model;
 
-/// Standard output, as a runtime prints to it: what a write answered has left the process. It tells nothing
-/// of what it holds.
-#[derive(Drop)]
-pub struct StdSink<P> {
-    printer: P,
-    faults: u64,
-}
+/// Standard output, as a runtime or a reference to one prints to it: what a write answered has left the
+/// process. It tells nothing of what it holds.
+pub type StdSink<P> = StdStream<P>;
 
-impl<P> Model for StdSink<P> {
-    ghost use Rattle.tact_io.specs.Edge.{Edge};
-
-    ghost Value = { Edge P };
-
-    ghost view = { λ s. record { stream = s.printer; faults = s.faults } };
-}
-
-impl<P: Print> StdSink<P> {
-    /// A sink that prints by `printer`, a runtime or a reference to one.
-    pub fn new(printer: P) -> Self
-        ensures { result ≡ record { stream = printer; faults = 0 } }
-    {
-        StdSink { printer, faults: 0 }
-    }
-}
-
-impl<P: Print> Sink for StdSink<P> {
+impl<P: Print> Sink for StdStream<P> {
     ghost use Rattle.std.specs.Prelude.{None};
     ghost use Rattle.tact_io.specs.Faults.{HasRisen};
 
@@ -42,13 +22,17 @@ impl<P: Print> Sink for StdSink<P> {
         ensures within { IfOk result (λ count. count ≤ length piece.now) }
         ensures moves { IfOk result (λ count. 0 < length piece.now → 0 < count) }
         ensures only_failed { IsOkUnless result OutFault.Failed }
+        ensures ok { OnOk result (self.new.faults ≡ self.old.faults) }
+        ensures err { OnErr result (self.new.faults ≡ one_more self.old.faults) }
+
+        // What each sink ensures of its count.
         ensures never_falls { self.old.faults ≤ self.new.faults }
         ensures failed { OnErr result (HasRisen self.old.faults self.new.faults) }
     {
-        match self.printer.write_some(piece) {
+        match self.stream.write_some(piece) {
             Ok(count) if count > 0 || piece.is_empty() => Ok(count),
             _ => {
-                self.faults = self.faults.saturating_add(1);
+                self.count_fault();
                 Err(OutFault::Failed)
             }
         }

@@ -1,7 +1,7 @@
 use Rattle.std.proofs.Common.{ap, sym, ◌∙◌, subst, length}
 use Rattle.std.proofs.lemmas.Result.{IfOk-weaker}
 use Rattle.tact_base.specs.Setup.{Setup}
-use Rattle.script_run.specs.Cutting.{tokens}
+use Rattle.script_run.specs.Splitting.{tokens}
 use Rattle.script_run.specs.Fields.{Gives}
 use Rattle.script_run.specs.Forms.{NamesOnly}
 use Rattle.script_run.specs.Scripts.{IsAddressed}

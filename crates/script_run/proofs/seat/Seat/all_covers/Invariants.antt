@@ -1,7 +1,6 @@
-use Rattle.std.proofs.Common.{◌≡◌, map}
-use Rattle.std.specs.List.{range_with_len}
 use Rattle.script_run.specs.Seats.{state_of, cover_told}
+use Rattle.script_run.specs.contracts.seat.fn.Seat.all_covers.from_fn as closure
 use Rattle.script_run.proofs.seat.Seat.all_covers.Given as goal
 
-abbrev pub invariant-loop-origin : goal.invariant-loop-origin
-invariant-loop-origin l = l.covers ≡ map (cover_told (state_of l.self) l.moment) (range_with_len 0 l.origin)
+abbrev pub ghost-from_fn : goal.ghost-from_fn
+ghost-from_fn a = let held = closure.captures a.item in cover_told (state_of held.self.now) held.moment

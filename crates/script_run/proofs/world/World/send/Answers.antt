@@ -27,7 +27,7 @@ returns-clause-world c =
     }
 
 pub returns-clause-goes : goal.returns-clause-goes
-returns-clause-goes c = λ history early before.
+returns-clause-goes c = λ history plain before.
     let world = c.args.self.now in
     let r = c.args.from in
     let seat = c.index_mut-seat.result.now in
@@ -35,9 +35,9 @@ returns-clause-goes c = λ history early before.
     let message = c.in_ok-message.message in
     let same : c.in_ok-kept.kept ≡ message = search rules in
     let due : message ≡ message_of world.config seat.replica (part_of history r) 0 c.args.to c.args.firsts.now =
-    c.in_ok-message.ensures.due (part_of history r) (stands_own r seat (part_of history r) here) (early.loans r) in
+    c.in_ok-message.ensures.due (part_of history r) (stands_own r seat (part_of history r) here) (plain.loans r) in
     let sent : c.keep.new.sent.items ≡ set world.sent.items r (get_or world.sent.items r [] ++ message ∷ []) =
     c.in_ok-keep.ensures.kept ∙ ap (λ (m : Message). set world.sent.items r (get_or world.sent.items r [] ++ m ∷ [])) same in (
       ap act.Send (due ∙ ap (λ (k : ℕ). message_of world.config k (part_of history r) 0 c.args.to c.args.firsts.now) here.replica_is),
-      goes_on_sending world _ history before r c.requires.from seat c.index_mut-seat.ensures.value c.send.new.self message early c.in_ok-message.ensures.stands refl c.requires.world.seats.length_is c.requires.world.lists refl sent,
+      goes_on_sending world _ history before r c.requires.from seat c.index_mut-seat.ensures.value c.send.new.self message plain c.in_ok-message.ensures.stands refl c.requires.world.seats.length_is c.requires.world.lists refl sent,
     )

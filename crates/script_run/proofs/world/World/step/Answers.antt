@@ -52,5 +52,5 @@ returns-in-Show-clause-steps c =
     on_ok_weaker c.show.result
     (λ shown. subst (λ (l : Line). Steps old old l text c.show.new.out) (sym line.is)
     (show_steps old text c.show.new.out line.replica
-    (λ played early plays. shown ∙ ap (λ (more : List ℕ). text ++ more) (shows_seat old old played.history plays.stands line.replica r_in seat c.index.ensures (sym size)))))
+    (λ played plain plays. shown ∙ ap (λ (more : List ℕ). text ++ more) (shows_seat old old played.history plays.stands line.replica r_in seat c.index.ensures (sym size)))))
     c.show.ensures.ok

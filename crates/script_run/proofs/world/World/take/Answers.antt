@@ -25,7 +25,7 @@ take-requires c =
     subst (λ k. IsFor k c.in_ok-message.message) (sym size) (subst (IsFor n) (sym same) is_for)
 
 pub returns-clause-goes : goal.returns-clause-goes
-returns-clause-goes c = λ history early before.
+returns-clause-goes c = λ history plain before.
     let world = c.args.self.now in
     let r = c.args.replica in
     let seat = c.index_mut-seat.result.now in
@@ -42,5 +42,5 @@ returns-clause-goes c = λ history early before.
     subst (λ (xs : List Message). slice_get xs c.args.number ≡ Some message) (before.sent c.args.from c.requires.from)
     (slice_get_read (get_or world.sent.items c.args.from []) (length (get_or world.sent.items c.args.from [])) c.args.number message refl below read) in (
       (message, found, refl),
-      goes_on_quiet world _ history before r c.requires.replica seat c.index_mut-seat.ensures.value c.take.new.self _ early c.in_ok-take.ensures.stands refl c.requires.world.seats.length_is refl refl refl,
+      goes_on_quiet world _ history before r c.requires.replica seat c.index_mut-seat.ensures.value c.take.new.self _ plain c.in_ok-take.ensures.stands refl c.requires.world.seats.length_is refl refl refl,
     )

@@ -1,0 +1,18 @@
+//! Tests of scripts and of what they are read from and written to, by subject. Nothing else stands here:
+//! the crates that they test are proved once without them.
+#![tactic(auto)]
+
+#[cfg(test)]
+mod command_words;
+#[cfg(test)]
+mod faults;
+#[cfg(test)]
+mod limits;
+#[cfg(test)]
+mod playing;
+#[cfg(test)]
+mod refusals;
+#[cfg(test)]
+mod sources_and_sinks;
+#[cfg(test)]
+mod worked_scripts;
