@@ -1,4 +1,8 @@
 pub mod TextLemmas
+pub mod ByteLemmas
+pub mod OpBytes
+pub mod WeightBytes
+pub mod WeightLoop
 pub mod PrefixLemmas
 pub mod RunInduction
 pub mod PartLemmas

@@ -12,6 +12,7 @@ pub mod Reference
 pub mod Promises
 pub mod Call
 pub mod Text
+pub mod Bytes
 pub mod ScriptRuns
 pub mod Worked
 pub mod WorkedBoard
