@@ -1,7 +1,7 @@
 -- A field that is read stands where it was read, and a field that stands there is read.
-use Rattle.std.proofs.Common.{◌≡◌, ℕ, zero, suc, ◌+◌, ◌^◌, ◌<◌, ◌≤◌, ◌⊎◌, ℤ, pos, negsuc, Bool, true, false, cond, ltb, nat_le, nat_lt, ◌&&◌, List, [], ◌∷◌, ◌++◌, length, get_or, take, drop, Result, Ok, Err, refl, sym, ap, subst, ◌∙◌, append_assoc, arith, inl, inr}
+use Rattle.std.proofs.Common.{◌≡◌, ℕ, ◌+◌, ◌^◌, ◌<◌, ◌≤◌, ◌⊎◌, ℤ, pos, negsuc, Bool, true, false, cond, ltb, nat_le, List, [], ◌∷◌, ◌++◌, length, get_or, take, drop, Result, Ok, Err, refl, sym, ap, subst, ◌∙◌, arith, inl, inr}
 use Rattle.std.specs.Prelude.{unsigned_abs}
-use Rattle.std.specs.Int.{w64, from_be_bytes, to_be_bytes, cast_signed, cast_unsigned}
+use Rattle.std.specs.Int.{w64, from_be_bytes, cast_signed, cast_unsigned}
 use Rattle.std.proofs.lemmas.Bool.{cases_lt, ltb-false, le-ltb}
 use Rattle.std.proofs.lemmas.Bool.Decides.{nat_tests}
 use Rattle.std.proofs.lemmas.List.{take_at, drop_at, take-take, drop-take, drop-drop, length-append, length-take, length-drop, get_or-drop, get_or-take, get_or_past}
@@ -261,7 +261,7 @@ signed_again size bytes place number within narrow small stands =
     let ends = stands_within (number_bytes (cast_unsigned w64 number)) bytes place stands within in
     let fits : (cast_unsigned w64 number < 2 ^ 64) × (cast_signed w64 (cast_unsigned w64 number) ≡ number) = signed_fits size number narrow small in
     let is : value (take 8 (drop place bytes)) ≡ number =
-        ap value (eight_stand (number_bytes (cast_unsigned w64 number)) bytes place long stands)
-        ∙ ap (cast_signed w64) (eight_back (cast_unsigned w64 number) fits.0) ∙ fits.1 in
+    ap value (eight_stand (number_bytes (cast_unsigned w64 number)) bytes place long stands)
+    ∙ ap (cast_signed w64) (eight_back (cast_unsigned w64 number) fits.0) ∙ fits.1 in
     let good = size_within size number small in
     rw long (field_again 8 value rule bytes place number (omega (arith, long, ends)) is good)

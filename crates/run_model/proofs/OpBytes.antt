@@ -1,12 +1,10 @@
 -- An operation that is read stands where it was read, and one that stands there is read.
-use Rattle.std.proofs.Common.{◌≡◌, ℕ, zero, suc, ◌+◌, ◌^◌, ◌<◌, ◌≤◌, ℤ, Bool, true, false, cond, eqb, List, [], ◌∷◌, ◌++◌, length, Result, Ok, Err, refl, sym, ap, subst, ◌∙◌, arith, lit<}
-use Rattle.std.proofs.lemmas.Bool.{eqb-true, eqb-false}
+use Rattle.std.proofs.Common.{◌≡◌, ℕ, zero, suc, ◌+◌, ◌<◌, ◌≤◌, ℤ, cond, eqb, List, [], ◌∷◌, ◌++◌, length, Ok, refl, sym, ap, subst, arith}
 use Rattle.tact_base.specs.declared.limits.TheConstants.{KEY_MAX, VALUE_MAX}
 use Rattle.tact_base.specs.declared.write.Op.{Op}
 use Rattle.tact_base.specs.declared.write.Op.TheVariants.{Put, Add, Shift}
-use Rattle.run_model.specs.declared.get_bytes.FieldFault.{FieldFault}
 use Rattle.run_model.specs.Ranges.{IsOpInRange}
-use Rattle.run_model.specs.Bytes.{◌>>=◌, Field, StandsAt, byte_at, number_at, signed_at, put_at, add_at, shift_at, op_at, number_bytes, signed_bytes, op_bytes}
+use Rattle.run_model.specs.Bytes.{◌>>=◌, StandsAt, byte_at, number_at, signed_at, put_at, add_at, shift_at, op_at, number_bytes, signed_bytes, op_bytes}
 use Rattle.run_model.proofs.ByteLemmas.{AreBytes, Spelled, stands_first, stands_second, stands_within, spelled_then, bind_ok, ok_is, byte_taken, byte_again, number_taken, number_again, signed_taken, signed_again}
 
 put_taken : (bytes : List ℕ) (place : ℕ) (op : Op) (next : ℕ)
@@ -113,8 +111,7 @@ pair_again : (bytes : List ℕ) (place key : ℕ) (number : ℤ)
     × StandsAt (signed_bytes number) bytes (place + length (number_bytes key))
     × (place + length (number_bytes key) ≤ length bytes)
 pair_again bytes place key number within small stands =
-    let first = stands_first (number_bytes key) (signed_bytes number) bytes place stands in
-    (
+    let first = stands_first (number_bytes key) (signed_bytes number) bytes place stands in (
       number_again 0 (suc KEY_MAX) bytes place key within (omega arith) (omega arith) (omega arith) first,
       stands_second (number_bytes key) (signed_bytes number) bytes place stands,
       stands_within (number_bytes key) bytes place first within,
@@ -157,5 +154,5 @@ op_again (Shift from to amount) bytes place within fits stands =
     let two = number_again 0 (suc KEY_MAX) bytes (place + 1 + length (number_bytes from)) to past-one (omega arith) (omega arith) (omega arith) two-stands in
     let past-two = stands_within (number_bytes to) bytes (place + 1 + length (number_bytes from)) two-stands past-one in
     let last = number_again 0 (suc VALUE_MAX) bytes (place + 1 + length (number_bytes from) + length (number_bytes to)) amount past-two (omega arith) (omega arith) (omega arith)
-        (stands_second (number_bytes to) (number_bytes amount) bytes (place + 1 + length (number_bytes from)) rest) in
+    (stands_second (number_bytes to) (number_bytes amount) bytes (place + 1 + length (number_bytes from)) rest) in
     (place + 1 + length (number_bytes from) + length (number_bytes to) + length (number_bytes amount), rw (tag, one, two, last) refl)

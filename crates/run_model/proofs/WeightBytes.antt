@@ -1,21 +1,20 @@
 -- Weights that are read stand where they were read, and weights that stand there are read.
-use Rattle.std.proofs.Common.{◌≡◌, ℕ, zero, suc, ◌+◌, ◌-◌, ◌^◌, ◌<◌, ◌≤◌, ℤ, pos, Bool, true, false, not, cond, ltb, nat_le, ◌&&◌, List, [], ◌∷◌, ◌++◌, length, get_or, drop, All, Option, Some, None, Result, Ok, Err, refl, sym, ap, subst, ◌∙◌, append_assoc, add_comm, add-one, arith}
+use Rattle.std.proofs.Common.{◌≡◌, ℕ, zero, suc, ◌+◌, ◌-◌, ◌<◌, ◌≤◌, pos, Bool, true, false, not, ltb, nat_le, ◌&&◌, List, [], ◌∷◌, ◌++◌, length, get_or, drop, Option, Some, None, Ok, refl, ap, subst, add_comm, add-one, arith}
 use Rattle.std.specs.Prelude.{unsigned_abs, position}
 use Rattle.std.specs.List.{flat_map, zip, position_or_len}
 use Rattle.std.proofs.lemmas.Bool.{le-ltb}
 use Rattle.std.proofs.lemmas.Bool.Decides.{nat_tests}
-use Rattle.std.proofs.lemmas.List.{append-nil, length-drop, length-append}
+use Rattle.std.proofs.lemmas.List.{length-drop, length-append}
 use Rattle.std.proofs.lemmas.List.Concat.{flat_map-cons}
 use Rattle.std.proofs.lemmas.List.Sums.{position_or_len_is}
 use Rattle.std.proofs.lemmas.Slice.Zip.{length-zip, get_or-zip}
 use Rattle.std.proofs.lemmas.Grind.{get_or_after_one}
 use Rattle.tact_base.specs.declared.limits.TheConstants.{WEIGHT_MAX, LIST_MAX}
 use Rattle.tact_base.specs.declared.conit_list.Weight.{Weight}
-use Rattle.tact_base.specs.ConitList.{IsConitList, list_fault}
+use Rattle.tact_base.specs.ConitList.{list_fault}
 use Rattle.tact_base.specs.declared.conit_list.ListFault.{ListFault}
 use Rattle.tact_base.proofs.ConitListLemmas.{IsWeights, weight_in_limits, IsConitList-few, IsConitList-limits, IsConitList-rising}
-use Rattle.run_model.specs.declared.get_bytes.FieldFault.{FieldFault}
-use Rattle.run_model.specs.Bytes.{◌>>=◌, Field, StandsAt, AreWeightsOf, byte_at, number_at, signed_at, weight_at, weight_list_at, weights_at, number_bytes, signed_bytes, weight_bytes, weights_bytes}
+use Rattle.run_model.specs.Bytes.{◌>>=◌, StandsAt, AreWeightsOf, byte_at, number_at, signed_at, weight_at, weight_list_at, weights_at, number_bytes, signed_bytes, weight_bytes, weights_bytes}
 use Rattle.run_model.proofs.ByteLemmas.{AreBytes, Spelled, stands_first, stands_second, stands_within, spelled_then, bind_ok, ok_is, byte_taken, byte_again, number_taken, number_again, signed_taken, signed_again}
 
 -- weights in their limits, whose conits rise from `least` on and stay below `conits`
@@ -75,9 +74,9 @@ weight_again conits least weight bytes place within least-le below limits stands
     let nweight = signed_again WEIGHT_MAX bytes (place + 1) weight.nweight past (omega arith) small.0 nweight-stands in
     let past-two = stands_within (signed_bytes weight.nweight) bytes (place + 1) nweight-stands past in
     let oweight = number_again 0 (suc WEIGHT_MAX) bytes (place + 1 + length (signed_bytes weight.nweight)) weight.oweight past-two (omega (arith, small.1)) (omega arith) (omega (arith, small.1))
-        (stands_second (signed_bytes weight.nweight) (number_bytes weight.oweight) bytes (place + 1) rest) in
+    (stands_second (signed_bytes weight.nweight) (number_bytes weight.oweight) bytes (place + 1) rest) in
     let ends : place + 1 + length (signed_bytes weight.nweight) + length (number_bytes weight.oweight) ≡ place + length (weight_bytes weight) =
-        omega (arith, length-append (signed_bytes weight.nweight) (number_bytes weight.oweight)) in
+    omega (arith, length-append (signed_bytes weight.nweight) (number_bytes weight.oweight)) in
     rw (conit, nweight, oweight, ends) refl
 
 -- ---- so many weights
@@ -112,12 +111,12 @@ unfolding weight_list_at
 list_again [] conits least bytes place within rising stands = (place, refl)
 list_again (weight ∷ weights) conits least bytes place within rising stands =
     let both : StandsAt (weight_bytes weight ++ flat_map weight_bytes weights) bytes place =
-        subst (λ (text : List ℕ). StandsAt text bytes place) (flat_map-cons weight_bytes weight weights) stands in
+    subst (λ (text : List ℕ). StandsAt text bytes place) (flat_map-cons weight_bytes weight weights) stands in
     let first-stands = stands_first (weight_bytes weight) (flat_map weight_bytes weights) bytes place both in
     let first = weight_again conits least weight bytes place within rising.0 rising.1 rising.2 first-stands in
     let past = stands_within (weight_bytes weight) bytes place first-stands within in
     let others = list_again weights conits (suc weight.conit) bytes (place + length (weight_bytes weight)) past rising.3
-        (stands_second (weight_bytes weight) (flat_map weight_bytes weights) bytes place both) in
+    (stands_second (weight_bytes weight) (flat_map weight_bytes weights) bytes place both) in
     (others.0, rw (first, others.1) refl)
 
 -- ---- what the type of weights keeps
@@ -161,15 +160,15 @@ pub weights_listed : (weights : List Weight) (conits least : ℕ)
     → AreWeightsOf conits weights
 weights_listed weights conits least rising few =
     let ordered : position (λ (pair : Weight × Weight). nat_le pair.1.conit pair.0.conit) (zip weights (drop 1 weights)) ≡ None =
-        none_passes (λ (pair : Weight × Weight). nat_le pair.1.conit pair.0.conit) (zip weights (drop 1 weights)) (nothing, nothing) (λ k within.
-            let long : length (drop 1 weights) ≡ length weights - 1 = length-drop 1 weights in
-            let short : k < length weights - 1 = omega (arith, long, within, length-zip weights (drop 1 weights)) in
-            let pair = get_or-zip weights (drop 1 weights) k (nothing, nothing) (omega arith) (omega (arith, long)) in
-            let step = rising_step weights conits least k nothing rising (omega arith) in
-            let next = get_or_after_one weights k nothing in
-            rw (pair, next, add_comm 1 k, add-one) (not_reached _ _ step)) in
+    none_passes (λ (pair : Weight × Weight). nat_le pair.1.conit pair.0.conit) (zip weights (drop 1 weights)) (nothing, nothing) (λ k within.
+    let long : length (drop 1 weights) ≡ length weights - 1 = length-drop 1 weights in
+    let short : k < length weights - 1 = omega (arith, long, within, length-zip weights (drop 1 weights)) in
+    let pair = get_or-zip weights (drop 1 weights) k (nothing, nothing) (omega arith) (omega (arith, long)) in
+    let step = rising_step weights conits least k nothing rising (omega arith) in
+    let next = get_or_after_one weights k nothing in
+    rw (pair, next, add_comm 1 k, add-one) (not_reached _ _ step)) in
     let inside : position (λ (weight : Weight). not (weight_in_limits weight)) weights ≡ None =
-        none_passes (λ (weight : Weight). not (weight_in_limits weight)) weights nothing (λ k within. ap not (rising_each weights conits least k nothing rising within).1) in
+    none_passes (λ (weight : Weight). not (weight_in_limits weight)) weights nothing (λ k within. ap not (rising_each weights conits least k nothing rising within).1) in
     let long : ltb LIST_MAX (length weights) ≡ false = le-ltb _ _ few in
     (rw (long, ordered, inside) refl, λ k d within. (rising_each weights conits least k d rising within).0)
 
@@ -186,7 +185,7 @@ rise_from (w ∷ weights) conits least below limits rising first = (
   below 0 w (omega arith),
   limits 0 w (omega arith),
   rise_from weights conits (suc w.conit) (λ k d within. below (suc k) d (omega arith)) (λ k d within. limits (suc k) d (omega arith))
-  (λ k d within. rising (suc k) d (omega arith)) (λ d some. rising 0 d (omega arith)),
+      (λ k d within. rising (suc k) d (omega arith)) (λ d some. rising 0 d (omega arith)),
 )
 
 -- and weights as their type has them rise
@@ -226,7 +225,7 @@ weights_again weights conits bytes place within good stands =
     let head = byte_again 0 (suc LIST_MAX) bytes place (length weights) within (omega arith) (omega (arith, few)) head-stands in
     let past = stands_within (length weights ∷ []) bytes place head-stands within in
     let list = list_again weights conits 0 bytes (place + 1) past (weights_rise weights conits good)
-        (stands_second (length weights ∷ []) (flat_map weight_bytes weights) bytes place stands) in
+    (stands_second (length weights ∷ []) (flat_map weight_bytes weights) bytes place stands) in
     (list.0, rw (head, list.1) refl)
 
 -- so weights that were read aren't refused

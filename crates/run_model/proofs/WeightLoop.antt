@@ -1,5 +1,5 @@
 -- Reading weights one after the other, as a loop does.
-use Rattle.std.proofs.Common.{◌≡◌, ℕ, suc, ◌-◌, ◌+◌, ◌≤◌, ◌<◌, List, [], ◌∷◌, ◌++◌, Result, Ok, Err, refl, sym, ap, ◌∙◌, append_assoc, add-one, arith}
+use Rattle.std.proofs.Common.{◌≡◌, ℕ, suc, ◌-◌, ◌+◌, ◌≤◌, ◌<◌, List, [], ◌∷◌, ◌++◌, Ok, Err, refl, sym, ap, ◌∙◌, append_assoc, add-one, arith}
 use Rattle.std.proofs.lemmas.List.{append-nil}
 use Rattle.tact_base.specs.declared.conit_list.Weight.{Weight}
 use Rattle.run_model.specs.declared.get_bytes.FieldFault.{FieldFault}
@@ -23,7 +23,7 @@ unfolding weight_list_at
 goes_on front count i conits least bytes place w next total lt h so_far =
     let k : count - i ≡ suc (count - (i + 1)) = omega arith in
     let one : with_front front (weight_list_at (count - i) conits least bytes place) ≡ with_front (front ++ w ∷ []) (weight_list_at (count - (i + 1)) conits (suc w.conit) bytes next) =
-        rw (k, h) (regroup front w (weight_list_at (count - (i + 1)) conits (suc w.conit) bytes next)) in
+    rw (k, h) (regroup front w (weight_list_at (count - (i + 1)) conits (suc w.conit) bytes next)) in
     rw (add-one w.conit) (sym one ∙ so_far)
 
 pub ends : (front : List Weight) (count i conits least : ℕ) (bytes : List ℕ) (place : ℕ) (f : FieldFault) (total : Field (List Weight))

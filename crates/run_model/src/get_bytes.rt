@@ -210,12 +210,7 @@ fn weights_of(conits: u32, bytes: &[u8], place: usize) -> Result<(Weights, usize
 }
 
 // Reads as many weights as there are items, and answers the place after them.
-fn fill(
-    items: &mut [Weight],
-    conits: u32,
-    bytes: &[u8],
-    start: usize,
-) -> Result<usize, FieldFault>
+fn fill(items: &mut [Weight], conits: u32, bytes: &[u8], start: usize) -> Result<usize, FieldFault>
     requires { start ≤ length bytes.now }
     ensures ok { IfOk result (λ next. weight_list_at (length items.old) conits 0 bytes.now start ≡ Ok (items.new, next)) }
     ensures err { IfErr result (λ fault. weight_list_at (length items.old) conits 0 bytes.now start ≡ Err fault) }

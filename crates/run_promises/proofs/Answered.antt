@@ -39,7 +39,7 @@ use Rattle.run_model.proofs.SoundViews.{cover_of-other, Sound-count, Sound-cover
 use Rattle.run_promises.proofs.LoansAgree.{LoansAgree}
 use Rattle.run_promises.proofs.SharesWrites.{first_some-none}
 use Rattle.run_promises.proofs.NumErrors.{num_error-within}
-use Rattle.run_promises.proofs.Peers.{All-kept, All-peers}
+use Rattle.tact_base.proofs.Peers.{All-kept, All-peers}
 use Rattle.run_promises.proofs.Quiet.{quiet-num_error, quiet-order_error, quiet-unseen_by}
 
 -- whether a reply is a value

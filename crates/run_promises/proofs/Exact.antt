@@ -6,7 +6,7 @@ use Rattle.run_model.specs.Histories.{part_of}
 use Rattle.run_model.specs.Loans.{lent, returned, lent_known, returned_known, out}
 use Rattle.run_model.specs.Promises.{held_by, IsExact}
 use Rattle.run_model.specs.declared.entry.Entry.{Entry}
-use Rattle.run_promises.proofs.Peers.{All-peers}
+use Rattle.tact_base.proofs.Peers.{All-peers}
 use Rattle.tact_base.proofs.PeerSums.{sum_by-each}
 use Rattle.run_promises.proofs.LoansAgree.{LoansAgree}
 use Rattle.run_promises.proofs.KeepsHome.{KeepsHome}

@@ -29,7 +29,7 @@ use Rattle.run_model.specs.declared.call.Request.TheVariants as request
 use Rattle.run_model.specs.declared.entry.Entry.{Entry}
 use Rattle.run_promises.specs.Conclusions.{IsFree, IsSettled, IsWithinShares}
 use Rattle.run_promises.proofs.KeepsHome.{all_out, KeepsHome-run}
-use Rattle.run_promises.proofs.Peers.{All-peers}
+use Rattle.tact_base.proofs.Peers.{All-peers}
 
 -- where no place gives a reply, there is no first
 first_some-all : {A : Type 0} (f : A → Option Reply) (items : List A)

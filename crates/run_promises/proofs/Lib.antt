@@ -1,4 +1,3 @@
-pub mod Peers
 pub mod LoanSteps
 pub mod LoansAgree
 pub mod KeepsHome

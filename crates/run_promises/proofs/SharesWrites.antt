@@ -26,7 +26,7 @@ use Rattle.run_model.specs.declared.entry.Entry.{Entry}
 use Rattle.run_model.specs.declared.entry.Message.{Message}
 use Rattle.run_model.proofs.PartLemmas.{accepted_in, own-push}
 use Rattle.run_model.proofs.Accepted.{first_some-each}
-use Rattle.run_promises.proofs.Peers.{All-from_peers}
+use Rattle.tact_base.proofs.Peers.{All-from_peers}
 use Rattle.run_promises.proofs.LoanSteps.{most_told-rises}
 use Rattle.tact_base.proofs.FilterSums.{weights_on-filter-le, weights_on-filter-le_all, once_on_conit}
 

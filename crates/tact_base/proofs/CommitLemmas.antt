@@ -1,15 +1,15 @@
 -- What is committed and what is tentative of writes in order: a front and what follows it, and one front for all replicas.
-use Rattle.std.proofs.Common.{◌≡◌, ℕ, ◌+◌, length, not, ◌<◌, ◌≤◌, Bool, true, false, if◌then◌else◌, List, [], ◌∷◌, ◌++◌, filter, All, Contains, IsSorted, nat_le, nat_lt, refl, sym, ap, ap₂, ◌∙◌, ⊎_elim, le-leb, leb-true, ltb-true, arith}
+use Rattle.std.proofs.Common.{◌≡◌, ℕ, ◌+◌, length, not, ◌<◌, ◌≤◌, Bool, true, false, if◌then◌else◌, List, [], ◌∷◌, ◌++◌, filter, All, IsSorted, nat_le, nat_lt, refl, sym, ap, ap₂, ◌∙◌, ⊎_elim, le-leb, leb-true, ltb-true, arith}
 use Rattle.std.proofs.lemmas.Bool.{cases_lt, lt-leb, le-ltb, lt-ltb}
 use Rattle.std.proofs.lemmas.List.Elements.{All-cons, All-weaker, All-filter, filter_passes}
 use Rattle.std.proofs.lemmas.List.Filters.{length-filter_both}
-use Rattle.std.proofs.lemmas.List.Kept.{AllPairs-filter, IsSortedBy-filter}
+use Rattle.std.proofs.lemmas.List.Kept.{IsSortedBy-filter}
 use Rattle.tact_base.specs.WriteOrder.{write_cmp, comes_before, with_write, in_order, committed_to, tentative_past}
 use Rattle.tact_base.specs.declared.write.Write.{Write}
-use Rattle.tact_base.proofs.CompareLemmas.{AreApart, before_order, before_upto, stamp-le_not_before}
-use Rattle.tact_base.proofs.ElementLemmas.{Contains-filter, Contains-from_filter, passes_in_filter, filter-filter}
+use Rattle.tact_base.proofs.CompareLemmas.{before_order, before_upto, stamp-le_not_before}
+use Rattle.tact_base.proofs.ElementLemmas.{filter-filter}
 use Rattle.tact_base.proofs.ListLemmas.{filter_all, filter_none}
-use Rattle.tact_base.proofs.OrderLemmas.{Apart, with_write_first, with_write_behind, IsSortedByPlace, IsSortedByPlace-in_order, IsSortedByPlace-from_sorted, IsSorted-in_order, in_order_same}
+use Rattle.tact_base.proofs.OrderLemmas.{with_write_first, with_write_behind, IsSortedByPlace, IsSortedByPlace-in_order, IsSortedByPlace-from_sorted, IsSorted-in_order}
 
 -- a filter of a list that begins with what a write goes behind
 filter_behind : (write first : Write) (rest after : List Write)
@@ -58,32 +58,6 @@ filter-in_order p (write ∷ writes) =
 pub committed_to-in_order : (point : ℕ) (writes : List Write)
     → committed_to point (in_order writes) ≡ in_order (committed_to point writes)
 committed_to-in_order point = filter-in_order (λ write. nat_le write.stamp point)
-
-pub tentative_past-in_order : (point : ℕ) (writes : List Write)
-    → tentative_past point (in_order writes) ≡ in_order (tentative_past point writes)
-tentative_past-in_order point = filter-in_order (λ write. nat_lt point write.stamp)
-
--- Two lists have the same writes up to a point: they have the same committed writes, in the same order.
-pub committed_to_same : (point : ℕ) (xs ys : List Write) → Apart xs → Apart ys
-    → ((write : Write) → Contains xs write → write.stamp ≤ point → Contains ys write)
-    → ((write : Write) → Contains ys write → write.stamp ≤ point → Contains xs write)
-    → committed_to point (in_order xs) ≡ committed_to point (in_order ys)
-committed_to_same point xs ys apart other contained back =
-    let early = λ (write : Write). nat_le write.stamp point in
-    let early_le : (zs : List Write) (write : Write) → Contains (committed_to point zs) write → write.stamp ≤ point =
-    λ zs write h. leb-true write.stamp point (passes_in_filter early zs write h) in
-    committed_to-in_order point xs
-    ∙ in_order_same (committed_to point xs) (committed_to point ys) (AllPairs-filter AreApart early xs apart) (AllPairs-filter AreApart early ys other)
-    (λ write h. Contains-filter early ys write (contained write (Contains-from_filter early xs write h) (early_le xs write h)) (passes_in_filter early xs write h))
-    (λ write h. Contains-filter early xs write (back write (Contains-from_filter early ys write h) (early_le ys write h)) (passes_in_filter early ys write h))
-    ∙ sym (committed_to-in_order point ys)
-
--- A replica that has seen all writes up to a point has the committed writes of all.
-pub committed_to_seen : (point : ℕ) (seen all : List Write) → Apart seen → Apart all
-    → ((write : Write) → Contains seen write → Contains all write)
-    → ((write : Write) → Contains all write → write.stamp ≤ point → Contains seen write)
-    → committed_to point (in_order seen) ≡ committed_to point (in_order all)
-committed_to_seen point seen all apart all_apart among early = committed_to_same point seen all apart all_apart (λ write h _. among write h) early
 
 -- past the point is not up to it
 after_not_upto : (stamp point : ℕ) → nat_lt point stamp ≡ not (nat_le stamp point)

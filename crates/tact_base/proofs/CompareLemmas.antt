@@ -67,10 +67,6 @@ module _ (a b : Write) where
   pub before_one_way : comes_before a b ≡ true → comes_before b a ≡ false
   before_one_way = before_order.one_way a b
 
-  -- a lower stamp comes first
-  pub before_stamp : a.stamp < b.stamp → comes_before a b ≡ true
-  before_stamp lower = rw (lt-ltb a.stamp b.stamp lower)
-
   -- what doesn't come before has no lower stamp
   pub stamp-le_not_before : comes_before b a ≡ false → a.stamp ≤ b.stamp
   stamp-le_not_before later =
@@ -89,10 +85,6 @@ less_from_before a b before = go (write_cmp a b) before
 pub before_itself : (a : Write) → comes_before a a ≡ false
 before_itself a = ap is_lt (tied_itself write_total a)
 
--- nor what ties with it
-pub before_tied : (a b : Write) → AreTied a b → comes_before a b ≡ false
-before_tied a b tied = rw (tied.stamp, tied.origin, tied.index) (before_itself b)
-
 -- what comes before the second comes before what doesn't come before the second
 pub before_upto : (a b c : Write)
     → comes_before a b ≡ true
@@ -103,17 +95,6 @@ before_upto a b c first later = go (comes_before a c) refl
     go : (is : Bool) → comes_before a c ≡ is → is ≡ true
     go true h = refl
     go false h = absurd (false≢true (sym (before_order.chain a c b h later) ∙ first))
-
--- what comes before what doesn't come before the third comes before the third
-pub before_from : (a b c : Write)
-    → comes_before b a ≡ false
-    → comes_before b c ≡ true
-    → comes_before a c ≡ true
-before_from a b c first later = go (comes_before a c) refl
-  where
-    go : (is : Bool) → comes_before a c ≡ is → is ≡ true
-    go true h = refl
-    go false h = absurd (false≢true (sym (before_order.chain b a c first h) ∙ later))
 
 -- the order is transitive
 pub before_trans : (a b c : Write)

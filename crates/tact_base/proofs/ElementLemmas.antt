@@ -4,7 +4,7 @@ use Rattle.std.proofs.lemmas.Bool.{cases_eq, cases_lt, false≢true}
 use Rattle.std.proofs.lemmas.List.Edits.{swapped_from_swap, length-swap}
 use Rattle.std.proofs.lemmas.List.Kept.{AllPairs-cons}
 use Rattle.std.proofs.lemmas.List.Sorted.{IsPermutation-keeps}
-use Rattle.std.proofs.lemmas.List.Elements.{All-head, All-tail, All-append, All-contains, Contains-append_left, Contains-append_right, Contains-append_cases, Contains-get_or, filter_passes}
+use Rattle.std.proofs.lemmas.List.Elements.{All-head, All-tail, All-append, Contains-append_left, Contains-append_right, Contains-append_cases}
 
 -- Elements of a list, by its first.
 module _ {X : Type 0} where
@@ -31,12 +31,6 @@ module _ {X : Type 0} where
       → AllPairs R (x ∷ xs)
       → AllPairs R xs
   AllPairs-rest R x xs all i j d less within = all (suc i) (suc j) d (omega arith) (omega arith)
-
-  -- a fact of what a list contains holds of all
-  pub All-from_contains : (P : X → Type 0) (xs : List X)
-      → ((x : X) → Contains xs x → P x)
-      → All P xs
-  All-from_contains P xs holds k d within = holds (get_or xs k d) (Contains-get_or xs k d within)
 
 -- An element of joined lists.
 module _ {X Y : Type 0} (f : X → List Y) where
@@ -146,9 +140,6 @@ module _ {X : Type 0} (p : X → Bool) where
           → Contains (y ∷ ys) x
       go true h rest = ⊎_elim (λ (same : y ≡ x). Contains-first y x ys same) (λ later. Contains-later y x ys (rest later)) (Contains-cases y x (filter p ys) h)
       go false h rest = Contains-later y x ys (rest h)
-
-  pub passes_in_filter : (xs : List X) (x : X) → Contains (filter p xs) x → p x ≡ true
-  passes_in_filter xs x = All-contains (λ x. p x ≡ true) (filter p xs) x (filter_passes p xs)
 
   -- a filter after one that passes as much changes what it gives alone by nothing
   pub filter-filter : (q : X → Bool)

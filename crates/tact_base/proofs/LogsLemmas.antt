@@ -1,7 +1,7 @@
 -- A log after told writes.
-use Rattle.std.proofs.Common.{◌≡◌, ℕ, ◌-◌, ◌<◌, ◌≤◌, min, Bool, true, false, cond, nat_le, List, ◌++◌, length, take, drop, ap, ◌∙◌, sym, refl, arith}
+use Rattle.std.proofs.Common.{◌≡◌, ℕ, ◌-◌, ◌≤◌, min, Bool, true, false, cond, nat_le, List, ◌++◌, length, take, drop, ap, ◌∙◌, sym, refl, arith}
 use Rattle.std.proofs.lemmas.List.{length-append, take_rest, drop_min}
-use Rattle.std.proofs.lemmas.Bool.{leb-true, le-leb, lt-leb}
+use Rattle.std.proofs.lemmas.Bool.{leb-true, le-leb}
 use Rattle.tact_base.specs.Logs.{log_after}
 
 module _ {T : Type 0} (log : List T) (first : ℕ) (told : List T) where
@@ -9,10 +9,6 @@ module _ {T : Type 0} (log : List T) (first : ℕ) (told : List T) where
   pub log_after-added : first ≤ length log
       → log_after log first told ≡ log ++ drop (length log - first) told
   log_after-added begins = rw (le-leb first (length log) begins) refl
-
-  -- a gap changes nothing
-  pub log_after-gap : length log < first → log_after log first told ≡ log
-  log_after-gap gap = rw (lt-leb first (length log) gap) refl
 
   -- the same, where the told writes that the log has are counted
   pub log_after-held : (held : ℕ)

@@ -1,5 +1,5 @@
 -- The writes in order: the same writes, sorted, and one list whatever order they came in.
-use Rattle.std.proofs.Common.{◌≡◌, ◌≢◌, ℕ, ◌<◌, get_or, ◌++◌, flat_map, take, drop, insert, take-append-drop, ap, append-nil, Less, suc, zero, Bool, true, false, if◌then◌else◌, List, [], ◌∷◌, length, All, AllPairs, Contains, IsPermutation, IsSorted, refl, sym, ap₂, ◌∙◌, ⊎_elim, suc-add, arith}
+use Rattle.std.proofs.Common.{◌≡◌, ◌≢◌, ℕ, ◌++◌, flat_map, ap, Less, suc, zero, Bool, true, false, if◌then◌else◌, List, [], ◌∷◌, length, All, AllPairs, Contains, IsPermutation, IsSorted, refl, sym, ap₂, ◌∙◌, ⊎_elim, suc-add, arith}
 use Rattle.std.proofs.lemmas.List.Elements.{All-nil, All-cons, All-head, All-tail, All-weaker, All-contains, recursion_from_All}
 use Rattle.std.proofs.lemmas.List.Sorted.{IsPermutation-refl, IsPermutation-sym, IsPermutation-cons, IsPermutation-trans, IsPermutation-middle, All-permutation, Contains-permutation, length_permutation, sorted_far}
 use Rattle.std.specs.List.Sorted.{IsStrictlySortedBy}
@@ -21,15 +21,6 @@ AreApart-sym a b apart origin index = apart (sym origin) (sym index)
 -- so the order of a list says nothing
 pub Apart-IsPermutation : (xs ys : List Write) → IsPermutation xs ys → Apart xs → Apart ys
 Apart-IsPermutation = AllPairs-IsPermutation AreApart AreApart-sym
-
--- writes of which each has its place for its index
-pub Apart-from_indexes : (writes : List Write)
-    → ((k : ℕ) (d : Write) → k < length writes → (get_or writes k d).index ≡ k)
-    → Apart writes
-Apart-from_indexes writes indexed i j d less within origin index =
-    let one = indexed i d (omega arith) in
-    let other = indexed j d within in
-    omega arith
 
 -- the logs of different origins
 pub Apart-flat_map : (log : ℕ → List Write) (origins : List ℕ)
@@ -77,14 +68,6 @@ with_write_between write [] rest behind before = with_write_first write rest bef
 with_write_between write (first ∷ front) rest behind before =
     with_write_behind write first (front ++ rest) (All-head (λ earlier. comes_before write earlier ≡ false) first front behind)
     ∙ ap (λ (l : List Write). first ∷ l) (with_write_between write front rest (All-tail (λ earlier. comes_before write earlier ≡ false) first front behind) before)
-
--- as std says where it goes
-pub with_write-insert : (write : Write) (writes : List Write) (i : ℕ)
-    → All (λ earlier. comes_before write earlier ≡ false) (take i writes)
-    → All (λ later. comes_before write later ≡ true) (drop i writes)
-    → with_write write writes ≡ insert writes i write
-with_write-insert write writes i behind before =
-    ap (with_write write) (sym (take-append-drop i writes)) ∙ with_write_between write (take i writes) (drop i writes) behind before
 
 -- a write put into its place
 pub IsPermutation-with_write : (write : Write) (writes : List Write)
@@ -303,11 +286,6 @@ IsStrictlySortedBy-from_rising (write ∷ writes) rising = (
   IsStrictlySortedBy-from_rising writes rising.1,
 )
 
-pub IsStrictlySortedBy-in_order : (writes : List Write)
-    → Apart writes
-    → IsStrictlySortedBy write_cmp (in_order writes)
-IsStrictlySortedBy-in_order writes apart = IsStrictlySortedBy-from_rising (in_order writes) (IsRising-in_order writes apart)
-
 -- two writes, the first before the second, can be put in in any order
 with_both : (a b : Write) (writes : List Write)
     → comes_before a b ≡ true
@@ -346,10 +324,3 @@ in_order_middle [] write back apart = refl
 in_order_middle (first ∷ front) write back apart =
     ap (with_write first) (in_order_middle front write back (All-tail (λ earlier. AreApart earlier write) first front apart))
     ∙ with_write_comm first write (in_order (front ++ back)) (All-head (λ earlier. AreApart earlier write) first front apart)
-
--- one more write at the end
-pub in_order_push : (writes : List Write) (write : Write)
-    → All (λ earlier. AreApart earlier write) writes
-    → in_order (writes ++ write ∷ []) ≡ with_write write (in_order writes)
-in_order_push writes write apart =
-    in_order_middle writes write [] apart ∙ ap (λ (l : List Write). with_write write (in_order l)) (append-nil writes)

@@ -91,13 +91,6 @@ length-loans_of s h owner conit o c =
     let fits = row_in s h (place_of s owner conit) (place_in s owner conit o c) in
     simp (length-take, length-drop) (omega arith)
 
--- the place of the owner and the conit that a place stands for
-pub place_of-parts : (s : Setup)
-    → HasCounts s
-    → (place : ℕ)
-    → place_of s (place / s.conits) (place % s.conits) ≡ place
-place_of-parts s h place = div-add-mod' place s.conits
-
 -- an owner and a conit, as a row's fault takes them
 abbrev pub row_of : Setup → ℕ × ℕ → Option ConfigFault
 row_of s pair = row_fault pair.0 pair.1 (alpha_of s pair.0 pair.1) (loans_of s pair.0 pair.1)

@@ -1,6 +1,6 @@
 -- How an amount meets a share: each answer where it comes, and what it means that the amount fits.
-use Rattle.std.proofs.Common.{◌≡◌, ℕ, ◌+◌, ◌<◌, ◌≤◌, nat_lt, Bool, true, false, cond, refl, arith}
-use Rattle.std.proofs.lemmas.Bool.{lt-ltb, le-ltb, ltb-false}
+use Rattle.std.proofs.Common.{◌≡◌, ℕ, ◌+◌, ◌≤◌, nat_lt, Bool, true, false, cond, refl, arith}
+use Rattle.std.proofs.lemmas.Bool.{le-ltb, ltb-false}
 use Rattle.tact_base.specs.Shares.{fit_of}
 use Rattle.tact_base.specs.declared.fit.Fit.TheVariants.{Fits, TooHeavy, WaitHeld, WaitShare}
 
@@ -18,21 +18,6 @@ module _ (peer share reserved missing amount : ℕ) where
       go false true short is fit = cc
       go false false true is fit = cc
       go false false false is fit = ltb-false share (missing + reserved + amount) is
-
-  pub fit_of-heavy : share < amount
-      → fit_of peer share reserved missing amount ≡ TooHeavy peer amount share
-  fit_of-heavy more = rw (lt-ltb share amount more) refl
-
-  pub fit_of-held : amount ≤ share
-      → share < reserved + amount
-      → fit_of peer share reserved missing amount ≡ WaitHeld peer reserved amount share
-  fit_of-held less more = rw (le-ltb share amount less, lt-ltb share (reserved + amount) more) refl
-
-  pub fit_of-short : reserved + amount ≤ share
-      → share < missing + reserved + amount
-      → fit_of peer share reserved missing amount ≡ WaitShare peer missing reserved amount share
-  fit_of-short less more =
-      rw (le-ltb share amount (omega arith), le-ltb share (reserved + amount) less, lt-ltb share (missing + reserved + amount) more) refl
 
   pub fit_of-all : missing + reserved + amount ≤ share
       → fit_of peer share reserved missing amount ≡ Fits

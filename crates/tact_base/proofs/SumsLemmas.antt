@@ -4,14 +4,14 @@ use Rattle.std.specs.List.{flat_map, All}
 use Rattle.std.proofs.lemmas.List.{append-nil, map-append}
 use Rattle.std.proofs.lemmas.List.Concat.{flat_map-append}
 use Rattle.std.proofs.lemmas.List.Elements.{filter-append, filter_more, All-weaker, All-filter}
-use Rattle.std.proofs.lemmas.List.Sums.{sum_by-append, sum_by_push, sum_by-cons, sum_by-le}
+use Rattle.std.proofs.lemmas.List.Sums.{sum_by_push, sum_by-cons, sum_by-le}
 use Rattle.std.proofs.lemmas.Int.{ints}
 use Rattle.std.proofs.lemmas.Bool.Decides.{nat_tests}
 use Rattle.std.proofs.Math.Nat.{mul-le-mul_right}
 use Rattle.tact_base.proofs.ConitListLemmas.{IsWeights, weight_in_limits, IsConitList-limits, IsConitList-once}
 use Rattle.tact_base.specs.declared.conit_list.Weight.{Weight}
 use Rattle.tact_base.specs.declared.write.Write.{Write}
-use Rattle.tact_base.specs.Sums.{weights_on, on_conit, plus_sum, minus_sum, net_sum, order_sum, signed_sum, above_zero, below_zero}
+use Rattle.tact_base.specs.Sums.{weights_on, on_conit, plus_sum, minus_sum, net_sum, signed_sum, above_zero, below_zero}
 
 pub signed_sum-append : (xs ys : List ℤ) → signed_sum (xs ++ ys) ≡ signed_sum xs +ℤ signed_sum ys
 signed_sum-append [] ys = omega (arith, ints)
@@ -25,15 +25,6 @@ weights_on-append xs ys conit =
     ap (on_conit conit) (flat_map-append f xs ys) ∙ filter-append _ (flat_map f xs) (flat_map f ys)
 
 module _ (xs ys : List Write) (conit : ℕ) where
-  pub plus_sum-append : plus_sum (xs ++ ys) conit ≡ plus_sum xs conit + plus_sum ys conit
-  plus_sum-append = rw (weights_on-append xs ys conit) (sum_by-append (λ weight. above_zero weight.nweight) (weights_on xs conit) (weights_on ys conit))
-
-  pub minus_sum-append : minus_sum (xs ++ ys) conit ≡ minus_sum xs conit + minus_sum ys conit
-  minus_sum-append = rw (weights_on-append xs ys conit) (sum_by-append (λ weight. below_zero weight.nweight) (weights_on xs conit) (weights_on ys conit))
-
-  pub order_sum-append : order_sum (xs ++ ys) conit ≡ order_sum xs conit + order_sum ys conit
-  order_sum-append = rw (weights_on-append xs ys conit) (sum_by-append (λ weight. weight.oweight) (weights_on xs conit) (weights_on ys conit))
-
   pub net_sum-append : net_sum (xs ++ ys) conit ≡ net_sum xs conit +ℤ net_sum ys conit
   net_sum-append =
       let f : Weight → ℤ = λ weight. weight.nweight in
