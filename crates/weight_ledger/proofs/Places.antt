@@ -1,10 +1,10 @@
 -- Lists of numbers by place.
-use Rattle.std.proofs.Common.{◌≡◌, ◌≢◌, ℕ, zero, suc, ◌+◌, ◌-◌, ◌<◌, ◌≤◌, List, [], ◌∷◌, ◌++◌, length, get_or, set, sym, refl, ap, subst, ◌∙◌, arith, All, get_or-set_other, ◌⊎◌, inl, inr, ⊎_elim}
+use Rattle.std.proofs.Common.{◌≡◌, ◌≢◌, ℕ, zero, suc, ◌+◌, ◌-◌, ◌<◌, ◌≤◌, List, [], ◌∷◌, ◌++◌, length, get_or, drop, add-one, set, sym, refl, ap, subst, ◌∙◌, arith, All, get_or-set_other, ◌⊎◌, inl, inr, ⊎_elim}
 use Rattle.std.proofs.Math.ListN.{length-set}
 use mathlib.Core.Logic.{dite}
 use native.Mathlib.Decide.{ℕ_discrete}
 use Rattle.weight_ledger.specs.Seen.{TallyView}
-use Rattle.weight_ledger.specs.Amounts.{added, lessened, cleared, picked, zeros, alone, IsPartOf, IsMoved, IsLeft}
+use Rattle.weight_ledger.specs.Amounts.{added, lessened, cleared, picked, zeros, alone, all_owned, left_after, gone_after, IsPartOf, IsMoved, IsLeft}
 
 pub get_or-added : (xs ys : List ℕ) (p : ℕ) → get_or (added xs ys) p 0 ≡ get_or xs p 0 + get_or ys p 0
 get_or-added [] ys p = omega arith
@@ -135,13 +135,24 @@ part_picked t shared ps =
     kept = λ q _ h _. ⊎_elim (λ e. absurd (h (omega (arith, co q, e.1)))) (λ e. omega (arith, ca q, e.0)) (cleared_cases ps t.amounts t.owns q);
   }
 
+lessened_twice : (xs ys : List ℕ) → length ys ≡ length xs → ((p : ℕ) → get_or ys p 0 ≤ get_or xs p 0) → lessened xs (lessened xs ys) ≡ ys
+lessened_twice [] [] e le = refl
+lessened_twice [] (y ∷ ys) e le = absurd (omega arith)
+lessened_twice (x ∷ xs) [] e le = absurd (omega arith)
+lessened_twice (x ∷ xs) (y ∷ ys) e le =
+  let head : x - (x - y) ≡ y = omega (arith, le 0) in
+  cc (head, lessened_twice xs ys (omega arith) (λ p. le (suc p)))
+
+length-cleared : (ps xs : List ℕ) → length (cleared ps xs) ≡ length xs
+length-cleared [] xs = refl
+length-cleared (p ∷ ps) xs = length-cleared ps (set xs p 0) ∙ length-set xs p 0
+
+-- what is left where some places are picked
+pub lessened_picked : (ps xs : List ℕ) → lessened xs (picked ps xs) ≡ cleared ps xs
+lessened_picked ps xs = lessened_twice xs (cleared ps xs) (length-cleared ps xs)
+  (λ p. ⊎_elim (λ h. omega (arith, h.0)) (λ h. omega (arith, h.0)) (cleared_cases ps xs xs p))
+
 -- what a cut of such places says, place by place
-abbrev pub left_after : TallyView → List ℕ → TallyView
-left_after t ps = record t { amounts = cleared ps t.amounts; owns = cleared ps t.owns }
-
-abbrev pub gone_after : TallyView → List ℕ → TallyView
-gone_after t ps = record t { amounts = picked ps t.amounts; owns = picked ps t.owns }
-
 pub all_moved : (t : TallyView) (ps : List ℕ) → All (IsMoved t (left_after t ps) (gone_after t ps)) ps
 all_moved t ps =
   let f : (p : ℕ) → get_or (cleared ps t.amounts) p 0 ≡ 0 → get_or (cleared ps t.owns) p 0 ≡ 0 → IsMoved t (left_after t ps) (gone_after t ps) p
@@ -160,3 +171,25 @@ others_left t ps p h = record {
   kept = cleared_kept ps t.owns p h;
   free = omega (arith, get_or-lessened t.owns (cleared ps t.owns) p, cleared_kept ps t.owns p h);
 }
+
+-- the numbers of the first tally
+pub drop_zeros : (n : ℕ) → drop 1 (zeros (n + 1)) ≡ zeros n
+drop_zeros n = rw add-one refl
+
+pub owned_once : (shared owned p : ℕ) → get_or (all_owned shared owned) p 0 ≤ 1
+owned_once zero zero p = omega arith
+owned_once zero (suc owned) zero = omega arith
+owned_once zero (suc owned) (suc p) = owned_once zero owned p
+owned_once (suc shared) owned zero = omega arith
+owned_once (suc shared) owned (suc p) = owned_once shared owned p
+
+pub shared_free : (shared owned p : ℕ) → p < shared → get_or (all_owned shared owned) p 0 ≡ 0
+shared_free zero owned p lt = absurd (omega arith)
+shared_free (suc shared) owned zero lt = refl
+shared_free (suc shared) owned (suc p) lt = shared_free shared owned p (omega arith)
+
+-- what is left where an amount was taken
+pub written : (xs : List ℕ) (p a : ℕ) → a ≤ get_or xs p 0 → get_or (set xs p (get_or xs p 0 - a)) p 0 + a ≡ get_or xs p 0
+written [] p a h = omega arith
+written (x ∷ xs) zero a h = omega arith
+written (x ∷ xs) (suc p) a h = written xs p a h

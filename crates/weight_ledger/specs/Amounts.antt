@@ -38,6 +38,13 @@ all_owned shared owned = zeros shared ++ replicate owned 1
 abbrev pub joined : TallyView → TallyView → TallyView
 joined one other = record one { amounts = added one.amounts other.amounts; owns = added one.owns other.owns }
 
+-- a tally without what it had at some places, and one with it
+abbrev pub left_after : TallyView → List ℕ → TallyView
+left_after before places = record before { amounts = cleared places before.amounts; owns = cleared places before.owns }
+
+abbrev pub gone_after : TallyView → List ℕ → TallyView
+gone_after before places = record before { amounts = picked places before.amounts; owns = picked places before.owns }
+
 -- what a tally had at a place has gone to another, which owns it
 pub record IsMoved (before left gone : TallyView) (place : ℕ) : Type 0 where
   pub none : slice_index left.amounts place ≡ 0

@@ -27,6 +27,7 @@ impl<T: Counted> Model for Cell<T> {
 }
 
 /// There was no memory. The value comes back.
+#[derive(Drop)]
 pub struct CellFault<T> {
     pub value: T,
 }

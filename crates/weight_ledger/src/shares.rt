@@ -1,5 +1,5 @@
 ghost use Rattle.std.specs.Prelude.{◌≡◌, ◌≢◌, ℕ, ◌+◌, ◌-◌, ◌≤◌, ◌<◌, All, length, slice_index, slice_set, []};
-ghost use Rattle.weight_ledger.specs.Amounts.{added, lessened, cleared, picked, zeros, alone, joined, IsMoved, IsLeft, IsPartOf};
+ghost use Rattle.weight_ledger.specs.Amounts.{lessened, picked, alone, joined, left_after, gone_after, IsMoved, IsLeft, IsPartOf};
 
 use crate::cell::Cell;
 use crate::counted::Counted;
@@ -24,29 +24,56 @@ impl<T: Counted> Cell<T> {
         }
     }
 
+    // The same of an amount at a place. The call picks the part by its arguments.
+    fn cut_amount<B: Part>(
+        &self,
+        tally: &mut Tally<T::Label>,
+        place: u32,
+        amount: u64,
+    ) -> Tally<T::Label>
+        requires cell { tally.old.id ≡ self.now.id }
+        requires part { (B.amounts ≡ alone (length tally.old.amounts) place amount) × (B.owns ≡ []) }
+        requires place { place < self.now.shared }
+        requires amount { amount ≤ slice_index tally.old.amounts place }
+        ensures left { tally.new ≡ record tally.old { amounts = slice_set tally.old.amounts place (slice_index tally.old.amounts place - amount) } }
+        ensures gone { result ≡ record tally.old { amounts = alone (length tally.old.amounts) place amount; owns = [] } }
+    {
+        self.cut::<B>(tally)
+    }
+
+    // The same of all that a tally has at places that it owns.
+    fn cut_places<B: Part>(&self, tally: &mut Tally<T::Label>, places: &[u32]) -> Tally<T::Label>
+        requires cell { tally.old.id ≡ self.now.id }
+        requires part { (B.amounts ≡ picked places.now tally.old.amounts) × (B.owns ≡ picked places.now tally.old.owns) }
+        ensures left { tally.new ≡ left_after tally.old places.now }
+        ensures gone { result ≡ gone_after tally.old places.now }
+    {
+        self.cut::<B>(tally)
+    }
+
     /// Moves an amount of a shared place to a new tally, which owns nothing.
     pub fn split(&self, tally: &mut Tally<T::Label>, place: u32, amount: u64) -> Tally<T::Label>
         requires cell { tally.old.id ≡ self.now.id }
         requires place { place < self.now.shared }
         requires amount { amount ≤ slice_index tally.old.amounts place }
         ensures left { tally.new ≡ record tally.old { amounts = slice_set tally.old.amounts place (slice_index tally.old.amounts place - amount) } }
-        ensures gone { result ≡ record { id = self.now.id; amounts = alone (length tally.old.amounts) place amount; owns = [] } }
+        ensures gone { result ≡ record tally.old { amounts = alone (length tally.old.amounts) place amount; owns = [] } }
         ensures moved { (slice_index result.amounts place ≡ amount) × (slice_index tally.new.amounts place + amount ≡ slice_index tally.old.amounts place) }
         ensures others { (p : ℕ) → p ≢ place → (slice_index result.amounts p ≡ 0) × (slice_index tally.new.amounts p ≡ slice_index tally.old.amounts p) }
     {
-        self.cut::<Brand>(tally)
+        self.cut_amount::<Brand>(tally, place, amount)
     }
 
     /// Moves owned places, with all that the tally has there, to a new tally.
     pub fn split_own(&self, tally: &mut Tally<T::Label>, places: &[u32]) -> Tally<T::Label>
         requires cell { tally.old.id ≡ self.now.id }
         requires owned { All (λ p. slice_index tally.old.owns p ≢ 0) places.now }
-        ensures left { tally.new ≡ record tally.old { amounts = cleared places.now tally.old.amounts; owns = cleared places.now tally.old.owns } }
-        ensures gone { result ≡ record tally.old { amounts = picked places.now tally.old.amounts; owns = picked places.now tally.old.owns } }
+        ensures left { tally.new ≡ left_after tally.old places.now }
+        ensures gone { result ≡ gone_after tally.old places.now }
         ensures moved { All (IsMoved tally.old tally.new result) places.now }
         ensures others { (p : ℕ) → All (λ q. q ≢ p) places.now → IsLeft tally.old tally.new result p }
     {
-        self.cut::<Brand>(tally)
+        self.cut_places::<Brand>(tally, places)
     }
 
     /// Moves all that another tally has to the tally.
