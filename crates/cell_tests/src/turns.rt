@@ -114,31 +114,8 @@ fn four_threads_wait_at_once(rt: HostRuntime) -> Result<(), Fail> {
     let Ok((cell, all)) = Cell::new(rt.alloc(), empty_purse(), 1, 1) else {
         panic!(rt; "no memory")
     };
-    let done = thread::map_indices(&rt, rt.alloc(), 4, &|_| visit_often(&rt, &cell))?;
+    let done = thread::map_indices(&rt, rt.alloc(), 4, &|_| visit_often(&rt, &cell));
     let purse = cell.end(&rt, all);
-    assert_eq!(rt; (done.len(), purse.visits), (4, 800));
-    Ok(())
-}
-
-#[test]
-fn shares_of_a_place_are_spent(rt: HostRuntime) -> Result<(), Fail> {
-    let Ok((cell, mut one)) = Cell::new(rt.alloc(), empty_purse(), 1, 1) else {
-        panic!(rt; "no memory")
-    };
-    let (mut held, mut purse) = cell.lock(&rt);
-    held.raise(&mut one, 0, 10);
-    purse.paid = 10;
-    held.end(purse);
-    let mut two = cell.split(&mut one, 0, 4);
-    let (mut held, mut purse) = cell.lock(&rt);
-    held.agree(&mut two);
-    assert_eq!(rt; purse.paid, 10);
-    held.lower(&mut two, 0, 4);
-    held.lower(&mut one, 0, 5);
-    purse.paid = 1;
-    held.end(purse);
-    cell.join(&mut one, two);
-    let purse = cell.end(&rt, one);
-    assert_eq!(rt; (purse.paid, purse.turns), (1, 0));
+    assert_eq!(rt; (done?.len(), purse.visits), (4, 800));
     Ok(())
 }

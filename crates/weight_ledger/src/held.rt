@@ -35,6 +35,7 @@ impl<'a, T: Counted> Held<'a, T> {
         requires room { slice_index self.old.book place + amount < 2 ^ 64 }
         ensures book { self.new ≡ record self.old { book = slice_set self.old.book place (slice_index self.old.book place + amount) } }
         ensures tally { tally.new ≡ record tally.old { amounts = slice_set tally.old.amounts place (slice_index tally.old.amounts place + amount) } }
+        ensures mine { slice_index tally.new.amounts place ≡ slice_index tally.old.amounts place + amount }
     {
         let cell = self.cell;
         let shared = &cell.table.shared;
@@ -52,6 +53,7 @@ impl<'a, T: Counted> Held<'a, T> {
         requires amount { amount ≤ slice_index tally.old.amounts place }
         ensures book { self.new ≡ record self.old { book = slice_set self.old.book place (slice_index self.old.book place - amount) } }
         ensures tally { tally.new ≡ record tally.old { amounts = slice_set tally.old.amounts place (slice_index tally.old.amounts place - amount) } }
+        ensures mine { slice_index tally.new.amounts place ≡ slice_index tally.old.amounts place - amount }
     {
         let cell = self.cell;
         let shared = &cell.table.shared;
