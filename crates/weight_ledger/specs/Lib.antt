@@ -1,0 +1,4 @@
+pub mod Seen
+pub mod Amounts
+pub mod Keeping
+pub mod Telling
