@@ -33,6 +33,7 @@ impl Running {
     /// The sums over nothing, on so many conits, in memory of `alloc`.
     pub fn new(alloc: Global, conits: u32) -> Result<Running, NoMemory>
         ensures conits { IfOk result (λ made. conits_of made ≡ conits) }
+        ensures held { IfOk result (λ made. held_of made ≡ 0) }
         ensures none { IfOk result (λ made. HoldsAll made []) }
     {
         Ok(Running {

@@ -2,12 +2,17 @@
 //! them from being committed.
 #![tactic(auto)]
 
+#[cfg(test)]
+mod tests;
+mod totals;
+
 ghost use Rattle.std.specs.Prelude.{◌≡◌, ◌<◌, ◌≤◌, ◌*◌, length};
 ghost use Rattle.tact_base.specs.Covers.{slowest};
 ghost use Rattle.tact_base.specs.Sums.{order_sum};
 ghost use Rattle.tact_base.specs.declared.limits.TheConstants.{REPLICAS_MAX, SUMMED_WRITES, WEIGHT_MAX};
 
 use tact_base::{Cover, Write, slowest_of, sum_on};
+pub use totals::Totals;
 
 /// The sum of the oweights on the conit, of at most 200,000 tentative writes. Takes no memory.
 pub fn tentative(writes: &[Write], conit: u32) -> u64
@@ -25,53 +30,4 @@ pub fn slowest(covers: &[Cover]) -> u32
     ensures { result ≡ slowest covers.now }
 {
     slowest_of(covers).replica
-}
-
-#[cfg(test)]
-mod tests {
-    use super::*;
-    use std::test::Fail;
-    use tact_base::{Op, Weight, Weights};
-
-    fn write(index: u64, weights: &[Weight]) -> Result<Write, Fail> {
-        Ok(Write {
-            origin: 1,
-            index,
-            stamp: 1,
-            moment: 0,
-            weights: Weights::new(weights)?,
-            op: Op::Add { key: 1, delta: 1 },
-        })
-    }
-
-    #[test]
-    fn weighs_tentative_writes(rt: HostRuntime) -> Result<(), Fail> {
-        let on_0 = Weight {
-            conit: 0,
-            nweight: -3,
-            oweight: 4,
-        };
-        let on_2 = Weight {
-            conit: 2,
-            nweight: 1,
-            oweight: 1_000_000,
-        };
-        let writes = [write(0, &[on_0])?, write(1, &[])?, write(2, &[on_0, on_2])?];
-        for (conit, weight) in [(0, 8), (1, 0), (2, 1_000_000)] {
-            assert_eq!(rt; tentative(&writes, conit), weight, "on conit {conit}");
-        }
-        Ok(())
-    }
-
-    #[test]
-    fn names_the_slowest(rt: HostRuntime) {
-        for (stamps, replica) in [([3, 3, 3], 0), ([3, 2, 2], 1), ([3, 2, 1], 2)] {
-            let covers = stamps.map(|stamp| Cover {
-                count: 1,
-                stamp,
-                moment: 9,
-            });
-            assert_eq!(rt; slowest(&covers), replica, "of {covers:?}");
-        }
-    }
 }
