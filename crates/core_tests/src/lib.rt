@@ -11,6 +11,8 @@ mod message_ranges;
 #[cfg(test)]
 mod numbers;
 #[cfg(test)]
+mod replica;
+#[cfg(test)]
 mod setups;
 #[cfg(test)]
 mod texts;

@@ -1,13 +1,16 @@
 -- A write that a client asked for is accepted: the replica stands for its part with that call.
 use Rattle.std.proofs.Common.{◌≡◌, ℕ, ◌+◌, ◌<◌, ◌≤◌, ◌==◌, max, true, false, cond, List, [], ◌∷◌, ◌++◌, length, get_or, flat_map, All, Some, refl, sym, ap, ap₂, ◌∙◌, subst, ⊎_elim, arith, get_or-set_same, get_or-set_other}
 use Rattle.std.proofs.lemmas.Bool.{cases_eq, eq-eqb, ne_eqb}
+use Rattle.std.proofs.lemmas.List.{length-set}
+use Rattle.std.proofs.lemmas.List.FromFn.{fill_by_all}
 use Rattle.std.proofs.lemmas.List.Elements.{All-nil}
 use Rattle.std.proofs.lemmas.List.Sums.{length-filter, count_by-le-length}
 use Rattle.tact_base.proofs.CompareLemmas.{AreApart}
 use Rattle.tact_base.proofs.ListLemmas.{All-flat_map, All-range}
+use Rattle.tact_base.specs.Counts.{one_more}
 use Rattle.tact_base.specs.WriteOrder.{with_write}
 use Rattle.tact_base.specs.declared.conit_list.Weight.{Weight}
-use Rattle.tact_base.specs.declared.limits.TheConstants.{MOMENT_MAX}
+use Rattle.tact_base.specs.declared.limits.TheConstants.{CLIENTS, MOMENT_MAX}
 use Rattle.tact_base.specs.declared.write.Op.{Op}
 use Rattle.tact_base.specs.declared.write.Write.{Write}
 use Rattle.run_model.specs.Histories.{moment_at, is_call_of, calls_in}
@@ -27,11 +30,12 @@ use Rattle.run_model.proofs.Accepted.{log_of-same, log_of-other}
 use Rattle.run_model.proofs.ClockLemmas.{clock-accepted}
 use Rattle.run_model.proofs.SoundViews.{cover_of-other}
 use Rattle.run_promises.proofs.PartViews.{PartSound-log}
-use Rattle.replica_core.specs.States.{Core, log_at, is_full, one_more, next_write, accepted, entered}
+use Rattle.replica_core.specs.States.{Core, log_at, is_full, next_write, accepted, entered}
 use Rattle.replica_core.specs.Stands.{Stands}
+use Rattle.replica_core.proofs.StandsByPlace.{log_at-part, cover_at-part}
 use Rattle.replica_core.proofs.AdmitLemmas.{in_order-one_more}
 use Rattle.replica_core.proofs.DueEntries.{entry_of, sound, is_due, goes_on, has_grown, no_loans}
-use Rattle.replica_core.proofs.Entering.{IsOpen, Stands-entered}
+use Rattle.replica_core.proofs.StandsAfterEntry.{IsReadyToEnter, Stands-entered}
 
 -- counts of a part are far from the end of their type
 pub calls-few : (part : List Entry) (client : ℕ) → calls_in part client ≤ length part
@@ -39,8 +43,8 @@ calls-few part client =
     let test = λ (e : Entry). is_call_of client e.act in
     omega (arith, length-filter test part, count_by-le-length test part)
 
-module _ (part : List Entry) (core : Core) (stands : Stands part core) (free : is_full core ≡ false) (among : core.replica < core.setup.replicas) (logs_sized : length core.logs ≡ core.setup.replicas) (covers_sized : length core.covers ≡ core.setup.replicas) (calls_sized : length core.calls ≡ 8)
-    (handed : ℕ) (handed_in : handed ≤ MOMENT_MAX) (client : ℕ) (client_in : client < 8) (weights : List Weight) (plain : weights ≡ []) (op : Op) (op_in : IsOpInRange op) where
+module _ (part : List Entry) (core : Core) (stands : Stands part core) (free : is_full core ≡ false) (among : core.replica < core.setup.replicas) (logs_sized : length core.logs ≡ core.setup.replicas) (covers_sized : length core.covers ≡ core.setup.replicas) (calls_sized : length core.calls ≡ CLIENTS)
+    (handed : ℕ) (handed_in : handed ≤ MOMENT_MAX) (client : ℕ) (client_in : client < CLIENTS) (weights : List Weight) (plain : weights ≡ []) (op : Op) (op_in : IsOpInRange op) where
   abbrev asks : Act
   asks = act.Call client (calls_in part client) (request.Write weights op) (reply.Done (length (log_at core core.replica)) (core.clock + 1))
 
@@ -54,18 +58,19 @@ module _ (part : List Entry) (core : Core) (stands : Stands part core) (free : i
   after = accepted core client write
 
   own_size : length (log_at core core.replica) ≡ have core.replica part core.replica
-  own_size = ap length (stands.logs core.replica among)
+  own_size = ap length (log_at-part part core stands core.replica among)
 
   no_weights : AreWeightsInRange core.setup weights
   no_weights = subst (AreWeightsInRange core.setup) (sym plain) (record { each = All-nil (IsWeightInRange core.setup); listed = refl })
 
+  -- the reply is the one that is due
+  pub answered : reply.Done (length (log_at core core.replica)) (core.clock + 1) ≡ reply_of core.setup core.replica part (moment_at part handed) (request.Write weights op)
+  answered =
+      subst (λ ws. reply.Done (length (log_at core core.replica)) (core.clock + 1) ≡ reply_of core.setup core.replica part (moment_at part handed) (request.Write ws op)) (sym plain)
+      (ap₂ (λ (n s : ℕ). reply.Done n (s + 1)) own_size stands.clock)
+
   due : IsDue core.setup part entry
-  due =
-      is_due part core stands free among handed handed_in asks (client_in, (no_weights, op_in)) (
-        refl,
-        subst (λ ws. reply.Done (length (log_at core core.replica)) (core.clock + 1) ≡ reply_of core.setup core.replica part (moment_at part handed) (request.Write ws op)) (sym plain)
-            (ap₂ (λ (n s : ℕ). reply.Done n (s + 1)) own_size stands.clock),
-      )
+  due = is_due part core stands free among handed handed_in asks (client_in, (no_weights, op_in)) (refl, answered)
 
   accepts : accepted_in entry ≡ Some write
   accepts = ap (λ (m : ℕ). let w : Write = record write { moment = m } in Some w) (sym (ap (max handed) stands.last))
@@ -75,12 +80,12 @@ module _ (part : List Entry) (core : Core) (stands : Stands part core) (free : i
       (λ (same : origin ≡ core.replica).
       ap (λ o. get_or after.logs o []) same
       ∙ get_or-set_same core.logs core.replica (log_at core core.replica ++ write ∷ []) [] (omega (arith, among, logs_sized))
-      ∙ ap (λ log. log ++ write ∷ []) (stands.logs core.replica among ∙ log_of-same core.replica part)
+      ∙ ap (λ log. log ++ write ∷ []) (log_at-part part core stands core.replica among ∙ log_of-same core.replica part)
       ∙ sym (own-push_some part entry write accepts) ∙ sym (log_of-same core.replica (part ++ entry ∷ []))
       ∙ ap (log_of core.replica (part ++ entry ∷ [])) (sym same))
       (λ (other : origin ≡ core.replica → ⊥).
       get_or-set_other core.logs core.replica origin (log_at core core.replica ++ write ∷ []) [] other
-      ∙ stands.logs origin within ∙ log_of-other core.replica part origin other
+      ∙ log_at-part part core stands origin within ∙ log_of-other core.replica part origin other
       ∙ sym (ap (λ (k : OriginState). k.log) (origin_state-push_none part entry origin refl)) ∙ sym (log_of-other core.replica (part ++ entry ∷ []) origin other))
       (cases_eq origin core.replica)
 
@@ -101,7 +106,7 @@ module _ (part : List Entry) (core : Core) (stands : Stands part core) (free : i
       (λ origin other. log_of-other core.replica (part ++ entry ∷ []) origin other ∙ ap (λ (k : OriginState). k.log) (origin_state-push_none part entry origin refl) ∙ sym (log_of-other core.replica part origin other))
       apart)
 
-  calls_are : (one : ℕ) → one < 8 → get_or after.calls one 0 ≡ calls_in (part ++ entry ∷ []) one
+  calls_are : (one : ℕ) → one < CLIENTS → get_or after.calls one 0 ≡ calls_in (part ++ entry ∷ []) one
   calls_are one within =
       let few = calls-few part client in
       let short = (sound part core stands free among handed handed_in asks).few in
@@ -123,14 +128,16 @@ module _ (part : List Entry) (core : Core) (stands : Stands part core) (free : i
 
   pub Stands-accepted : Stands (part ++ entry ∷ []) (entered after handed)
   Stands-accepted =
-      let open_ : IsOpen part entry after = record {
+      let ready : IsReadyToEnter part entry after = record {
         is_part = goes_on part core stands free among handed handed_in asks due tt;
         grows = has_grown part core stands free among handed handed_in asks due;
         loans = no_loans part core stands free among handed handed_in asks tt;
-        logs = logs_are;
+        logs =
+            fill_by_all (log_of core.replica (part ++ entry ∷ [])) after.logs core.setup.replicas []
+            (length-set core.logs core.replica (log_at core core.replica ++ write ∷ []) ∙ logs_sized) logs_are;
         covers = λ origin within other.
-            stands.covers origin within ∙ cover_of-other core.replica part _ origin other ∙ sym (ap (λ (k : OriginState). k.cover) (origin_state-push_none part entry origin refl));
-        own = stands.covers core.replica among;
+            cover_at-part part core stands origin within ∙ cover_of-other core.replica part _ origin other ∙ sym (ap (λ (k : OriginState). k.cover) (origin_state-push_none part entry origin refl));
+        own = cover_at-part part core stands core.replica among;
         known = λ peer origin peer_in origin_in. stands.known peer origin peer_in origin_in ∙ sym (known-push_none part entry peer origin refl);
         seen = seen_is;
         clock = omega (arith, stands.clock, clock-accepted part entry write accepts refl);
@@ -139,4 +146,4 @@ module _ (part : List Entry) (core : Core) (stands : Stands part core) (free : i
         count = stands.count;
         last = stands.last;
       } in
-      Stands-entered part entry after handed open_ refl among covers_sized
+      Stands-entered part entry after handed ready refl among covers_sized

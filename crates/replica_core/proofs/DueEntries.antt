@@ -68,9 +68,9 @@ module _ (part : List Entry) (core : Core) (stands : Stands part core) (free : i
 
 -- What stays where an entry accepts and takes nothing.
 module _ (setup : Setup) (replica : ℕ) (part : List Entry) (entry : Entry) (accepts : accepted_in entry ≡ None) (takes : taken_by entry ≡ None) where
-  pub quiet_log : (origin : ℕ) → log_of replica (part ++ entry ∷ []) origin ≡ log_of replica part origin
-  quiet_log origin = ap₂ (λ (own_log : List Write) (kept : OriginState). cond (origin == replica) own_log kept.log) (own-push_none part entry accepts) (origin_state-push_none part entry origin takes)
+  pub log_of-without_write : (origin : ℕ) → log_of replica (part ++ entry ∷ []) origin ≡ log_of replica part origin
+  log_of-without_write origin = ap₂ (λ (own_log : List Write) (kept : OriginState). cond (origin == replica) own_log kept.log) (own-push_none part entry accepts) (origin_state-push_none part entry origin takes)
 
-  pub quiet_seen : seen setup replica (part ++ entry ∷ []) ≡ seen setup replica part
-  quiet_seen =
-      ap in_order (flat_map_agree (log_of replica (part ++ entry ∷ [])) (log_of replica part) (replicas_of setup) (λ k d within. quiet_log _))
+  pub seen-without_write : seen setup replica (part ++ entry ∷ []) ≡ seen setup replica part
+  seen-without_write =
+      ap in_order (flat_map_agree (log_of replica (part ++ entry ∷ [])) (log_of replica part) (replicas_of setup) (λ k d within. log_of-without_write _))

@@ -1,6 +1,8 @@
-pub mod Entering
+pub mod StandsByPlace
+pub mod StandsAfterEntry
 pub mod DueEntries
-pub mod Restarting
+pub mod StandsAfterRestart
+pub mod NewReplica
 pub mod AdmitLemmas
 pub mod Accepting
 pub mod SendLemmas

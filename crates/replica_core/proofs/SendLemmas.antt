@@ -1,11 +1,13 @@
 -- The message that a replica sends.
-use Rattle.std.proofs.Common.{◌≡◌, ◌≢◌, ℕ, zero, suc, ◌+◌, ◌-◌, ◌<◌, ◌≤◌, ◌==◌, min, max, false, cond, List, [], ◌∷◌, ◌++◌, length, get_or, take, drop, map, sum_by, flat_map, All, refl, sym, ap, ap₂, ◌∙◌, subst, ⊎_elim, arith}
+use Rattle.std.proofs.Common.{◌≡◌, ◌≢◌, ℕ, zero, suc, ◌+◌, ◌-◌, ◌<◌, ◌≤◌, ◌==◌, min, max, false, cond, List, [], ◌∷◌, ◌++◌, length, get_or, replicate, take, drop, map, sum_by, flat_map, All, refl, sym, ap, ap₂, ◌∙◌, subst, ⊎_elim, arith}
 use Rattle.std.specs.List.{range_with_len}
 use Rattle.std.proofs.lemmas.Bool.{cases_eq, eq-eqb, ne_eqb}
-use Rattle.std.proofs.lemmas.List.{length_push}
+use Rattle.std.proofs.lemmas.List.{length_push, length-replicate, get_or-replicate}
+use Rattle.std.proofs.lemmas.List.FromFn.{fill_by_all}
 use Rattle.std.proofs.lemmas.List.Elements.{All-head, All-tail}
 use Rattle.std.proofs.lemmas.List.Sums.{sum_by-cons}
 use Rattle.tact_base.proofs.ListLemmas.{All-range, flat_map_agree, get_or-map_range, map_agree, length-filter_map, map_range_agree}
+use Rattle.tact_base.specs.Counts.{first_index, one_more}
 use Rattle.tact_base.specs.declared.limits.TheConstants.{MESSAGE_WRITES, MOMENT_MAX, HISTORY_MAX}
 use Rattle.tact_base.specs.declared.write.Cover.{Cover}
 use Rattle.tact_base.specs.declared.write.Write.{Write}
@@ -26,55 +28,60 @@ use Rattle.run_model.proofs.Firsts.{message_again}
 use Rattle.run_model.proofs.PartLemmas.{sent_by, origin_state-push_none, known-push_none, sent_in-push_some, calls_in-push}
 use Rattle.run_model.proofs.SoundViews.{cover_of-same, cover_of-other}
 use Rattle.run_promises.proofs.DueInRange.{due_message_in_range}
-use Rattle.replica_core.specs.States.{Core, log_at, cover_at, known_at, own_cover, origins_of, one_more, is_full, entered}
+use Rattle.replica_core.specs.States.{Core, log_at, cover_at, known_at, own_cover, origins_of, is_full, entered}
 use Rattle.replica_core.specs.Sending.{cover_told, first_told, writes_told, next_message, with_sent}
 use Rattle.replica_core.specs.Stands.{Stands}
+use Rattle.replica_core.proofs.StandsByPlace.{log_at-part, cover_at-part}
 use Rattle.run_model.proofs.SentMessages.{lent_opening, returned_nothing, same_message}
-use Rattle.replica_core.proofs.Entering.{IsOpen, Stands-entered}
-use Rattle.replica_core.proofs.DueEntries.{entry_of, sound, moment_in, not_full, is_due, goes_on, has_grown, no_loans, quiet_log, quiet_seen}
-
-pub first_told-same : (core : Core) (to : ℕ) (given : List ℕ) (origin : ℕ) → origin ≡ to → first_told core to given origin ≡ length (log_at core origin)
-first_told-same core to given origin same =
-    ap (λ yes. cond yes (length (log_at core origin)) (min (length (log_at core origin)) (max (get_or given origin 0) (known_at core to origin)))) (eq-eqb origin to same)
-
-pub first_told-other : (core : Core) (to : ℕ) (given : List ℕ) (origin : ℕ) → (origin ≡ to → ⊥) → first_told core to given origin ≡ min (length (log_at core origin)) (max (get_or given origin 0) (known_at core to origin))
-first_told-other core to given origin other =
-    ap (λ yes. cond yes (length (log_at core origin)) (min (length (log_at core origin)) (max (get_or given origin 0) (known_at core to origin)))) (ne_eqb origin to other)
+use Rattle.replica_core.proofs.StandsAfterEntry.{IsReadyToEnter, Stands-entered}
+use Rattle.replica_core.proofs.DueEntries.{entry_of, sound, moment_in, not_full, is_due, goes_on, has_grown, no_loans, log_of-without_write, seen-without_write}
 
 -- where it stands for a part, it sends the message that is due after it
 module _ (part : List Entry) (core : Core) (stands : Stands part core) (among : core.replica < core.setup.replicas) where
-  stands_have : (origin : ℕ) → origin < core.setup.replicas → length (log_at core origin) ≡ have core.replica part origin
-  stands_have origin within = ap length (stands.logs origin within)
+  stands_have : (origin : ℕ)
+      → origin < core.setup.replicas
+      → length (log_at core origin) ≡ have core.replica part origin
+  stands_have origin within = ap length (log_at-part part core stands origin within)
 
-  stands_cover : (moment origin : ℕ) → origin < core.setup.replicas → cover_told core moment origin ≡ cover_of core.replica part moment origin
+  stands_cover : (moment origin : ℕ)
+      → origin < core.setup.replicas
+      → cover_told core moment origin ≡ cover_of core.replica part moment origin
   stands_cover moment origin within = ⊎_elim
       (λ (same : origin ≡ core.replica).
       ap (λ yes. cond yes (own_cover core moment) (cover_at core origin)) (eq-eqb origin core.replica same)
-      ∙ ap₂ (λ (n k : ℕ). let c : Cover = record { count = n; stamp = k; moment = moment } in c) (ap length (stands.logs core.replica among ∙ log_of-same core.replica part)) stands.clock
+      ∙ ap₂ (λ (n k : ℕ). let c : Cover = record { count = n; stamp = k; moment = moment } in c) (ap length (log_at-part part core stands core.replica among ∙ log_of-same core.replica part)) stands.clock
       ∙ sym (cover_of-same core.replica part moment) ∙ ap (cover_of core.replica part moment) (sym same))
       (λ (other : origin ≡ core.replica → ⊥).
       ap (λ yes. cond yes (own_cover core moment) (cover_at core origin)) (ne_eqb origin core.replica other)
-      ∙ stands.covers origin within ∙ cover_of-other core.replica part (last_moment part) origin other ∙ sym (cover_of-other core.replica part moment origin other))
+      ∙ cover_at-part part core stands origin within ∙ cover_of-other core.replica part (last_moment part) origin other ∙ sym (cover_of-other core.replica part moment origin other))
       (cases_eq origin core.replica)
 
-  stands_first : (to : ℕ) (given : List ℕ) → to < core.setup.replicas → (origin : ℕ) → origin < core.setup.replicas → first_told core to given origin ≡ first_for core.replica part to given origin
+  stands_first : (to : ℕ) (given : List ℕ)
+      → to < core.setup.replicas
+      → (origin : ℕ)
+      → origin < core.setup.replicas
+      → first_told core to given origin ≡ first_for core.replica part to given origin
   stands_first to given to_in origin within =
-      ap (λ (n : ℕ). cond (origin == to) n (min n (max (get_or given origin 0) (known_at core to origin)))) (stands_have origin within)
-      ∙ ap (λ (n : ℕ). cond (origin == to) (have core.replica part origin) (min (have core.replica part origin) (max (get_or given origin 0) n))) (stands.known to origin to_in within)
+      ap (λ (n : ℕ). first_index to origin n (known_at core to origin) (get_or given origin 0)) (stands_have origin within)
+      ∙ ap (λ (n : ℕ). first_index to origin (have core.replica part origin) n (get_or given origin 0)) (stands.known to origin to_in within)
 
   abbrev firsts : ℕ → List ℕ → List ℕ
   firsts to given = map (first_told core to given) (origins_of core)
 
-  stands_writes : (to : ℕ) (given : List ℕ) → to < core.setup.replicas → writes_told core (firsts to given) ≡ writes_for core.setup core.replica part to given
+  stands_writes : (to : ℕ) (given : List ℕ)
+      → to < core.setup.replicas
+      → writes_told core (firsts to given) ≡ writes_for core.setup core.replica part to given
   stands_writes to given to_in =
       ap (take MESSAGE_WRITES)
       (flat_map_agree (λ origin. drop (get_or (firsts to given) origin 0) (log_at core origin)) (λ origin. drop (first_for core.replica part to given origin) (log_of core.replica part origin)) (origins_of core)
       (All-range (λ origin. drop (get_or (firsts to given) origin 0) (log_at core origin) ≡ drop (first_for core.replica part to given origin) (log_of core.replica part origin)) 0 core.setup.replicas
       (λ origin low high.
       let within : origin < core.setup.replicas = omega (arith, high) in
-      ap₂ drop (get_or-map_range (first_told core to given) core.setup.replicas origin 0 within ∙ stands_first to given to_in origin within) (stands.logs origin within))))
+      ap₂ drop (get_or-map_range (first_told core to given) core.setup.replicas origin 0 within ∙ stands_first to given to_in origin within) (log_at-part part core stands origin within))))
 
-  pub next_due : (moment to : ℕ) (given : List ℕ) → to < core.setup.replicas → next_message core moment to given ≡ message_of core.setup core.replica part moment to given
+  pub next_due : (moment to : ℕ) (given : List ℕ)
+      → to < core.setup.replicas
+      → next_message core moment to given ≡ message_of core.setup core.replica part moment to given
   next_due moment to given to_in = same_message core.replica core.replica to _ _ _ _ _ _ _ _ _ _ _ _ _ _
       refl stands.sends
       (map_range_agree (λ origin. length (log_at core origin)) (have core.replica part) core.setup.replicas stands_have)
@@ -83,7 +90,8 @@ module _ (part : List Entry) (core : Core) (stands : Stands part core) (among : 
       (stands_writes to given to_in)
       (map_range_agree (λ conit. loan_of core.setup core.replica conit to) (lent core.setup core.replica part to) core.setup.conits
       (λ conit within. sym (lent_opening core.setup core.replica part to conit stands.loans)))
-      (map_range_agree (λ conit. 0) (returned part to) core.setup.conits (λ conit within. sym (returned_nothing part to conit stands.loans)))
+      (fill_by_all (returned part to) (replicate core.setup.conits 0) core.setup.conits 0 (length-replicate core.setup.conits 0)
+      (λ conit within. get_or-replicate core.setup.conits conit 0 0 within ∙ sym (returned_nothing part to conit stands.loans)))
 
 -- It stands for its part with the message sent.
 module _ (part : List Entry) (core : Core) (stands : Stands part core) (good : IsSetup core.setup) (free : is_full core ≡ false) (among : core.replica < core.setup.replicas) (covers_sized : length core.covers ≡ core.setup.replicas)
@@ -118,20 +126,20 @@ module _ (part : List Entry) (core : Core) (stands : Stands part core) (good : I
       let more : sent_in (part ++ entry ∷ []) ≡ sent_in part ++ message ∷ [] = sent_in-push_some part entry message refl in
       let few : length (sent_in part) ≤ length part = length-filter_map sent_by part in
       let room = not_full core free in
-      let open_ : IsOpen part entry (with_sent core) = record {
+      let ready : IsReadyToEnter part entry (with_sent core) = record {
         is_part = goes_on part core stands free among handed handed_in sends due tt;
         grows = has_grown part core stands free among handed handed_in sends due;
         loans = no_loans part core stands free among handed handed_in sends tt;
-        logs = λ origin within. stands.logs origin within ∙ sym (quiet_log core.setup core.replica part entry refl refl origin);
+        logs = stands.logs ∙ map_range_agree (log_of core.replica part) (log_of core.replica (part ++ entry ∷ [])) core.setup.replicas (λ origin within. sym (log_of-without_write core.setup core.replica part entry refl refl origin));
         covers = λ origin within other.
-            stands.covers origin within ∙ cover_of-other core.replica part _ origin other ∙ sym (ap (λ k. k.cover) (origin_state-push_none part entry origin refl));
-        own = stands.covers core.replica among;
+            cover_at-part part core stands origin within ∙ cover_of-other core.replica part _ origin other ∙ sym (ap (λ k. k.cover) (origin_state-push_none part entry origin refl));
+        own = cover_at-part part core stands core.replica among;
         known = λ peer origin peer_in origin_in. stands.known peer origin peer_in origin_in ∙ sym (known-push_none part entry peer origin refl);
-        seen = stands.seen ∙ sym (quiet_seen core.setup core.replica part entry refl refl);
+        seen = stands.seen ∙ sym (seen-without_write core.setup core.replica part entry refl refl);
         clock = stands.clock ∙ sym (clock-push_none part entry refl refl);
         calls = λ client within. stands.calls client within ∙ sym (calls_in-push part entry client ∙ omega arith);
         sends = omega (arith, stands.sends, ap length more, length_push (sent_in part) message, few, stands.count, room.0);
         count = stands.count;
         last = stands.last;
       } in
-      Stands-entered part entry (with_sent core) handed open_ refl among covers_sized
+      Stands-entered part entry (with_sent core) handed ready refl among covers_sized

@@ -1,12 +1,13 @@
 -- The message that a replica sends, from what it keeps.
-use Rattle.std.specs.Prelude.{ℕ, ◌+◌, ◌==◌, min, max, List, take, drop, length, map, slice_index, if◌then◌else◌}
+use Rattle.std.specs.Prelude.{ℕ, ◌==◌, List, take, drop, length, map, replicate, slice_index, if◌then◌else◌}
 use Rattle.std.specs.List.{flat_map}
+use Rattle.tact_base.specs.Counts.{first_index, one_more}
 use Rattle.tact_base.specs.declared.limits.TheConstants.{MESSAGE_WRITES}
 use Rattle.tact_base.specs.declared.write.Cover.{Cover}
 use Rattle.tact_base.specs.declared.write.Write.{Write}
 use Rattle.tact_base.specs.Setup.{loan_of, conits_of}
 use Rattle.run_model.specs.declared.entry.Message.{Message}
-use Rattle.replica_core.specs.States.{Core, log_at, cover_at, known_at, own_cover, origins_of, one_more}
+use Rattle.replica_core.specs.States.{Core, log_at, cover_at, known_at, own_cover, origins_of}
 
 -- the cover that it tells of an origin: of itself its own state at a moment
 abbrev pub cover_told : Core → ℕ → ℕ → Cover
@@ -15,8 +16,7 @@ cover_told core moment origin = if origin == core.replica then own_cover core mo
 -- where the writes of an origin that it tells another begin
 abbrev pub first_told : Core → ℕ → List ℕ → ℕ → ℕ
 first_told core to given origin =
-    if origin == to then length (log_at core origin)
-    else min (length (log_at core origin)) (max (slice_index given origin) (known_at core to origin))
+    first_index to origin (length (log_at core origin)) (known_at core to origin) (slice_index given origin)
 
 -- of each origin the writes from these firsts on, as many as a message has room for
 abbrev pub writes_told : Core → List ℕ → List Write
@@ -35,7 +35,7 @@ next_message core moment to given =
       firsts = firsts;
       writes = writes_told core firsts;
       lent = map (λ conit. loan_of core.setup core.replica conit to) (conits_of core.setup);
-      returned = map (λ conit. 0) (conits_of core.setup);
+      returned = replicate core.setup.conits 0;
     }
 
 -- after one more message was sent

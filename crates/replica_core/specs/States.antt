@@ -1,9 +1,10 @@
 -- The state of a replica, as plain lists and numbers.
-use Rattle.std.specs.Prelude.{◌≡◌, ℕ, ◌+◌, ◌-◌, ◌*◌, ◌^◌, ◌<◌, ◌≤◌, ◌||◌, Bool, nat_le, min, max, List, [], ◌∷◌, ◌++◌, All, length, slice_index, slice_index_or, slice_set}
+use Rattle.std.specs.Prelude.{◌≡◌, ℕ, ◌+◌, ◌*◌, ◌<◌, ◌≤◌, ◌||◌, Bool, nat_le, max, List, [], ◌∷◌, ◌++◌, All, length, slice_index, slice_index_or, slice_set}
 use Rattle.std.specs.List.{flat_map, range_with_len}
+use Rattle.tact_base.specs.Counts.{one_more}
 use Rattle.tact_base.specs.Covers.{no_cover, later_cover, least_stamp}
 use Rattle.tact_base.specs.WriteOrder.{in_order, with_write}
-use Rattle.tact_base.specs.declared.limits.TheConstants.{STAMP_MAX, HISTORY_MAX}
+use Rattle.tact_base.specs.declared.limits.TheConstants.{STAMP_MAX, HISTORY_MAX, CLIENTS}
 use Rattle.tact_base.specs.declared.conit_list.Weight.{Weight}
 use Rattle.tact_base.specs.declared.write.Cover.{Cover}
 use Rattle.tact_base.specs.declared.write.Op.{Op}
@@ -56,7 +57,7 @@ pub record HasPlaces (replicas replica : ℕ) (logs : List (List Write)) (covers
   pub logs_sized : length logs ≡ replicas
   pub covers_sized : length covers ≡ replicas
   pub known_sized : length known ≡ replicas * replicas
-  pub calls_sized : length calls ≡ 8
+  pub calls_sized : length calls ≡ CLIENTS
 
 -- what the replica is at now: so many own writes, its clock, and a moment
 abbrev pub own_cover : Core → ℕ → Cover
@@ -79,15 +80,11 @@ joined replicas logs = flat_map (λ origin. slice_index_or logs origin []) (rang
 
 -- What holds of it between two entries: the writes in order are those of its logs, each within its log; its own cover isn't past its
 -- clock; and what is committed goes up to the least stamp.
-pub record IsKeptInOrder (replicas replica : ℕ) (logs : List (List Write)) (covers : List Cover) (seen : List Write) (point clock : ℕ) : Type 0 where
+pub record IsBetweenEntries (replicas replica : ℕ) (logs : List (List Write)) (covers : List Cover) (seen : List Write) (point clock : ℕ) : Type 0 where
   pub ordered : seen ≡ in_order (joined replicas logs)
   pub placed : All (λ (write : Write). (write.origin < replicas) × (write.index < length (slice_index_or logs write.origin []))) seen
   pub own : (slice_index_or covers replica no_cover).stamp ≤ clock
   pub committed : point ≡ least_stamp covers
-
--- one more, at most the greatest u64
-abbrev pub one_more : ℕ → ℕ
-one_more n = min (n + 1) (2 ^ 64 - 1)
 
 -- the write that it accepts next, at the moment that follows a handed one
 abbrev pub next_write : Core → ℕ → List Weight → Op → Write

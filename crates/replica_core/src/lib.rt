@@ -2,13 +2,8 @@
 //! entries that it makes.
 #![tactic(auto)]
 
-mod admitting;
 mod fault;
 mod replica;
-mod sending;
-#[cfg(test)]
-mod tests;
-mod writing;
 
 pub use fault::CoreFault;
 pub use replica::Replica;

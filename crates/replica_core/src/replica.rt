@@ -1,18 +1,23 @@
 //! The state of a replica, and what can be read of it.
-ghost use Rattle.std.specs.Prelude.{◌≡◌, ◌↔◌, ℕ, ◌*◌, ◌<◌, ◌≤◌, [], suc, length, map, replicate, slice_index, IfOk, OnOk, OnErr, IsOk, IfErr, IsTrue, true, false, max};
-ghost use Rattle.tact_base.specs.Covers.{least_stamp};
-ghost use Rattle.tact_base.specs.declared.limits.TheConstants.{HISTORY_MAX, MOMENT_MAX};
+ghost use Rattle.std.specs.Prelude.{◌≡◌, ◌↔◌, ℕ, ◌*◌, ◌<◌, ◌≤◌, List, [], suc, length, map, replicate, slice_index, IfOk, OnOk, OnErr, IsOk, IfErr, IsTrue, true, false, max};
+ghost use Rattle.tact_base.specs.declared.limits.TheConstants.{CLIENTS, HISTORY_MAX, MOMENT_MAX};
 ghost use Rattle.tact_base.specs.WriteOrder.{committed_to, tentative_past};
 ghost use Rattle.replica_core.specs.States.{HasPlaces, log_at, known_at, cover_at, entered, is_full};
 ghost use Rattle.replica_core.specs.Stands.{Stands, GoesOn, IsSameReplica};
+ghost use Rattle.run_model.specs.Order.{point};
+ghost use Rattle.run_model.specs.declared.entry.Entry.{Entry};
 ghost use Rattle.run_model.specs.declared.entry.Act.TheVariants.{Restart};
+
+mod admitting;
+mod sending;
+mod writing;
 
 use crate::CoreFault;
 use commit_order::Ordered;
 use run_model::Config;
 use std::alloc::Global;
 use std::marker::Model;
-use tact_base::{Cover, HISTORY_MAX, NoMemory, STAMP_MAX, Write};
+use tact_base::{CLIENTS, Cover, HISTORY_MAX, NoMemory, STAMP_MAX, Write};
 use version_vector::Vector;
 use write_log::Logs;
 
@@ -20,24 +25,25 @@ use write_log::Logs;
 /// writes it has room; `Stands` says when that is what the definitions say of a part of a history.
 #[derive(Drop)]
 pub struct Replica {
-    pub(crate) config: Config,
-    pub(crate) replica: u32,
-    pub(crate) logs: Logs,
-    pub(crate) vector: Vector,
-    pub(crate) ordered: Ordered,
-    pub(crate) known: Vec<u64>,
-    pub(crate) clock: u64,
-    pub(crate) calls: [u64; 8],
-    pub(crate) sends: u64,
-    pub(crate) count: u64,
-    pub(crate) last: u64,
-    pub(crate) spare: u64,
+    alloc: Global,
+    config: Config,
+    replica: u32,
+    logs: Logs,
+    vector: Vector,
+    ordered: Ordered,
+    known: Vec<u64>,
+    clock: u64,
+    calls: [u64; CLIENTS as usize],
+    sends: u64,
+    count: u64,
+    last: u64,
+    spare: u64,
 }
 
 impl Model for Replica {
     ghost use Rattle.std.specs.Prelude.{◌≤◌};
     ghost use Rattle.write_log.specs.Logs.{room_of};
-    ghost use Rattle.replica_core.specs.States.{ReplicaState, HasPlaces, IsKeptInOrder};
+    ghost use Rattle.replica_core.specs.States.{ReplicaState, HasPlaces, IsBetweenEntries};
 
     ghost Value = { ReplicaState };
 
@@ -61,7 +67,7 @@ impl Model for Replica {
 
     ghost invariant = { λ r. HasPlaces r.config.replicas r.replica r.logs.logs r.vector r.known.items r.calls
         × (r.spare ≤ room_of r.logs r.replica) × (r.spare ≤ r.ordered.room)
-        × IsKeptInOrder r.config.replicas r.replica r.logs.logs r.vector r.ordered.writes r.ordered.point r.clock };
+        × IsBetweenEntries r.config.replicas r.replica r.logs.logs r.vector r.ordered.writes r.ordered.point r.clock };
 }
 
 impl Replica {
@@ -74,6 +80,7 @@ impl Replica {
     {
         let replicas = config.replicas();
         Ok(Replica {
+            alloc,
             config: config.copy(alloc)?,
             replica,
             logs: Logs::new(alloc, replicas)?,
@@ -81,7 +88,7 @@ impl Replica {
             ordered: Ordered::new(alloc),
             known: vec![in alloc; 0; (replicas * replicas) as usize]?,
             clock: 0,
-            calls: [0; 8],
+            calls: [0; CLIENTS as usize],
             sends: 0,
             count: 0,
             last: 0,
@@ -142,7 +149,8 @@ impl Replica {
     /// memory.
     pub fn point(&self) -> u64
         ensures point { result ≡ self.now.core.point }
-        ensures least { result ≡ least_stamp self.now.core.covers }
+        ensures of_part { (part : List Entry) → Stands part self.now.core
+            → result ≡ point self.now.core.setup self.now.core.replica part }
     {
         self.vector.least_stamp().1
     }
@@ -170,7 +178,7 @@ impl Replica {
 
     /// How many calls of a client it answered. Takes no memory.
     pub fn calls(&self, client: u32) -> u64
-        requires { client < 8 }
+        requires { client < CLIENTS }
         ensures { result ≡ slice_index self.now.core.calls client }
     {
         self.calls[client as usize]
@@ -196,7 +204,7 @@ impl Replica {
     /// where 20,000 entries were made or the clock stands at 2^40. Takes no memory.
     pub fn restart(&mut self, moment: u64) -> Result<(), CoreFault>
         requires { moment ≤ MOMENT_MAX }
-        ensures goes_on { OnOk result (GoesOn self.old.core self.new.core moment Restart) }
+        ensures goes_on { OnOk result (GoesOn self.old.core self.new.core moment (λ part. Restart)) }
         ensures same { IsSameReplica self.old.core self.new.core }
         ensures spare { self.new.spare ≡ self.old.spare }
         ensures not_full { OnOk result (is_full self.old.core ≡ false) }
@@ -209,7 +217,7 @@ impl Replica {
     }
 
     // Whether an entry may follow.
-    pub(crate) fn may_enter(&self) -> Result<(), CoreFault>
+    fn may_enter(&self) -> Result<(), CoreFault>
         ensures ok { OnOk result (is_full self.now.core ≡ false) }
         ensures err { OnErr result (is_full self.now.core ≡ true) }
         ensures full { IfErr result (λ fault. fault ≡ CoreFault.Full self.now.core.count self.now.core.clock) }
@@ -225,7 +233,7 @@ impl Replica {
     }
 
     // Counts an entry at the moment that follows the handed one, and commits what can be.
-    pub(crate) fn enter(&mut self, moment: u64)
+    fn enter(&mut self, moment: u64)
         requires { self.old.core.count < HISTORY_MAX }
         ensures { self.new ≡ record self.old { core = entered self.old.core moment } }
     {

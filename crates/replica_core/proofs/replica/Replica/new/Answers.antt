@@ -1,5 +1,5 @@
 use Rattle.std.proofs.Common.{arith}
-use Rattle.replica_core.proofs.Restarting.{Stands-made, HasPlaces-made, IsKeptInOrder-made}
+use Rattle.replica_core.proofs.NewReplica.{Stands-made, HasPlaces-made, IsBetweenEntries-made}
 use Rattle.replica_core.proofs.replica.Replica.new.Goals as goal
 
 pub returns-clause-stands : goal.returns-clause-stands
@@ -18,5 +18,5 @@ invariant_of-result c =
       HasPlaces-made c.args.config.now.replicas c.args.replica _ _ _ c.requires logs covers known,
       omega arith,
       omega arith,
-      IsKeptInOrder-made c.args.config.now.replicas c.args.replica _ _ _ _ c.requires logs covers c.new-3.ensures.writes c.new-3.ensures.point,
+      IsBetweenEntries-made c.args.config.now.replicas c.args.replica _ _ _ _ c.requires logs covers c.new-3.ensures.writes c.new-3.ensures.point,
     )

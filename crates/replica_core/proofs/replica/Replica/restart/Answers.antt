@@ -2,7 +2,7 @@ use Rattle.std.proofs.Common.{sym, ap, subst}
 use Rattle.replica_core.specs.Stands.{Stands, with_act}
 use Rattle.replica_core.specs.States.{ReplicaState}
 use Rattle.run_model.specs.declared.entry.Act.TheVariants.{Restart}
-use Rattle.replica_core.proofs.Restarting.{Stands-restarted}
+use Rattle.replica_core.proofs.StandsAfterRestart.{Stands-restarted}
 use Rattle.replica_core.proofs.replica.Replica.restart.Goals as goal
 
 pub returns-clause-goes_on : goal.returns-clause-goes_on

@@ -1,7 +1,7 @@
 use Rattle.std.proofs.Common.{refl, sym, subst, arith}
 use Rattle.std.proofs.lemmas.List.Elements.{All-nil}
 use Rattle.run_model.specs.Ranges.{IsWeightInRange, AreWeightsInRange}
-use Rattle.replica_core.proofs.tests.write.Goals as goal
+use Rattle.core_tests.proofs.replica.write.Goals as goal
 
 pub call-requires-clause-in_range : goal.call-requires-clause-in_range
 call-requires-clause-in_range c =

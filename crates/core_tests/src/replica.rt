@@ -1,8 +1,10 @@
+//! A replica: what it accepts, what it sends, and when it is full.
+
 ghost use Rattle.std.specs.Prelude.{◌≡◌, ◌≤◌, [], IfOk};
 ghost use Rattle.tact_base.specs.declared.limits.TheConstants.{MOMENT_MAX};
 ghost use Rattle.replica_core.specs.Stands.{IsSameReplica};
 
-use crate::{CoreFault, Replica};
+use replica_core::{CoreFault, Replica};
 use run_model::{Config, Message, Reply, Request};
 use std::alloc::Global;
 use std::test::Fail;
@@ -76,7 +78,7 @@ fn sent(alloc: Global, moment: u64, given: u64) -> Result<(Replica, Message), Fa
 {
     let mut replica = with_two_writes(alloc)?;
     let given = Numbers::from_slice(alloc, &[0, given])?;
-    let message = replica.send(alloc, moment, 0, &given)?;
+    let message = replica.send(moment, 0, &given)?;
     Ok((replica, message))
 }
 
@@ -106,22 +108,81 @@ fn sends_what_another_lacks(rt: HostRuntime) -> Result<(), Fail> {
     Ok(())
 }
 
+// All that can be read of a replica of two.
+#[derive(Debug, Drop, PartialEq, Eq)]
+struct Readings {
+    haves: [u64; 2],
+    known: [u64; 4],
+    covers: [Cover; 2],
+    clock: u64,
+    point: u64,
+    committed: usize,
+    tentative: usize,
+    count: u64,
+    calls: [u64; 8],
+    last: u64,
+    spare: u64,
+}
+
+fn read_all(replica: &Replica) -> Readings
+    requires { replica.now.core.setup.replicas ≡ 2 }
+{
+    let mut calls = [0; 8];
+    for client in 0..8 {
+        calls[client as usize] = replica.calls(client);
+    }
+    Readings {
+        haves: [replica.have(0), replica.have(1)],
+        known: [
+            replica.known(0, 0),
+            replica.known(0, 1),
+            replica.known(1, 0),
+            replica.known(1, 1),
+        ],
+        covers: [replica.cover(0), replica.cover(1)],
+        clock: replica.clock(),
+        point: replica.point(),
+        committed: replica.committed().len(),
+        tentative: replica.tentative().len(),
+        count: replica.count(),
+        calls,
+        last: replica.last(),
+        spare: replica.spare(),
+    }
+}
+
 #[test]
 fn is_full_after_as_many_entries(rt: HostRuntime) -> Result<(), Fail> {
-    let config = Config::new(rt.alloc(), 2, 1, &[10, 10], &[0, 5, 5, 0])?;
+    let config = Config::new(rt.alloc(), 2, 1, &[0, 0], &[0, 0, 0, 0])?;
     let mut replica = Replica::new(rt.alloc(), &config, 0)?;
     for _ in 0..20_000 {
         assert_eq!(rt; replica.restart(3), Ok(()));
     }
+    let own = Cover {
+        count: 0,
+        stamp: 0,
+        moment: 3,
+    };
+    let before = Readings {
+        haves: [0; 2],
+        known: [0; 4],
+        covers: [own, Cover::default()],
+        clock: 0,
+        point: 0,
+        committed: 0,
+        tentative: 0,
+        count: 20_000,
+        calls: [0; 8],
+        last: 3,
+        spare: 0,
+    };
     let full = CoreFault::Full {
         count: 20_000,
         clock: 0,
     };
+    assert_eq!(rt; read_all(&replica), before);
     assert_eq!(rt; replica.restart(4), Err(full));
     assert_eq!(rt; write(&mut replica, 4), Err(full));
-    assert_eq!(rt;
-        (replica.count(), replica.last(), replica.calls(3)),
-        (20_000, 3, 0)
-    );
+    assert_eq!(rt; read_all(&replica), before);
     Ok(())
 }

@@ -1,58 +1,30 @@
--- A restart: nothing but the counts changes. And a replica that has done nothing.
-use Rattle.std.proofs.Common.{◌≡◌, ℕ, ◌+◌, ◌*◌, ◌<◌, ◌≤◌, false, List, [], ◌∷◌, ◌++◌, length, get_or, replicate, refl, sym, ap, ◌∙◌, ⊎_elim, arith}
+-- A replica that has done nothing: it stands for the empty part.
+use Rattle.std.proofs.Common.{◌≡◌, ℕ, ◌+◌, ◌*◌, ◌<◌, ◌≤◌, List, [], length, get_or, replicate, refl, sym, ap, ◌∙◌, ⊎_elim, arith}
 use Rattle.std.specs.List.{range_with_len}
 use Rattle.std.proofs.lemmas.Bool.{cases_eq, cases_lt}
 use Rattle.std.proofs.lemmas.List.{get_or-replicate, length-replicate, get_or_past, get_or-map, length-map}
-use Rattle.std.proofs.lemmas.List.FromFn.{length-map-range_with_len}
+use Rattle.std.proofs.lemmas.List.FromFn.{length-map-range_with_len, fill_by_all}
 use Rattle.std.proofs.lemmas.Nat.{mul-add-lt}
 use Rattle.std.proofs.lemmas.List.Elements.{All-nil}
-use Rattle.tact_base.proofs.CoversLemmas.{least_of-is_least, stamps_of, least_stamp-le}
+use Rattle.tact_base.proofs.CoversLemmas.{least_of-is_least, least_stamp-le}
 use Rattle.tact_base.proofs.ListLemmas.{flat_map_none, get_or-map_range}
 use Rattle.tact_base.specs.Covers.{no_cover}
+use Rattle.tact_base.specs.Setup.{Setup, replicas_of}
 use Rattle.tact_base.specs.WriteOrder.{in_order}
-use Rattle.tact_base.specs.declared.limits.TheConstants.{MOMENT_MAX}
+use Rattle.tact_base.specs.declared.limits.TheConstants.{CLIENTS}
 use Rattle.tact_base.specs.declared.write.Cover.{Cover}
 use Rattle.tact_base.specs.declared.write.Write.{Write}
-use Rattle.tact_base.specs.Setup.{Setup, replicas_of}
 use Rattle.run_model.specs.Taking.{log_of, cover_of, covers_of}
-use Rattle.run_model.specs.Order.{seen, point}
-use Rattle.run_model.specs.Runs.{MayFollow, IsDue}
-use Rattle.run_model.specs.declared.entry.Act.TheVariants as act
+use Rattle.run_model.specs.Loans.{MovesNoLoan}
+use Rattle.run_model.specs.Order.{point}
+use Rattle.run_model.specs.Runs.{MayFollow}
 use Rattle.run_model.specs.declared.entry.Entry.{Entry}
 use Rattle.run_model.proofs.PrefixLemmas.{EachAfter-nil}
-use Rattle.run_model.proofs.PartLemmas.{origin_state-push_none, known-push_none, sent_in-push_none, calls_in-push}
 use Rattle.run_model.proofs.Accepted.{log_of-same, log_of-other}
-use Rattle.run_model.proofs.ClockLemmas.{clock-push_none}
 use Rattle.run_model.proofs.SoundViews.{cover_of-same, cover_of-other}
-use Rattle.replica_core.specs.States.{Core, entered, is_full, HasPlaces, IsKeptInOrder}
-use Rattle.run_model.specs.Loans.{MovesNoLoan}
+use Rattle.replica_core.specs.States.{Core, HasPlaces, IsBetweenEntries}
 use Rattle.replica_core.specs.Stands.{Stands}
-use Rattle.replica_core.proofs.Entering.{IsOpen, Stands-entered}
-use Rattle.replica_core.proofs.DueEntries.{entry_of, is_due, goes_on, has_grown, no_loans, quiet_log, quiet_seen}
-
--- a restart leaves all but the counts
-pub Stands-restarted : (part : List Entry) (core : Core) → Stands part core → is_full core ≡ false → core.replica < core.setup.replicas → length core.covers ≡ core.setup.replicas → (handed : ℕ) → handed ≤ MOMENT_MAX
-    → Stands (part ++ entry_of core.replica part handed act.Restart ∷ []) (entered core handed)
-Stands-restarted part core stands free among sized handed handed_in =
-    let entry = entry_of core.replica part handed act.Restart in
-    let due : IsDue core.setup part entry = is_due part core stands free among handed handed_in act.Restart tt tt in
-    let open_ : IsOpen part entry core = record {
-      is_part = goes_on part core stands free among handed handed_in act.Restart due tt;
-      grows = has_grown part core stands free among handed handed_in act.Restart due;
-      loans = no_loans part core stands free among handed handed_in act.Restart tt;
-      logs = λ origin within. stands.logs origin within ∙ sym (quiet_log core.setup core.replica part entry refl refl origin);
-      covers = λ origin within other.
-          stands.covers origin within ∙ cover_of-other core.replica part _ origin other ∙ sym (ap (λ k. k.cover) (origin_state-push_none part entry origin refl));
-      own = stands.covers core.replica among;
-      known = λ peer origin peer_in origin_in. stands.known peer origin peer_in origin_in ∙ sym (known-push_none part entry peer origin refl);
-      seen = stands.seen ∙ sym (quiet_seen core.setup core.replica part entry refl refl);
-      clock = stands.clock ∙ sym (clock-push_none part entry refl refl);
-      calls = λ client within. stands.calls client within ∙ sym (calls_in-push part entry client ∙ omega arith);
-      sends = stands.sends ∙ sym (ap length (sent_in-push_none part entry refl));
-      count = stands.count;
-      last = stands.last;
-    } in
-    Stands-entered part entry core handed open_ refl among sized
+use Rattle.replica_core.proofs.StandsByPlace.{stamps_of}
 
 -- a replica of empty logs and covers
 abbrev pub new_core : Setup → ℕ → Core
@@ -65,7 +37,7 @@ new_core setup replica = record {
   seen = [];
   point = 0;
   clock = 0;
-  calls = replicate 8 0;
+  calls = replicate CLIENTS 0;
   sends = 0;
   count = 0;
   last = 0;
@@ -99,28 +71,38 @@ module _ (setup : Setup) (replica : ℕ) (among : replica < setup.replicas) wher
   Stands-new = record {
     is_part = EachAfter-nil (MayFollow setup replica);
     loans = All-nil (λ (e : Entry). MovesNoLoan e.act);
-    logs = λ origin within. get_or-replicate setup.replicas origin [] [] within ∙ sym (no_log origin);
-    covers = λ origin within. get_or-replicate setup.replicas origin no_cover no_cover within ∙ sym (cover_nothing 0 origin refl);
+    logs = fill_by_all (log_of replica []) (replicate setup.replicas []) setup.replicas [] (length-replicate setup.replicas []) (λ origin within. get_or-replicate setup.replicas origin [] [] within ∙ sym (no_log origin));
+    covers = fill_by_all (cover_of replica [] 0) (replicate setup.replicas no_cover) setup.replicas no_cover (length-replicate setup.replicas no_cover) (λ origin within. get_or-replicate setup.replicas origin no_cover no_cover within ∙ sym (cover_nothing 0 origin refl));
     known = λ peer origin peer_in origin_in. get_or-replicate (setup.replicas * setup.replicas) (peer * setup.replicas + origin) 0 0 (omega (arith, mul-add-lt peer setup.replicas origin setup.replicas peer_in origin_in));
     seen = sym (ap in_order (flat_map_none (log_of replica []) (replicas_of setup) (λ k d within. no_log _)));
     point = point_zero;
     clock = refl;
-    calls = λ client within. get_or-replicate 8 client 0 0 within;
+    calls = λ client within. get_or-replicate CLIENTS client 0 0 within;
     sends = refl;
     count = refl;
     last = refl;
   }
 
 -- so is one whose parts are equal to these
-pub Stands-made : (setup made : Setup) (replica : ℕ) (logs : List (List Write)) (covers : List Cover) (known : List ℕ) (seen : List Write) (point : ℕ) → replica < setup.replicas
-    → made ≡ setup → logs ≡ replicate setup.replicas [] → covers ≡ replicate setup.replicas no_cover → known ≡ replicate (setup.replicas * setup.replicas) 0 → seen ≡ [] → point ≡ 0
-    → Stands [] (record { setup = made; replica = replica; logs = logs; covers = covers; known = known; seen = seen; point = point; clock = 0; calls = replicate 8 0; sends = 0; count = 0; last = 0 })
+pub Stands-made : (setup made : Setup) (replica : ℕ) (logs : List (List Write)) (covers : List Cover) (known : List ℕ) (seen : List Write) (point : ℕ)
+    → replica < setup.replicas
+    → made ≡ setup
+    → logs ≡ replicate setup.replicas []
+    → covers ≡ replicate setup.replicas no_cover
+    → known ≡ replicate (setup.replicas * setup.replicas) 0
+    → seen ≡ []
+    → point ≡ 0
+    → Stands [] (record { setup = made; replica = replica; logs = logs; covers = covers; known = known; seen = seen; point = point; clock = 0; calls = replicate CLIENTS 0; sends = 0; count = 0; last = 0 })
 Stands-made setup made replica logs covers known seen point among is_setup is_logs is_covers is_known is_seen is_point =
     rw (is_setup, is_logs, is_covers, is_known, is_seen, is_point) (Stands-new setup replica among)
 
 -- its lists have their places, and are kept in order
-pub HasPlaces-made : (replicas replica : ℕ) (logs : List (List Write)) (covers : List Cover) (known : List ℕ) → replica < replicas
-    → logs ≡ replicate replicas [] → covers ≡ replicate replicas no_cover → known ≡ replicate (replicas * replicas) 0 → HasPlaces replicas replica logs covers known (replicate 8 0)
+pub HasPlaces-made : (replicas replica : ℕ) (logs : List (List Write)) (covers : List Cover) (known : List ℕ)
+    → replica < replicas
+    → logs ≡ replicate replicas []
+    → covers ≡ replicate replicas no_cover
+    → known ≡ replicate (replicas * replicas) 0
+    → HasPlaces replicas replica logs covers known (replicate CLIENTS 0)
 HasPlaces-made replicas replica logs covers known among is_logs is_covers is_known = record {
   among = among;
   logs_sized = ap length is_logs ∙ length-replicate replicas [];
@@ -136,9 +118,14 @@ no_list replicas logs is origin = ⊎_elim
     (λ (past : replicas ≤ origin). get_or_past logs origin [] (omega (arith, past, ap length is, length-replicate {A = List Write} replicas [])))
     (cases_lt origin replicas)
 
-pub IsKeptInOrder-made : (replicas replica : ℕ) (logs : List (List Write)) (covers : List Cover) (seen : List Write) (point : ℕ) → replica < replicas
-    → logs ≡ replicate replicas [] → covers ≡ replicate replicas no_cover → seen ≡ [] → point ≡ 0 → IsKeptInOrder replicas replica logs covers seen point 0
-IsKeptInOrder-made replicas replica logs covers seen point among is_logs is_covers is_seen is_point =
+pub IsBetweenEntries-made : (replicas replica : ℕ) (logs : List (List Write)) (covers : List Cover) (seen : List Write) (point : ℕ)
+    → replica < replicas
+    → logs ≡ replicate replicas []
+    → covers ≡ replicate replicas no_cover
+    → seen ≡ []
+    → point ≡ 0
+    → IsBetweenEntries replicas replica logs covers seen point 0
+IsBetweenEntries-made replicas replica logs covers seen point among is_logs is_covers is_seen is_point =
     rw (is_covers, is_seen, is_point)
     (record {
       ordered = sym (ap in_order (flat_map_none (λ origin. get_or logs origin []) (range_with_len 0 replicas) (λ k d within. no_list replicas logs is_logs _)));

@@ -1,6 +1,5 @@
 //! The message that a replica sends.
 ghost use Rattle.std.specs.Prelude.{◌≡◌, ◌≢◌, ◌<◌, ◌≤◌, List, true, false, take, drop, length, map, slice_index, IfOk, IfErr, OnOk, OnErr};
-ghost use Rattle.std.specs.List.{range_with_len};
 ghost use Rattle.tact_base.specs.declared.limits.TheConstants.{MOMENT_MAX};
 ghost use Rattle.tact_base.specs.Setup.{IsSetup, loan_of, conits_of};
 ghost use Rattle.run_model.specs.Histories.{moment_at};
@@ -9,33 +8,26 @@ ghost use Rattle.run_model.specs.declared.entry.Act.TheVariants as act;
 ghost use Rattle.run_model.specs.declared.entry.Entry.{Entry};
 ghost use Rattle.replica_core.specs.States.{log_at, origins_of, is_full};
 ghost use Rattle.replica_core.specs.Sending.{cover_told, first_told, writes_told, next_message};
-ghost use Rattle.replica_core.specs.Stands.{Stands, with_act, IsSameReplica, IsFaultOf};
+ghost use Rattle.replica_core.specs.Stands.{Stands, GoesOn, IsSameReplica, IsFaultOf};
 
-use crate::{CoreFault, Replica};
+use super::Replica;
+use crate::CoreFault;
 use run_model::Message;
-use std::alloc::Global;
-use tact_base::{Cover, Covers, MESSAGE_WRITES, NoMemory, Numbers, Write, WriteList};
+use tact_base::{Cover, Covers, MESSAGE_WRITES, NoMemory, Numbers, Write, WriteList, first_index};
 
 impl Replica {
-    /// Sends the next message to another replica, in memory of `alloc`. By origin its writes begin past those
+    /// Sends the next message to another replica, in the memory that the replica was made in. By origin its writes begin past those
     /// that the other is known to have, or at the given first where that is more (the rule of sending in
     /// docs/MODEL.md). The moment of the entry is the greater of the handed one and that of the last entry.
     ///
     /// `Full` comes exactly where 20,000 entries were made or the clock stands at 2^40. Both faults leave the
     /// replica as it was.
-    pub fn send(
-        &mut self,
-        alloc: Global,
-        moment: u64,
-        to: u32,
-        firsts: &Numbers,
-    ) -> Result<Message, CoreFault>
+    pub fn send(&mut self, moment: u64, to: u32, firsts: &Numbers) -> Result<Message, CoreFault>
         requires moment { moment ≤ MOMENT_MAX }
         requires to { to < self.old.core.setup.replicas }
         requires other { to ≢ self.old.core.replica }
         requires firsts { length firsts.now ≡ self.old.core.setup.replicas }
-        ensures goes_on { IfOk result (λ message. (part : List Entry) → Stands part self.old.core
-            → Stands (with_act self.old.core.replica part moment (act.Send message)) self.new.core) }
+        ensures goes_on { IfOk result (λ message. GoesOn self.old.core self.new.core moment (λ part. act.Send message)) }
         ensures due { IfOk result (λ message. (part : List Entry) → Stands part self.old.core
             → message ≡ message_of self.old.core.setup self.old.core.replica part (moment_at part moment) to firsts.now) }
         ensures same { IsSameReplica self.old.core self.new.core }
@@ -45,71 +37,71 @@ impl Replica {
         ensures err { OnErr result (self.new ≡ self.old) }
     {
         self.may_enter()?;
-        let message = self.next_message(alloc, moment.max(self.last), to, firsts.items())?;
+        let message = self.next_message(moment.max(self.last), to, firsts.items())?;
         self.sends = self.sends.saturating_add(1);
         self.enter(moment);
         Ok(message)
     }
 
-    fn next_message(
-        &self,
-        alloc: Global,
-        moment: u64,
-        to: u32,
-        given: &[u64],
-    ) -> Result<Message, NoMemory>
+    // The message that is sent at this moment, where these firsts are given.
+    fn next_message(&self, moment: u64, to: u32, given: &[u64]) -> Result<Message, NoMemory>
         requires to { to < self.now.core.setup.replicas }
         requires given { length given.now ≡ self.now.core.setup.replicas }
         ensures message { IfOk result (λ message. message ≡ next_message self.now.core moment to given.now) }
         ensures setup { OnOk result (IsSetup self.now.core.setup) }
     {
-        let firsts = self.firsts(alloc, to, given)?;
+        let firsts = self.firsts(to, given)?;
         Ok(Message {
             from: self.replica,
             to,
             number: self.sends,
-            haves: self.haves(alloc)?,
-            covers: self.told_covers(alloc, moment)?,
-            writes: self.writes(alloc, firsts.items())?,
+            haves: self.haves()?,
+            covers: self.told_covers(moment)?,
+            writes: self.writes(firsts.items())?,
             firsts,
-            lent: self.lent(alloc, to)?,
-            returned: nothing(alloc, self.config.conits())?,
+            lent: self.lent(to)?,
+            returned: Numbers::filled(self.alloc, 0, self.config.conits())?,
         })
     }
 
     // By origin, where the told writes begin.
-    fn firsts(&self, alloc: Global, to: u32, given: &[u64]) -> Result<Numbers, NoMemory>
+    fn firsts(&self, to: u32, given: &[u64]) -> Result<Numbers, NoMemory>
         requires to { to < self.now.core.setup.replicas }
         requires given { length given.now ≡ self.now.core.setup.replicas }
         ensures { IfOk result (λ firsts. firsts ≡ map (first_told self.now.core to given.now) (origins_of self.now.core)) }
     {
-        let mut firsts = Numbers::new(alloc);
+        let mut firsts = Numbers::new(self.alloc);
         for origin in 0..self.config.replicas() {
-            let have = self.have(origin);
-            if origin == to {
-                firsts.push(have)?;
-            } else {
-                let told = given[origin as usize].max(self.known(to, origin));
-                firsts.push(have.min(told))?;
-            }
+            firsts.push(self.first_told(to, given, origin))?;
         }
         Ok(firsts)
     }
 
-    fn haves(&self, alloc: Global) -> Result<Numbers, NoMemory>
+    // Where the told writes of an origin begin.
+    fn first_told(&self, to: u32, given: &[u64], origin: u32) -> u64
+        requires to { to < self.now.core.setup.replicas }
+        requires origin { origin < self.now.core.setup.replicas }
+        requires given { length given.now ≡ self.now.core.setup.replicas }
+        ensures { result ≡ first_told self.now.core to given.now origin }
+    {
+        let given = given[origin as usize];
+        first_index(to, origin, self.have(origin), self.known(to, origin), given)
+    }
+
+    fn haves(&self) -> Result<Numbers, NoMemory>
         ensures { IfOk result (λ haves. haves ≡ map (λ origin. length (log_at self.now.core origin)) (origins_of self.now.core)) }
     {
-        let mut haves = Numbers::new(alloc);
+        let mut haves = Numbers::new(self.alloc);
         for origin in 0..self.config.replicas() {
             haves.push(self.have(origin))?;
         }
         Ok(haves)
     }
 
-    fn told_covers(&self, alloc: Global, moment: u64) -> Result<Covers, NoMemory>
+    fn told_covers(&self, moment: u64) -> Result<Covers, NoMemory>
         ensures { IfOk result (λ covers. covers ≡ map (cover_told self.now.core moment) (origins_of self.now.core)) }
     {
-        let mut covers = Covers::new(alloc);
+        let mut covers = Covers::new(self.alloc);
         for origin in 0..self.config.replicas() {
             covers.push(self.told_cover(origin, moment))?;
         }
@@ -133,20 +125,20 @@ impl Replica {
     }
 
     // From each origin in rising order the writes from its first on, as many as there is room for.
-    fn writes(&self, alloc: Global, firsts: &[u64]) -> Result<WriteList, NoMemory>
+    fn writes(&self, firsts: &[u64]) -> Result<WriteList, NoMemory>
         requires { length firsts.now ≡ self.now.core.setup.replicas }
         ensures { IfOk result (λ writes. writes ≡ writes_told self.now.core firsts.now) }
     {
-        let mut writes = WriteList::new(alloc);
+        let mut writes = WriteList::new(self.alloc);
         for origin in 0..self.config.replicas() {
             let room = MESSAGE_WRITES - writes.len();
-            writes.append_clones(self.stretch(origin, firsts[origin as usize], room))?;
+            writes.append_clones(self.writes_from(origin, firsts[origin as usize], room))?;
         }
         Ok(writes)
     }
 
     // At most so many writes of an origin from the first on.
-    fn stretch(&self, origin: u32, first: u64, most: usize) -> &[Write]
+    fn writes_from(&self, origin: u32, first: u64, most: usize) -> &[Write]
         requires { origin < self.now.core.setup.replicas }
         ensures { result.now ≡ take most (drop first (log_at self.now.core origin)) }
     {
@@ -157,25 +149,14 @@ impl Replica {
     }
 
     // What the replica ever lent to the holder: the opening loans.
-    fn lent(&self, alloc: Global, holder: u32) -> Result<Numbers, NoMemory>
+    fn lent(&self, holder: u32) -> Result<Numbers, NoMemory>
         requires { holder < self.now.core.setup.replicas }
         ensures { IfOk result (λ lent. lent ≡ map (λ conit. loan_of self.now.core.setup self.now.core.replica conit holder) (conits_of self.now.core.setup)) }
     {
-        let mut lent = Numbers::new(alloc);
+        let mut lent = Numbers::new(self.alloc);
         for conit in 0..self.config.conits() {
             lent.push(self.config.loan(self.replica, conit, holder))?;
         }
         Ok(lent)
     }
-}
-
-// A number of 0 for each conit.
-fn nothing(alloc: Global, conits: u32) -> Result<Numbers, NoMemory>
-    ensures { IfOk result (λ numbers. numbers ≡ map (λ conit. 0) (range_with_len 0 conits)) }
-{
-    let mut numbers = Numbers::new(alloc);
-    for _ in 0..conits {
-        numbers.push(0)?;
-    }
-    Ok(numbers)
 }

@@ -1,8 +1,12 @@
 -- An entry is closed: the replica stands for its part with the entry.
-use Rattle.std.proofs.Common.{◌≡◌, ℕ, ◌<◌, ◌≤◌, max, true, nat_le, List, [], ◌∷◌, ◌++◌, length, get_or, set, refl, sym, ap, ap₂, ◌∙◌, ⊎_elim, arith, get_or-set_same, get_or-set_other}
+use Rattle.std.proofs.Common.{◌≡◌, ℕ, ◌<◌, ◌≤◌, max, true, nat_le, map, List, [], ◌∷◌, ◌++◌, length, get_or, set, refl, sym, ap, ap₂, ◌∙◌, ⊎_elim, arith, get_or-set_same, get_or-set_other}
 use Rattle.std.proofs.lemmas.Bool.{cases_eq, le-leb}
 use Rattle.std.proofs.lemmas.List.{length-map, length-set, length_push, get_or-map, ext_get_or}
-use Rattle.std.proofs.lemmas.List.FromFn.{length-map-range_with_len, get_or-map-range_with_len}
+use Rattle.std.proofs.lemmas.List.FromFn.{length-map-range_with_len, get_or-map-range_with_len, fill_by_all}
+use Rattle.tact_base.proofs.ListLemmas.{get_or-map_range}
+use Rattle.tact_base.specs.Setup.{replicas_of}
+use Rattle.tact_base.specs.declared.limits.TheConstants.{CLIENTS}
+use Rattle.tact_base.specs.declared.write.Write.{Write}
 use Rattle.tact_base.specs.Covers.{no_cover, later_cover, least_of}
 use Rattle.tact_base.specs.declared.write.Cover.{Cover}
 use Rattle.run_model.specs.Histories.{last_moment, moment_at, sent_in, calls_in}
@@ -18,7 +22,7 @@ use Rattle.run_model.proofs.SoundViews.{cover_of-same, cover_of-other}
 use Rattle.replica_core.specs.States.{Core, log_at, cover_at, known_at, own_cover, covers_with_own, entered}
 use Rattle.run_model.specs.Loans.{HasNoLoans}
 use Rattle.replica_core.specs.Stands.{Stands}
-use Rattle.tact_base.proofs.CoversLemmas.{stamps_of}
+use Rattle.replica_core.proofs.StandsByPlace.{stamps_of}
 
 -- a told cover none of whose numbers is less is kept
 later_cover-told : (kept told : Cover) → kept.count ≤ told.count → kept.stamp ≤ told.stamp → kept.moment ≤ told.moment → later_cover kept told ≡ told
@@ -29,22 +33,22 @@ later_cover-told kept told count stamp moment =
     rw (c, s, m) refl
 
 -- All of a replica but its own cover, its counts and its point stands for a part with one more entry; these stand for the part before.
-pub record IsOpen (part : List Entry) (entry : Entry) (core : Core) : Type 0 where
+pub record IsReadyToEnter (part : List Entry) (entry : Entry) (core : Core) : Type 0 where
   pub is_part : IsPart core.setup core.replica (part ++ entry ∷ [])
   pub grows : Grows core.replica part (part ++ entry ∷ [])
   pub loans : HasNoLoans (part ++ entry ∷ [])
-  pub logs : (origin : ℕ) → origin < core.setup.replicas → log_at core origin ≡ log_of core.replica (part ++ entry ∷ []) origin
+  pub logs : core.logs ≡ map (log_of core.replica (part ++ entry ∷ [])) (replicas_of core.setup)
   pub covers : (origin : ℕ) → origin < core.setup.replicas → (origin ≡ core.replica → ⊥) → cover_at core origin ≡ (origin_state (part ++ entry ∷ []) origin).cover
   pub own : cover_at core core.replica ≡ cover_of core.replica part (last_moment part) core.replica
   pub known : (peer origin : ℕ) → peer < core.setup.replicas → origin < core.setup.replicas → known_at core peer origin ≡ known (part ++ entry ∷ []) peer origin
   pub seen : core.seen ≡ seen core.setup core.replica (part ++ entry ∷ [])
   pub clock : core.clock ≡ clock (part ++ entry ∷ [])
-  pub calls : (client : ℕ) → client < 8 → get_or core.calls client 0 ≡ calls_in (part ++ entry ∷ []) client
+  pub calls : (client : ℕ) → client < CLIENTS → get_or core.calls client 0 ≡ calls_in (part ++ entry ∷ []) client
   pub sends : core.sends ≡ length (sent_in (part ++ entry ∷ []))
   pub count : core.count ≡ length part
   pub last : core.last ≡ last_moment part
 
-module _ (part : List Entry) (entry : Entry) (core : Core) (handed : ℕ) (open_ : IsOpen part entry core) (at : entry.moment ≡ moment_at part handed) (among : core.replica < core.setup.replicas) (sized : length core.covers ≡ core.setup.replicas) where
+module _ (part : List Entry) (entry : Entry) (core : Core) (handed : ℕ) (ready : IsReadyToEnter part entry core) (at : entry.moment ≡ moment_at part handed) (among : core.replica < core.setup.replicas) (sized : length core.covers ≡ core.setup.replicas) where
   abbrev further : List Entry
   further = part ++ entry ∷ []
 
@@ -52,26 +56,31 @@ module _ (part : List Entry) (entry : Entry) (core : Core) (handed : ℕ) (open_
   last = max handed core.last
 
   last_is : last ≡ last_moment further
-  last_is = ap (max handed) open_.last ∙ sym at ∙ sym (last_moment-push part entry)
+  last_is = ap (max handed) ready.last ∙ sym at ∙ sym (last_moment-push part entry)
+
+  own_log : log_at core core.replica ≡ log_of core.replica further core.replica
+  own_log =
+      ap (λ (logs : List (List Write)). get_or logs core.replica []) ready.logs
+      ∙ get_or-map_range (log_of core.replica further) core.setup.replicas core.replica [] among
 
   own_is : own_cover core last ≡ cover_of core.replica further (last_moment further) core.replica
   own_is =
-      ap₂ (λ (n s : ℕ). let c : Cover = record { count = n; stamp = s; moment = last } in c) (ap length (open_.logs core.replica among ∙ log_of-same core.replica further)) open_.clock
+      ap₂ (λ (n s : ℕ). let c : Cover = record { count = n; stamp = s; moment = last } in c) (ap length (own_log ∙ log_of-same core.replica further)) ready.clock
       ∙ ap (λ (m : ℕ). let c : Cover = record { count = length (own further); stamp = clock further; moment = m } in c) last_is
       ∙ sym (cover_of-same core.replica further (last_moment further))
 
   -- its own cover is later than the one before
   own_later : later_cover (cover_at core core.replica) (own_cover core last) ≡ own_cover core last
   own_later =
-      let before = open_.own ∙ cover_of-same core.replica part (last_moment part) in
+      let before = ready.own ∙ cover_of-same core.replica part (last_moment part) in
       let here = own_is ∙ cover_of-same core.replica further (last_moment further) in
-      let counts = open_.grows.have core.replica in
+      let counts = ready.grows.have core.replica in
       let size : length (log_of core.replica part core.replica) ≡ length (own part) = ap length (log_of-same core.replica part) in
       let size' : length (log_of core.replica further core.replica) ≡ length (own further) = ap length (log_of-same core.replica further) in
       later_cover-told (cover_at core core.replica) (own_cover core last)
       (omega (arith, ap (λ (c : Cover). c.count) before, ap (λ (c : Cover). c.count) here, counts, size, size'))
-      (omega (arith, ap (λ (c : Cover). c.stamp) before, ap (λ (c : Cover). c.stamp) here, open_.grows.clock))
-      (omega (arith, ap (λ (c : Cover). c.moment) before, ap (λ (c : Cover). c.moment) here, open_.grows.last))
+      (omega (arith, ap (λ (c : Cover). c.stamp) before, ap (λ (c : Cover). c.stamp) here, ready.grows.clock))
+      (omega (arith, ap (λ (c : Cover). c.moment) before, ap (λ (c : Cover). c.moment) here, ready.grows.last))
 
   covers_are : (origin : ℕ) → origin < core.setup.replicas → get_or (covers_with_own core last) origin no_cover ≡ cover_of core.replica further (last_moment further) origin
   covers_are origin within = ⊎_elim
@@ -82,7 +91,7 @@ module _ (part : List Entry) (entry : Entry) (core : Core) (handed : ℕ) (open_
       ∙ own_later ∙ own_is ∙ ap (cover_of core.replica further (last_moment further)) (sym same))
       (λ (other : origin ≡ core.replica → ⊥).
       get_or-set_other core.covers core.replica origin (later_cover (cover_at core core.replica) (own_cover core last)) no_cover other
-      ∙ open_.covers origin within other ∙ sym (cover_of-other core.replica further (last_moment further) origin other))
+      ∙ ready.covers origin within other ∙ sym (cover_of-other core.replica further (last_moment further) origin other))
       (cases_eq origin core.replica)
 
   -- a cover's stamp doesn't depend on the moment of its own
@@ -111,16 +120,18 @@ module _ (part : List Entry) (entry : Entry) (core : Core) (handed : ℕ) (open_
 
   pub Stands-entered : Stands further (entered core handed)
   Stands-entered = record {
-    is_part = open_.is_part;
-    loans = open_.loans;
-    logs = open_.logs;
-    covers = covers_are;
-    known = open_.known;
-    seen = open_.seen;
+    is_part = ready.is_part;
+    loans = ready.loans;
+    logs = ready.logs;
+    covers =
+        fill_by_all (cover_of core.replica further (last_moment further)) (covers_with_own core last) core.setup.replicas no_cover
+        (length-set core.covers core.replica (later_cover (cover_at core core.replica) (own_cover core last)) ∙ sized) covers_are;
+    known = ready.known;
+    seen = ready.seen;
     point = ap least_of stamps_are;
-    clock = open_.clock;
-    calls = open_.calls;
-    sends = open_.sends;
-    count = omega (arith, open_.count, length_push part entry);
+    clock = ready.clock;
+    calls = ready.calls;
+    sends = ready.sends;
+    count = omega (arith, ready.count, length_push part entry);
     last = last_is;
   }

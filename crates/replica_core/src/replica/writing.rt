@@ -1,17 +1,19 @@
 //! A call of a client, answered.
 ghost use Rattle.std.specs.Prelude.{◌≡◌, ◌+◌, ◌<◌, ◌≤◌, [], length, slice_index, true, false, OnOk, OnErr, IfOk, IfErr, IsOk, List, ◌∷◌};
-ghost use Rattle.tact_base.specs.declared.limits.TheConstants.{MOMENT_MAX};
-ghost use Rattle.run_model.specs.Histories.{calls_in};
+ghost use Rattle.tact_base.specs.declared.limits.TheConstants.{CLIENTS, MOMENT_MAX};
+ghost use Rattle.run_model.specs.Histories.{calls_in, moment_at};
 ghost use Rattle.run_model.specs.Ranges.{IsRequestInRange};
+ghost use Rattle.run_model.specs.Replies.{reply_of};
 ghost use Rattle.run_model.specs.declared.call.Reply.TheVariants as reply;
 ghost use Rattle.run_model.specs.declared.call.Request.TheVariants as request;
 ghost use Rattle.run_model.specs.declared.entry.Act.TheVariants as act;
 ghost use Rattle.run_model.specs.declared.entry.Entry.{Entry};
 ghost use Rattle.replica_core.specs.States.{log_at, entered, accepted, next_write, is_full};
-ghost use Rattle.replica_core.specs.Stands.{Stands, with_act, IsSameReplica, IsFaultOf, IsPlainWrite};
+ghost use Rattle.replica_core.specs.Stands.{Stands, GoesOn, IsSameReplica, IsFaultOf, IsPlainWrite};
 
-use crate::admitting::admit;
-use crate::{CoreFault, Replica};
+use super::Replica;
+use super::admitting::admit;
+use crate::CoreFault;
 use run_model::{Reply, Request};
 use tact_base::{Op, Weights, Write};
 
@@ -23,11 +25,13 @@ impl Replica {
     /// come where there is room for a write (`spare`). Both leave the replica as it was.
     pub fn call(&mut self, moment: u64, client: u32, request: &Request) -> Result<Reply, CoreFault>
         requires moment { moment ≤ MOMENT_MAX }
-        requires client { client < 8 }
+        requires client { client < CLIENTS }
         requires in_range { IsRequestInRange self.old.core.setup request.now }
         requires plain { IsPlainWrite request.now }
-        ensures goes_on { IfOk result (λ given. (part : List Entry) → Stands part self.old.core
-            → Stands (with_act self.old.core.replica part moment (act.Call client (calls_in part client) request.now given)) self.new.core) }
+        ensures goes_on { IfOk result (λ given. GoesOn self.old.core self.new.core moment
+            (λ part. act.Call client (calls_in part client) request.now given)) }
+        ensures due { IfOk result (λ given. (part : List Entry) → Stands part self.old.core
+            → given ≡ reply_of self.old.core.setup self.old.core.replica part (moment_at part moment) request.now) }
         ensures same { IsSameReplica self.old.core self.new.core }
         ensures spare { self.old.spare ≤ self.new.spare + 1 }
         ensures not_full { OnOk result (is_full self.old.core ≡ false) }
@@ -47,10 +51,10 @@ impl Replica {
     }
 
     // Accepts a write that a client asked for.
-    pub(crate) fn accept(&mut self, moment: u64, client: u32, weights: Weights, op: Op) -> Reply
+    fn accept(&mut self, moment: u64, client: u32, weights: Weights, op: Op) -> Reply
         requires free { is_full self.old.core ≡ false }
         requires room { 0 < self.old.spare }
-        requires client { client < 8 }
+        requires client { client < CLIENTS }
         ensures reply { result ≡ reply.Done (length (log_at self.old.core self.old.core.replica)) (self.old.core.clock + 1) }
         ensures core { self.new.core ≡ entered (accepted self.old.core client (next_write self.old.core moment weights op)) moment }
         ensures spare { self.old.spare ≡ self.new.spare + 1 }
