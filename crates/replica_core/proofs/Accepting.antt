@@ -75,7 +75,9 @@ module _ (part : List Entry) (core : Core) (stands : Stands part core) (free : i
   accepts : accepted_in entry ≡ Some write
   accepts = ap (λ (m : ℕ). let w : Write = record write { moment = m } in Some w) (sym (ap (max handed) stands.last))
 
-  logs_are : (origin : ℕ) → origin < core.setup.replicas → get_or after.logs origin [] ≡ log_of core.replica (part ++ entry ∷ []) origin
+  logs_are : (origin : ℕ)
+      → origin < core.setup.replicas
+      → get_or after.logs origin [] ≡ log_of core.replica (part ++ entry ∷ []) origin
   logs_are origin within = ⊎_elim
       (λ (same : origin ≡ core.replica).
       ap (λ o. get_or after.logs o []) same
@@ -106,7 +108,9 @@ module _ (part : List Entry) (core : Core) (stands : Stands part core) (free : i
       (λ origin other. log_of-other core.replica (part ++ entry ∷ []) origin other ∙ ap (λ (k : OriginState). k.log) (origin_state-push_none part entry origin refl) ∙ sym (log_of-other core.replica part origin other))
       apart)
 
-  calls_are : (one : ℕ) → one < CLIENTS → get_or after.calls one 0 ≡ calls_in (part ++ entry ∷ []) one
+  calls_are : (one : ℕ)
+      → one < CLIENTS
+      → get_or after.calls one 0 ≡ calls_in (part ++ entry ∷ []) one
   calls_are one within =
       let few = calls-few part client in
       let short = (sound part core stands free among handed handed_in asks).few in

@@ -19,13 +19,19 @@ pub record GetsOne (before after : List Write) (write : Write) : Type 0 where
   pub was : before ≡ front ++ rest
   pub is : after ≡ front ++ write ∷ rest
 
-one_more_joined : (f g : ℕ → List Write) (at : ℕ) (write : Write) → g at ≡ f at ++ write ∷ [] → ((i : ℕ) → (i ≡ at → ⊥) → g i ≡ f i) → (start len : ℕ) → start ≤ at → at < start + len
+one_more_joined : (f g : ℕ → List Write) (at : ℕ) (write : Write)
+    → g at ≡ f at ++ write ∷ []
+    → ((i : ℕ) → (i ≡ at → ⊥) → g i ≡ f i)
+    → (start len : ℕ)
+    → start ≤ at
+    → at < start + len
     → GetsOne (flat_map f (range_with_len start len)) (flat_map g (range_with_len start len)) write
 one_more_joined f g at write here others start zero low high = absurd (omega arith)
 one_more_joined f g at write here others start (suc len) low high =
     go (cases_eq start at) (λ other. one_more_joined f g at write here others (start + 1) len (omega (arith, other)) (omega arith))
   where
-    go : (start ≡ at) ⊎ (start ≡ at → ⊥) → ((start ≡ at → ⊥) → GetsOne (flat_map f (range_with_len (start + 1) len)) (flat_map g (range_with_len (start + 1) len)) write)
+    go : (start ≡ at) ⊎ (start ≡ at → ⊥)
+        → ((start ≡ at → ⊥) → GetsOne (flat_map f (range_with_len (start + 1) len)) (flat_map g (range_with_len (start + 1) len)) write)
         → GetsOne (f start ++ flat_map f (range_with_len (start + 1) len)) (g start ++ flat_map g (range_with_len (start + 1) len)) write
     go (inl same) later =
         let rest : flat_map g (range_with_len (start + 1) len) ≡ flat_map f (range_with_len (start + 1) len) =
@@ -47,8 +53,12 @@ one_more_joined f g at write here others start (suc len) low high =
         }
 
 -- in order, it is put into its place
-pub in_order-one_more : (f g : ℕ → List Write) (at : ℕ) (write : Write) (len : ℕ) → at < len → g at ≡ f at ++ write ∷ [] → ((i : ℕ) → (i ≡ at → ⊥) → g i ≡ f i)
-    → All (λ (held : Write). AreApart held write) (flat_map f (range_with_len 0 len)) → in_order (flat_map g (range_with_len 0 len)) ≡ with_write write (in_order (flat_map f (range_with_len 0 len)))
+pub in_order-one_more : (f g : ℕ → List Write) (at : ℕ) (write : Write) (len : ℕ)
+    → at < len
+    → g at ≡ f at ++ write ∷ []
+    → ((i : ℕ) → (i ≡ at → ⊥) → g i ≡ f i)
+    → All (λ (held : Write). AreApart held write) (flat_map f (range_with_len 0 len))
+    → in_order (flat_map g (range_with_len 0 len)) ≡ with_write write (in_order (flat_map f (range_with_len 0 len)))
 in_order-one_more f g at write len within here others apart =
     let gets = one_more_joined f g at write here others 0 len (omega arith) (omega (arith, within)) in
     let before : All (λ (held : Write). AreApart held write) gets.front =
@@ -68,7 +78,9 @@ module _ (replicas : ℕ) (logs : List (List Write)) (seen : List Write) (write 
   log_here : get_or more write.origin [] ≡ get_or logs write.origin [] ++ write ∷ []
   log_here = get_or-set_same logs write.origin (get_or logs write.origin [] ++ write ∷ []) [] (omega (arith, among, sized))
 
-  log_elsewhere : (origin : ℕ) → (origin ≡ write.origin → ⊥) → get_or more origin [] ≡ get_or logs origin []
+  log_elsewhere : (origin : ℕ)
+      → (origin ≡ write.origin → ⊥)
+      → get_or more origin [] ≡ get_or logs origin []
   log_elsewhere origin other = get_or-set_other logs write.origin origin (get_or logs write.origin [] ++ write ∷ []) [] other
 
   -- no write that it has is this one

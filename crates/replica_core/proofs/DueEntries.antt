@@ -23,10 +23,16 @@ use Rattle.run_model.specs.Loans.{MovesNoLoan, HasNoLoans}
 use Rattle.replica_core.specs.Stands.{Stands}
 
 -- a replica that isn't full
-pub not_full : (core : Core) → is_full core ≡ false → (core.count < HISTORY_MAX) × (core.clock < STAMP_MAX)
+pub not_full : (core : Core)
+    → is_full core ≡ false
+    → (core.count < HISTORY_MAX) × (core.clock < STAMP_MAX)
 not_full core free = go (nat_le HISTORY_MAX core.count) (nat_le STAMP_MAX core.clock) refl refl free
   where
-    go : (counted clocked : Bool) → nat_le HISTORY_MAX core.count ≡ counted → nat_le STAMP_MAX core.clock ≡ clocked → (counted || clocked) ≡ false → (core.count < HISTORY_MAX) × (core.clock < STAMP_MAX)
+    go : (counted clocked : Bool)
+        → nat_le HISTORY_MAX core.count ≡ counted
+        → nat_le STAMP_MAX core.clock ≡ clocked
+        → (counted || clocked) ≡ false
+        → (core.count < HISTORY_MAX) × (core.clock < STAMP_MAX)
     go false false one other free = (leb-false HISTORY_MAX core.count one, leb-false STAMP_MAX core.clock other)
     go true clocked one other free = cc
     go false true one other free = cc
@@ -46,7 +52,9 @@ module _ (part : List Entry) (core : Core) (stands : Stands part core) (free : i
   pub moment_in : moment_at part handed ≤ MOMENT_MAX
   moment_in = omega (arith, sound.last_most, handed_in)
 
-  pub is_due : IsActInRange core.setup core.replica done → IsActDue core.setup core.replica part (moment_at part handed) done → IsDue core.setup part entry
+  pub is_due : IsActInRange core.setup core.replica done
+      → IsActDue core.setup core.replica part (moment_at part handed) done
+      → IsDue core.setup part entry
   is_due in_range due =
       let room = not_full core free in
       record {
@@ -57,7 +65,9 @@ module _ (part : List Entry) (core : Core) (stands : Stands part core) (free : i
         act = due;
       }
 
-  pub goes_on : IsDue core.setup part entry → FitsIfTaken core.setup core.replica part done → IsPart core.setup core.replica (part ++ entry ∷ [])
+  pub goes_on : IsDue core.setup part entry
+      → FitsIfTaken core.setup core.replica part done
+      → IsPart core.setup core.replica (part ++ entry ∷ [])
   goes_on due fits = EachAfter-push (MayFollow core.setup core.replica) part entry stands.is_part (refl, due, fits)
 
   pub has_grown : IsDue core.setup part entry → Grows core.replica part (part ++ entry ∷ [])
@@ -68,7 +78,8 @@ module _ (part : List Entry) (core : Core) (stands : Stands part core) (free : i
 
 -- What stays where an entry accepts and takes nothing.
 module _ (setup : Setup) (replica : ℕ) (part : List Entry) (entry : Entry) (accepts : accepted_in entry ≡ None) (takes : taken_by entry ≡ None) where
-  pub log_of-without_write : (origin : ℕ) → log_of replica (part ++ entry ∷ []) origin ≡ log_of replica part origin
+  pub log_of-without_write : (origin : ℕ)
+      → log_of replica (part ++ entry ∷ []) origin ≡ log_of replica part origin
   log_of-without_write origin = ap₂ (λ (own_log : List Write) (kept : OriginState). cond (origin == replica) own_log kept.log) (own-push_none part entry accepts) (origin_state-push_none part entry origin takes)
 
   pub seen-without_write : seen setup replica (part ++ entry ∷ []) ≡ seen setup replica part

@@ -112,7 +112,10 @@ HasPlaces-made replicas replica logs covers known among is_logs is_covers is_kno
 }
 
 -- no log has a write
-no_list : (replicas : ℕ) (logs : List (List Write)) → logs ≡ replicate replicas [] → (origin : ℕ) → get_or logs origin [] ≡ []
+no_list : (replicas : ℕ) (logs : List (List Write))
+    → logs ≡ replicate replicas []
+    → (origin : ℕ)
+    → get_or logs origin [] ≡ []
 no_list replicas logs is origin = ⊎_elim
     (λ (within : origin < replicas). ap (λ (l : List (List Write)). get_or l origin []) is ∙ get_or-replicate replicas origin [] [] within)
     (λ (past : replicas ≤ origin). get_or_past logs origin [] (omega (arith, past, ap length is, length-replicate {A = List Write} replicas [])))

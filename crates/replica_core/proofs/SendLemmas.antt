@@ -1,24 +1,19 @@
 -- The message that a replica sends.
-use Rattle.std.proofs.Common.{◌≡◌, ◌≢◌, ℕ, zero, suc, ◌+◌, ◌-◌, ◌<◌, ◌≤◌, ◌==◌, min, max, false, cond, List, [], ◌∷◌, ◌++◌, length, get_or, replicate, take, drop, map, sum_by, flat_map, All, refl, sym, ap, ap₂, ◌∙◌, subst, ⊎_elim, arith}
-use Rattle.std.specs.List.{range_with_len}
+use Rattle.std.proofs.Common.{◌≡◌, ◌≢◌, ℕ, ◌+◌, ◌-◌, ◌<◌, ◌≤◌, max, false, cond, List, [], ◌∷◌, ◌++◌, length, get_or, replicate, take, drop, map, All, refl, sym, ap, ap₂, ◌∙◌, subst, ⊎_elim, arith}
 use Rattle.std.proofs.lemmas.Bool.{cases_eq, eq-eqb, ne_eqb}
 use Rattle.std.proofs.lemmas.List.{length_push, length-replicate, get_or-replicate}
 use Rattle.std.proofs.lemmas.List.FromFn.{fill_by_all}
-use Rattle.std.proofs.lemmas.List.Elements.{All-head, All-tail}
-use Rattle.std.proofs.lemmas.List.Sums.{sum_by-cons}
-use Rattle.tact_base.proofs.ListLemmas.{All-range, flat_map_agree, get_or-map_range, map_agree, length-filter_map, map_range_agree}
-use Rattle.tact_base.specs.Counts.{first_index, one_more}
+use Rattle.tact_base.proofs.ListLemmas.{All-range, flat_map_agree, get_or-map_range, length-filter_map, map_range_agree}
+use Rattle.tact_base.specs.Counts.{first_index}
 use Rattle.tact_base.specs.declared.limits.TheConstants.{MESSAGE_WRITES, MOMENT_MAX, HISTORY_MAX}
 use Rattle.tact_base.specs.declared.write.Cover.{Cover}
-use Rattle.tact_base.specs.declared.write.Write.{Write}
-use Rattle.tact_base.specs.Setup.{Setup, IsSetup, loan_of}
+use Rattle.tact_base.specs.Setup.{IsSetup, loan_of}
 use Rattle.run_model.specs.Histories.{last_moment, moment_at, sent_in}
 use Rattle.run_model.specs.Taking.{log_of, have, cover_of, origin_state}
-use Rattle.run_model.specs.Loans.{lent_by_act, returned_by_act, lent, returned, MovesNoLoan, HasNoLoans}
+use Rattle.run_model.specs.Loans.{lent, returned}
 use Rattle.run_model.specs.Messages.{first_for, writes_for, message_of}
 use Rattle.run_model.specs.Ranges.{IsActInRange}
 use Rattle.run_model.specs.Runs.{IsActDue, IsDue}
-use Rattle.run_model.specs.declared.entry.Act.{Act}
 use Rattle.run_model.specs.declared.entry.Act.TheVariants as act
 use Rattle.run_model.specs.declared.entry.Entry.{Entry}
 use Rattle.run_model.specs.declared.entry.Message.{Message}

@@ -25,7 +25,11 @@ use Rattle.replica_core.specs.Stands.{Stands}
 use Rattle.replica_core.proofs.StandsByPlace.{stamps_of}
 
 -- a told cover none of whose numbers is less is kept
-later_cover-told : (kept told : Cover) → kept.count ≤ told.count → kept.stamp ≤ told.stamp → kept.moment ≤ told.moment → later_cover kept told ≡ told
+later_cover-told : (kept told : Cover)
+    → kept.count ≤ told.count
+    → kept.stamp ≤ told.stamp
+    → kept.moment ≤ told.moment
+    → later_cover kept told ≡ told
 later_cover-told kept told count stamp moment =
     let c : nat_le kept.count told.count ≡ true = le-leb kept.count told.count count in
     let s : nat_le kept.stamp told.stamp ≡ true = le-leb kept.stamp told.stamp stamp in
@@ -38,12 +42,20 @@ pub record IsReadyToEnter (part : List Entry) (entry : Entry) (core : Core) : Ty
   pub grows : Grows core.replica part (part ++ entry ∷ [])
   pub loans : HasNoLoans (part ++ entry ∷ [])
   pub logs : core.logs ≡ map (log_of core.replica (part ++ entry ∷ [])) (replicas_of core.setup)
-  pub covers : (origin : ℕ) → origin < core.setup.replicas → (origin ≡ core.replica → ⊥) → cover_at core origin ≡ (origin_state (part ++ entry ∷ []) origin).cover
+  pub covers : (origin : ℕ)
+      → origin < core.setup.replicas
+      → (origin ≡ core.replica → ⊥)
+      → cover_at core origin ≡ (origin_state (part ++ entry ∷ []) origin).cover
   pub own : cover_at core core.replica ≡ cover_of core.replica part (last_moment part) core.replica
-  pub known : (peer origin : ℕ) → peer < core.setup.replicas → origin < core.setup.replicas → known_at core peer origin ≡ known (part ++ entry ∷ []) peer origin
+  pub known : (peer origin : ℕ)
+      → peer < core.setup.replicas
+      → origin < core.setup.replicas
+      → known_at core peer origin ≡ known (part ++ entry ∷ []) peer origin
   pub seen : core.seen ≡ seen core.setup core.replica (part ++ entry ∷ [])
   pub clock : core.clock ≡ clock (part ++ entry ∷ [])
-  pub calls : (client : ℕ) → client < CLIENTS → get_or core.calls client 0 ≡ calls_in (part ++ entry ∷ []) client
+  pub calls : (client : ℕ)
+      → client < CLIENTS
+      → get_or core.calls client 0 ≡ calls_in (part ++ entry ∷ []) client
   pub sends : core.sends ≡ length (sent_in (part ++ entry ∷ []))
   pub count : core.count ≡ length part
   pub last : core.last ≡ last_moment part
@@ -82,7 +94,9 @@ module _ (part : List Entry) (entry : Entry) (core : Core) (handed : ℕ) (ready
       (omega (arith, ap (λ (c : Cover). c.stamp) before, ap (λ (c : Cover). c.stamp) here, ready.grows.clock))
       (omega (arith, ap (λ (c : Cover). c.moment) before, ap (λ (c : Cover). c.moment) here, ready.grows.last))
 
-  covers_are : (origin : ℕ) → origin < core.setup.replicas → get_or (covers_with_own core last) origin no_cover ≡ cover_of core.replica further (last_moment further) origin
+  covers_are : (origin : ℕ)
+      → origin < core.setup.replicas
+      → get_or (covers_with_own core last) origin no_cover ≡ cover_of core.replica further (last_moment further) origin
   covers_are origin within = ⊎_elim
       (λ (same : origin ≡ core.replica).
       let raised = later_cover (cover_at core core.replica) (own_cover core last) in
@@ -95,7 +109,8 @@ module _ (part : List Entry) (entry : Entry) (core : Core) (handed : ℕ) (ready
       (cases_eq origin core.replica)
 
   -- a cover's stamp doesn't depend on the moment of its own
-  stamp_at : (one other origin : ℕ) → (cover_of core.replica further one origin).stamp ≡ (cover_of core.replica further other origin).stamp
+  stamp_at : (one other origin : ℕ)
+      → (cover_of core.replica further one origin).stamp ≡ (cover_of core.replica further other origin).stamp
   stamp_at one other origin = ⊎_elim
       (λ (same : origin ≡ core.replica). rw (same, cover_of-same core.replica further one, cover_of-same core.replica further other) refl)
       (λ (differ : origin ≡ core.replica → ⊥). rw (cover_of-other core.replica further one origin differ, cover_of-other core.replica further other origin differ) refl)

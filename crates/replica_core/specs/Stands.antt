@@ -10,7 +10,6 @@ use Rattle.run_model.specs.Runs.{IsPart}
 use Rattle.run_model.specs.declared.call.Request.{Request}
 use Rattle.run_model.specs.declared.call.Request.TheVariants as request
 use Rattle.run_model.specs.declared.entry.Act.{Act}
-use Rattle.run_model.specs.declared.entry.Act.TheVariants as act
 use Rattle.run_model.specs.declared.entry.Entry.{Entry}
 use Rattle.replica_core.specs.States.{Core, known_at, is_full}
 use Rattle.replica_core.specs.declared.fault.CoreFault.{CoreFault}

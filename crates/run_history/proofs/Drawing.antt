@@ -4,7 +4,7 @@ use Rattle.std.proofs.lemmas.List.{append_assoc, map-append, length-set, get_or-
 use Rattle.std.proofs.lemmas.List.Elements.{All-head, All-weaker}
 use mathlib.Core.Option.{some}
 use lib.ListN.{get_elem?}
-use Rattle.atomic_table.specs.Table.{State, Me, Allows, keeps}
+use Rattle.atomic_table.specs.Table.{Me, Allows, keeps}
 use Rattle.tact_base.specs.declared.limits.TheConstants.{HISTORY_MAX}
 use Rattle.tact_base.proofs.ListLemmas.{All-one}
 use Rattle.tact_base.specs.Setup.{Setup}
@@ -46,7 +46,8 @@ counted words count n size is = record {
 
 -- a part of another replica fits after the draw
 FitsPart-drawn : (words new : List ℕ) (count : ℕ) (seat_of : ℕ → ℕ) (history : List Entry) (entry : Entry) (id : ℕ) (known : List Entry) (part : Part)
-    → Counted words new count → part.replica ≢ entry.replica
+    → Counted words new count
+    → part.replica ≢ entry.replica
     → FitsPart words seat_of history id known part
     → FitsPart new seat_of (history ++ entry ∷ []) id known part
 FitsPart-drawn words new count seat_of history entry id known part words_are other fits =
@@ -171,7 +172,9 @@ module _ (setup : Setup) (entry : Entry) (words : List ℕ) (views : List View) 
     seats = each_set views id new (FitsSeat words' kept.seat_of after) here_fits other_fits;
   }
 
-pub draws : (setup : Setup) (entry : Entry) (slots id : ℕ) (me : Me (Unit {0}) View) → IsClerk entry.replica me.0 → IsLawful setup me.0.seen entry
+pub draws : (setup : Setup) (entry : Entry) (slots id : ℕ) (me : Me (Unit {0}) View)
+    → IsClerk entry.replica me.0
+    → IsLawful setup me.0.seen entry
     → Allows (KeepsHistory setup) slots id me 0 (λ n. (n + 1) % 2 ^ 64)
     (λ found after. (after.1 ≡ me.1) × IsDrawn setup entry me.0 found after.0)
 draws setup entry slots id me clerk lawful state kept homes at in_word = (
@@ -183,8 +186,10 @@ draws setup entry slots id me clerk lawful state kept homes at in_word = (
 )
 
 -- the same, where what the clerk drew says that the entry is due
-pub draws_due : (setup : Setup) (entry : Entry) (slots id : ℕ) (me : Me (Unit {0}) View) → IsClerk entry.replica me.0
-    → IsDue setup (entries_of (first_pairs me.0.parts)) entry → WasSent me.0.seen entry.act
+pub draws_due : (setup : Setup) (entry : Entry) (slots id : ℕ) (me : Me (Unit {0}) View)
+    → IsClerk entry.replica me.0
+    → IsDue setup (entries_of (first_pairs me.0.parts)) entry
+    → WasSent me.0.seen entry.act
     → Allows (KeepsHistory setup) slots id me 0 (λ n. (n + 1) % 2 ^ 64)
     (λ found after. (after.1 ≡ me.1) × IsDrawn setup entry me.0 found after.0)
 draws_due setup entry slots id me clerk due sent =

@@ -8,7 +8,7 @@ use Rattle.std.specs.List.{range_with_len}
 use mathlib.Core.Option.{some, some-injective, some-ne-none}
 use lib.ListN.{get_elem?}
 use Rattle.atomic_table.specs.Seated.{TableId}
-use Rattle.atomic_table.specs.Table.{State, Me, Allows, keeps}
+use Rattle.atomic_table.specs.Table.{Me, Allows, keeps}
 use Rattle.tact_base.proofs.ElementLemmas.{Contains-first, Contains-none}
 use Rattle.tact_base.proofs.ListLemmas.{All-one}
 use Rattle.tact_base.specs.Setup.{Setup, IsSetup}
@@ -198,7 +198,10 @@ module _ (setup : Setup) (words : List ℕ) (views : List View) (kept : IsOneHis
   pub enrolled_view : IsEnrolled view fresh new
   enrolled_view = record { number = sym is_opener.1; is = refl }
 
-pub enrols : (setup : Setup) (slots id : ℕ) (me : Me (Unit {0}) View) → me.0.opens ≡ true → me.0.parts ≡ [] → me.0.enrolled < setup.replicas
+pub enrols : (setup : Setup) (slots id : ℕ) (me : Me (Unit {0}) View)
+    → me.0.opens ≡ true
+    → me.0.parts ≡ []
+    → me.0.enrolled < setup.replicas
     → Allows (KeepsHistory setup) slots id me 1 (λ n. (n + 1) % 2 ^ 64)
     (λ found after. (after.1 ≡ me.1) × IsEnrolled me.0 found after.0)
 enrols setup slots id me opens empty room state kept homes at in_word = (
@@ -210,7 +213,10 @@ enrols setup slots id me opens empty room state kept homes at in_word = (
 )
 
 -- what contracts see of a clerk that just enrolled
-pub fresh_clerk_is : (of table : TableId) (replica : ℕ) (views : List View) (view : View) → of ≡ table → views ≡ view ∷ [] → view.seen ≡ []
+pub fresh_clerk_is : (of table : TableId) (replica : ℕ) (views : List View) (view : View)
+    → of ≡ table
+    → views ≡ view ∷ []
+    → view.seen ≡ []
     → view.parts ≡ part_with replica [] ∷ []
     → record { table = of; replica = replica; seen = seen_in views; pairs = pairs_in views } ≡ fresh_clerk table replica
 fresh_clerk_is of table replica views view same only seen part =
@@ -222,7 +228,8 @@ fresh_clerk_is of table replica views view same only seen part =
 
 -- the clerks, with one more
 pub fresh_clerks_more : (table : TableId) (replica : ℕ) (clerks after : List ClerkView) (clerk : ClerkView)
-    → clerks ≡ map (fresh_clerk table) (range_with_len 0 replica) → after ≡ clerks ++ clerk ∷ []
+    → clerks ≡ map (fresh_clerk table) (range_with_len 0 replica)
+    → after ≡ clerks ++ clerk ∷ []
     → clerk ≡ fresh_clerk table replica
     → after ≡ map (fresh_clerk table) (range_with_len 0 (replica + 1))
 fresh_clerks_more table replica clerks after clerk before pushed is =

@@ -5,7 +5,7 @@ use Rattle.std.proofs.lemmas.List.{append-nil, map-append, nil_from_length}
 use Rattle.std.proofs.lemmas.List.Elements.{All-weaker, All-append, All-nil, All-cons, Contains-append_left, Contains-append_right}
 use mathlib.Core.Option.{some, some-injective}
 use lib.ListN.{get_elem?}
-use Rattle.atomic_table.specs.Table.{State, Joins}
+use Rattle.atomic_table.specs.Table.{Joins}
 use Rattle.atomic_table.proofs.Lists.{set_else}
 use Rattle.tact_base.proofs.ElementLemmas.{AllPairs-append}
 use Rattle.tact_base.specs.Setup.{Setup}
@@ -36,8 +36,11 @@ all_between front middle history replica first second all =
     whole_front (part_of middle replica) (part_of history replica) (IsPrefix-filter test middle history second) (omega (arith, some_of, ap length all))
 
 FitsPart-knows : (words : List ℕ) (seat_of : ℕ → ℕ) (history : List Entry) (id : ℕ) (known more : List Entry)
-    → IsPrefix known more → IsPrefix more history → (part : Part)
-    → FitsPart words seat_of history id known part → FitsPart words seat_of history id more part
+    → IsPrefix known more
+    → IsPrefix more history
+    → (part : Part)
+    → FitsPart words seat_of history id known part
+    → FitsPart words seat_of history id more part
 FitsPart-knows words seat_of history id known more first second part fit = record {
   drawn = fit.drawn;
   whole = all_between known more history part.replica first second fit.whole;

@@ -41,19 +41,26 @@ spelled_then bytes place a mid b next p q =
     record { stands = stands_both a b bytes place p.stands second; after = omega (arith, p.after, q.after, length-append a b) }
 
 -- of a spelling that is two, each stands
-pub stands_first : (a b bytes : List ℕ) (place : ℕ) → StandsAt (a ++ b) bytes place → StandsAt a bytes place
+pub stands_first : (a b bytes : List ℕ) (place : ℕ)
+    → StandsAt (a ++ b) bytes place
+    → StandsAt a bytes place
 stands_first a b bytes place both =
     sym (take-take (length a) (length (a ++ b)) (drop place bytes) (omega (arith, length-append a b)))
     ∙ ap (take (length a)) both ∙ take_at a b (length a) refl
 
-pub stands_second : (a b bytes : List ℕ) (place : ℕ) → StandsAt (a ++ b) bytes place → StandsAt b bytes (place + length a)
+pub stands_second : (a b bytes : List ℕ) (place : ℕ)
+    → StandsAt (a ++ b) bytes place
+    → StandsAt b bytes (place + length a)
 stands_second a b bytes place both =
     let whole : take (length a + length b) (drop place bytes) ≡ a ++ b = rw (length-append a b) at both in
     ap (take (length b)) (sym (drop-drop (length a) place bytes))
     ∙ sym (drop-take (length a) (length b) (drop place bytes)) ∙ ap (drop (length a)) whole ∙ drop_at a b (length a) refl
 
 -- what stands somewhere ends within the bytes
-pub stands_within : (text bytes : List ℕ) (place : ℕ) → StandsAt text bytes place → place ≤ length bytes → place + length text ≤ length bytes
+pub stands_within : (text bytes : List ℕ) (place : ℕ)
+    → StandsAt text bytes place
+    → place ≤ length bytes
+    → place + length text ≤ length bytes
 stands_within text bytes place stands within =
     omega (arith, ap length stands, length-take (length text) (drop place bytes), length-drop place bytes)
 
@@ -82,7 +89,10 @@ same_read {A = A} read x y m n p q =
     ap (λ (r : A × ℕ). done r.0) is
 
 -- nothing is read at a fault
-pub no_read : {A : Type 0} (read : Field A) (f : FieldFault) (y : A) (n : ℕ) → Err f ≡ read → read ≡ Ok (y, n) → ⊥
+pub no_read : {A : Type 0} (read : Field A) (f : FieldFault) (y : A) (n : ℕ)
+    → Err f ≡ read
+    → read ≡ Ok (y, n)
+    → ⊥
 no_read read f y n p q = cc
 
 guard_ok : {A : Type 0} (short good : Bool) (x y : A) (f : FieldFault)
@@ -114,13 +124,20 @@ field_again width value rule bytes place x whole is good =
 
 -- ---- numbers
 
-from_to : (least bound number : ℕ) → is_from_to least bound number ≡ true → (least ≤ number) × (number < bound)
+from_to : (least bound number : ℕ)
+    → is_from_to least bound number ≡ true
+    → (least ≤ number) × (number < bound)
 from_to least bound number e = (grind (arith, nat_tests), grind (arith, nat_tests))
 
-is_within : (least bound number : ℕ) → least ≤ number → number < bound → is_from_to least bound number ≡ true
+is_within : (least bound number : ℕ)
+    → least ≤ number
+    → number < bound
+    → is_from_to least bound number ≡ true
 is_within least bound number l b = grind (arith, nat_tests)
 
-AreBytes-slice : (width place : ℕ) (bytes : List ℕ) → AreBytes bytes → AreBytes (take width (drop place bytes))
+AreBytes-slice : (width place : ℕ) (bytes : List ℕ)
+    → AreBytes bytes
+    → AreBytes (take width (drop place bytes))
 AreBytes-slice width place bytes fits i =
     elim (cases_lt i width) [
       | inl lt ↦ rw (get_or-take width (drop place bytes) i 0 lt, get_or-drop) (fits (place + i))
@@ -132,7 +149,9 @@ one_byte [] e = absurd (omega arith)
 one_byte (b ∷ []) e = refl
 one_byte (b ∷ c ∷ bytes) e = absurd (omega arith)
 
-slice_long : (width place : ℕ) (bytes : List ℕ) → place + width ≤ length bytes → length (take width (drop place bytes)) ≡ width
+slice_long : (width place : ℕ) (bytes : List ℕ)
+    → place + width ≤ length bytes
+    → length (take width (drop place bytes)) ≡ width
 slice_long width place bytes le = omega (arith, length-take width (drop place bytes), length-drop place bytes)
 
 pub byte_taken : (least bound : ℕ) (bytes : List ℕ) (place number next : ℕ)
@@ -168,7 +187,10 @@ below_wide : (bytes : List ℕ) → AreBytes bytes → from_be_bytes w64 bytes <
 below_wide bytes fits = omega (arith, fits 0, fits 1, fits 2, fits 3, fits 4, fits 5, fits 6, fits 7)
 
 -- eight bytes spell their number
-eight_spell : (field : List ℕ) → length field ≡ 8 → AreBytes field → number_bytes (from_be_bytes w64 field) ≡ field
+eight_spell : (field : List ℕ)
+    → length field ≡ 8
+    → AreBytes field
+    → number_bytes (from_be_bytes w64 field) ≡ field
 unfolding number_bytes
 eight_spell field long fits = be_bytes_8 field _ long fits refl
 
@@ -176,10 +198,16 @@ eight_back : (number : ℕ) → number < 2 ^ 64 → from_be_bytes w64 (number_by
 unfolding number_bytes
 eight_back number lt = from_be_bytes-to_be_bytes_8 number lt
 
-stands_eight : (text bytes : List ℕ) (place : ℕ) → length text ≡ 8 → take 8 (drop place bytes) ≡ text → StandsAt text bytes place
+stands_eight : (text bytes : List ℕ) (place : ℕ)
+    → length text ≡ 8
+    → take 8 (drop place bytes) ≡ text
+    → StandsAt text bytes place
 stands_eight text bytes place long e = rw long e
 
-eight_stand : (text bytes : List ℕ) (place : ℕ) → length text ≡ 8 → StandsAt text bytes place → take 8 (drop place bytes) ≡ text
+eight_stand : (text bytes : List ℕ) (place : ℕ)
+    → length text ≡ 8
+    → StandsAt text bytes place
+    → take 8 (drop place bytes) ≡ text
 eight_stand text bytes place long e = rw long at e
 
 pub number_taken : (least bound : ℕ) (bytes : List ℕ) (place number next : ℕ)
@@ -210,10 +238,14 @@ number_again least bound bytes place number within wide l b stands =
     let value : from_be_bytes w64 (take 8 (drop place bytes)) ≡ number = ap (from_be_bytes w64) (eight_stand (number_bytes number) bytes place long stands) ∙ eight_back number wide in
     rw long (field_again 8 (from_be_bytes w64) (is_from_to least bound) bytes place number (omega (arith, long, ends)) value (is_within least bound number l b))
 
-size_within : (size : ℕ) (number : ℤ) → unsigned_abs number ≤ size → nat_le (unsigned_abs number) size ≡ true
+size_within : (size : ℕ) (number : ℤ)
+    → unsigned_abs number ≤ size
+    → nat_le (unsigned_abs number) size ≡ true
 size_within size number small = grind (arith, nat_tests)
 
-size_is_within : (size : ℕ) (number : ℤ) → nat_le (unsigned_abs number) size ≡ true → unsigned_abs number ≤ size
+size_is_within : (size : ℕ) (number : ℤ)
+    → nat_le (unsigned_abs number) size ≡ true
+    → unsigned_abs number ≤ size
 size_is_within size number small = grind (arith, nat_tests)
 
 pub signed_taken : (size : ℕ) (bytes : List ℕ) (place : ℕ) (number : ℤ) (next : ℕ)

@@ -23,7 +23,10 @@ AreRising conits least [] = Unit {0}
 AreRising conits least (weight ∷ weights) =
     (least ≤ weight.conit) × (weight.conit < conits) × (weight_in_limits weight ≡ true) × AreRising conits (suc weight.conit) weights
 
-limits_of : (weight : Weight) → unsigned_abs weight.nweight ≤ WEIGHT_MAX → weight.oweight ≤ WEIGHT_MAX → weight_in_limits weight ≡ true
+limits_of : (weight : Weight)
+    → unsigned_abs weight.nweight ≤ WEIGHT_MAX
+    → weight.oweight ≤ WEIGHT_MAX
+    → weight_in_limits weight ≡ true
 limits_of weight n o = grind (arith, nat_tests)
 
 limits_hold : (nweight oweight : ℕ)

@@ -83,7 +83,8 @@ point-onward setup replica part rest some =
     size : length (covers_of setup replica (part ++ rest) 0) ≡ setup.replicas
     size = length-map (replicas_of setup) (cover_of replica (part ++ rest) 0) ∙ length-range_with_len 0 setup.replicas
 
-    stamps : (origin : ℕ) (rest : List Entry) → (cover_of replica part 0 origin).stamp ≤ (cover_of replica (part ++ rest) 0 origin).stamp
+    stamps : (origin : ℕ) (rest : List Entry)
+        → (cover_of replica part 0 origin).stamp ≤ (cover_of replica (part ++ rest) 0 origin).stamp
     stamps origin =
         from_right (λ rest. (cover_of replica part 0 origin).stamp ≤ (cover_of replica (part ++ rest) 0 origin).stamp)
         (rw append-nil (omega arith))

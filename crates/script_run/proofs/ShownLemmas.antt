@@ -1,5 +1,5 @@
 -- What is shown of a replica: its sums and texts as they grow origin by origin, the last committed write, and the part that it stands for.
-use Rattle.std.proofs.Common.{◌≡◌, ℕ, zero, suc, ◌+◌, ◌-◌, ◌<◌, ◌≤◌, ◌==◌, min, Bool, true, false, if◌then◌else◌, List, [], ◌∷◌, ◌++◌, length, get_or, map, fold, flat_map, All, decimal, codes, Option, None, Some, nat_le, append_assoc, refl, sym, ap, ◌∙◌, eq-eqb, arith}
+use Rattle.std.proofs.Common.{◌≡◌, ℕ, zero, suc, ◌+◌, ◌-◌, ◌<◌, ◌≤◌, min, Bool, true, false, if◌then◌else◌, List, [], ◌∷◌, ◌++◌, length, get_or, map, fold, flat_map, All, decimal, codes, Option, None, Some, nat_le, append_assoc, refl, sym, ap, ◌∙◌, eq-eqb, arith}
 use Rattle.std.specs.Cmp.{IsTotalOrder, IsStrictWeakOrder}
 use Rattle.std.specs.List.{range_with_len, last_or}
 use Rattle.std.specs.Option.{option_map}

@@ -70,7 +70,9 @@ module _ (setup : Setup) (good : IsSetup setup) (replica : ℕ) (among : replica
         lent = omega (arith, lent-opening peer conit is.0 k, loan-limit replica conit peer among k is.0);
       }
 
-  opening-home : (conit : ℕ) → conit < setup.conits → all_out state conit ≤ alpha_of setup replica conit
+  opening-home : (conit : ℕ)
+      → conit < setup.conits
+      → all_out state conit ≤ alpha_of setup replica conit
   opening-home conit k =
       let peers = peers_of setup replica in
       let loans = loans_of setup replica conit in

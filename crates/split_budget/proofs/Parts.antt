@@ -12,7 +12,8 @@ use Rattle.tact_base.specs.declared.conit_list.Weight.{Weight}
 use Rattle.split_budget.specs.Budgets.{part_sum, part_on}
 
 module _ (part : ℤ → ℕ) (conit : ℕ) where
-  pub part_on-append : (xs ys : List (List Weight)) → part_on part conit (xs ++ ys) ≡ part_on part conit xs + part_on part conit ys
+  pub part_on-append : (xs ys : List (List Weight))
+      → part_on part conit (xs ++ ys) ≡ part_on part conit xs + part_on part conit ys
   part_on-append xs ys =
       let joined = λ (lists : List (List Weight)). flat_map (λ (weights : List Weight). weights) lists in
       let split : on_conit conit (joined (xs ++ ys)) ≡ on_conit conit (joined xs) ++ on_conit conit (joined ys) =
@@ -20,7 +21,8 @@ module _ (part : ℤ → ℕ) (conit : ℕ) where
       rw split (sum_by-append (λ weight. part weight.nweight) (on_conit conit (joined xs)) (on_conit conit (joined ys)))
 
   -- over one write
-  pub part_on-one : (weights : List Weight) → part_on part conit (weights ∷ []) ≡ part_sum part conit weights
+  pub part_on-one : (weights : List Weight)
+      → part_on part conit (weights ∷ []) ≡ part_sum part conit weights
   part_on-one weights = ap (λ (all : List Weight). sum_by (λ weight. part weight.nweight) (on_conit conit all)) (append-nil weights)
 
   -- one more write of a list

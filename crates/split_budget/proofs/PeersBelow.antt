@@ -35,7 +35,8 @@ peers_below-peer replica n other =
     peers_below-more replica n ∙ ap (λ b. peers_below replica n ++ cond (not b) (n ∷ []) []) (ne_eqb n replica other)
 
 -- a range, in two parts
-range_split : (a n k : ℕ) → range_with_len a (n + k) ≡ range_with_len a n ++ range_with_len (a + n) k
+range_split : (a n k : ℕ)
+    → range_with_len a (n + k) ≡ range_with_len a n ++ range_with_len (a + n) k
 range_split a zero k =
     let e : 0 + k ≡ k = omega arith in
     let f : a + 0 ≡ a = omega arith in

@@ -104,7 +104,8 @@ an_element (x ∷ xs) i within = x
 
 -- what clerks that just opened became are in their places
 pub still_in_place : {X : Type 0} (f : X → ClerkView) (desk : DeskView) (clerks : List ClerkView) (drawn : List X)
-    → clerks ≡ fresh_clerks desk → length clerks ≡ desk.setup.replicas
+    → clerks ≡ fresh_clerks desk
+    → length clerks ≡ desk.setup.replicas
     → length drawn ≡ length clerks
     → ((i : ℕ) (d : X) → i < length clerks → (f (get_or drawn i d)).table ≡ desk.table)
     → ((i : ℕ) (d : X) (e : ClerkView) → i < length clerks → (f (get_or drawn i d)).replica ≡ (get_or clerks i e).replica)

@@ -20,12 +20,17 @@ module _ {A : Type 0} where
   total-set f (x ∷ xs) (suc i) v w e = omega (arith, total-set f xs i v w e)
 
   -- one term is at most the sum, and so are two at different places
-  pub term_le : (f : A → ℕ) (xs : List A) (i : ℕ) (v : A) → get_elem? xs i ≡ some v → f v ≤ total f xs
+  pub term_le : (f : A → ℕ) (xs : List A) (i : ℕ) (v : A)
+      → get_elem? xs i ≡ some v
+      → f v ≤ total f xs
   term_le f [] i v e = absurd (some-ne-none v (sym e))
   term_le f (x ∷ xs) zero v e = omega (arith, ap f (some-injective x v e))
   term_le f (x ∷ xs) (suc i) v e = omega (arith, term_le f xs i v e)
 
-  pub terms_le : (f : A → ℕ) (xs : List A) (i j : ℕ) (v w : A) → j ≢ i → get_elem? xs i ≡ some v → get_elem? xs j ≡ some w
+  pub terms_le : (f : A → ℕ) (xs : List A) (i j : ℕ) (v w : A)
+      → j ≢ i
+      → get_elem? xs i ≡ some v
+      → get_elem? xs j ≡ some w
       → f v + f w ≤ total f xs
   terms_le f [] i j v w ne e h = absurd (some-ne-none v (sym e))
   terms_le f (x ∷ xs) zero zero v w ne e h = absurd (ne refl)
@@ -39,12 +44,18 @@ module _ {A : Type 0} where
   total_kept f xs i v w e same = omega (arith, total-set f xs i v w e, same)
 
   -- two views become one, and one is left with 0
-  pub total_joined : (f : A → ℕ) (xs : List A) (i j : ℕ) (v w b z : A) → get_elem? xs i ≡ some v → get_elem? (set xs i b) j ≡ some w
-      → f b ≡ f v + f w → f z ≡ 0 → total f (set (set xs i b) j z) ≡ total f xs
+  pub total_joined : (f : A → ℕ) (xs : List A) (i j : ℕ) (v w b z : A)
+      → get_elem? xs i ≡ some v
+      → get_elem? (set xs i b) j ≡ some w
+      → f b ≡ f v + f w
+      → f z ≡ 0
+      → total f (set (set xs i b) j z) ≡ total f xs
   total_joined f xs i j v w b z e h sum none =
-    omega (arith, total-set f xs i v b e, total-set f (set xs i b) j w z h, sum, none)
+      omega (arith, total-set f xs i v b e, total-set f (set xs i b) j w z h, sum, none)
 
   -- a view becomes two
-  pub total_cut : (f : A → ℕ) (xs : List A) (i : ℕ) (v l r : A) → get_elem? xs i ≡ some v → f l + f r ≡ f v
+  pub total_cut : (f : A → ℕ) (xs : List A) (i : ℕ) (v l r : A)
+      → get_elem? xs i ≡ some v
+      → f l + f r ≡ f v
       → total f (set xs i l ++ r ∷ []) ≡ total f xs
   total_cut f xs i v l r e sum = omega (arith, total-set f xs i v l e, total-append f (set xs i l) (r ∷ []), sum)

@@ -1,5 +1,5 @@
 -- The words behind that of the lock.
-use Rattle.std.proofs.Common.{◌≡◌, ℕ, ◌+◌, ◌<◌, ◌≤◌, List, [], ◌∷◌, ◌++◌, length, get_or, take, drop, set, sym, refl, ap, ◌∙◌, arith, add-one, length-append}
+use Rattle.std.proofs.Common.{◌≡◌, ℕ, ◌+◌, ◌<◌, List, [], ◌∷◌, ◌++◌, length, get_or, take, drop, set, sym, refl, ap, ◌∙◌, arith, add-one, length-append}
 use Rattle.std.proofs.lemmas.List.{take_more, take_all, length-drop}
 
 -- the word behind a place is the place's total
@@ -20,14 +20,20 @@ lock_kept [] p n = refl
 lock_kept (w ∷ ws) p n = rw add-one refl
 
 -- the next total goes behind the book
-pub longer : (b d : List ℕ) (x : ℕ) → b ≡ take (length b) d → length b < length d → x ≡ get_or d (length b) 0
+pub longer : (b d : List ℕ) (x : ℕ)
+    → b ≡ take (length b) d
+    → length b < length d
+    → x ≡ get_or d (length b) 0
     → b ++ x ∷ [] ≡ take (length (b ++ x ∷ [])) d
 longer b d x e lt is =
-  let n : ℕ = length b in
-  let len : n + 1 ≡ length (b ++ x ∷ []) = omega (arith, length-append b (x ∷ [])) in
-  ap (λ (l : List ℕ). l ++ x ∷ []) e
+    let n : ℕ = length b in
+    let len : n + 1 ≡ length (b ++ x ∷ []) = omega (arith, length-append b (x ∷ [])) in
+    ap (λ (l : List ℕ). l ++ x ∷ []) e
     ∙ (ap (λ (y : ℕ). take n d ++ y ∷ []) is ∙ (sym (take_more d n 0 lt) ∙ ap (λ (k : ℕ). take k d) len))
 
 -- a book with all places has all words
-pub full : (b ws : List ℕ) → b ≡ take (length b) (drop 1 ws) → length b + 1 ≡ length ws → b ≡ drop 1 ws
+pub full : (b ws : List ℕ)
+    → b ≡ take (length b) (drop 1 ws)
+    → length b + 1 ≡ length ws
+    → b ≡ drop 1 ws
 full b ws e len = e ∙ take_all (length b) (drop 1 ws) (omega (arith, length-drop 1 ws, len))

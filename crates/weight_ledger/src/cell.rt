@@ -93,6 +93,8 @@ fn only_value<T>(mut slots: Vec<Option<T>>) -> T
 {
     let found = slots.pop();
     slots.destroy_empty();
-    let Some(Some(value)) = found else { unreachable!() };
+    let Some(Some(value)) = found else {
+        unreachable!()
+    };
     value
 }

@@ -69,9 +69,7 @@ impl<T: Counted> Cell<T> {
         let mut seat = self.claim(rt);
         let Tally { badge } = all;
         let Cell { table } = self;
-        table
-            .shared
-            .join_seat::<Both>(&mut seat, badge.into_seat());
+        table.shared.join_seat::<Both>(&mut seat, badge.into_seat());
         let mut closed = table.close_with(seat);
         let found = closed.take(0);
         closed.free();

@@ -1,4 +1,4 @@
-use Rattle.std.proofs.Common.{◌≡◌, ◌+◌, ◌<◌, get_or, length, pos, arith}
+use Rattle.std.proofs.Common.{◌+◌, ◌<◌, get_or, length, pos, arith}
 use Rattle.tact_base.specs.declared.conit_list.Weight.{Weight}
 use Rattle.conit_sums.proofs.SumLemmas.{write_sum-more, write_sum-take, read_at}
 use Rattle.conit_sums.proofs.add_each.Goals as goal

@@ -1,4 +1,4 @@
-use Rattle.std.proofs.Common.{◌≡◌, ◌+◌, ◌<◌, ◌≤◌, ◌∙◌, get_or, length, pos, arith}
+use Rattle.std.proofs.Common.{◌+◌, ◌<◌, ◌≤◌, ◌∙◌, get_or, length, pos, arith}
 use Rattle.std.proofs.lemmas.List.{length-set}
 use Rattle.tact_base.specs.declared.conit_list.Weight.{Weight}
 use Rattle.conit_sums.specs.ConitSums.{number_of}

@@ -1,4 +1,4 @@
-use Rattle.std.proofs.Common.{◌≡◌, ◌+◌, ◌<◌, refl, sym, subst, arith}
+use Rattle.std.proofs.Common.{◌+◌, ◌<◌, refl, sym, subst, arith}
 use Rattle.tact_base.proofs.ConitListLemmas.{IsWeights}
 use Rattle.tact_base.specs.declared.limits.TheConstants.{SUMMED_WRITES}
 use Rattle.conit_sums.specs.ConitSums.{SumsState}

@@ -1,4 +1,4 @@
-use Rattle.std.proofs.Common.{◌≡◌, ◌-◌, ◌∷◌, ◌++◌, get_or, refl, sym, subst, arith}
+use Rattle.std.proofs.Common.{◌-◌, ◌∷◌, ◌++◌, refl, sym, subst, arith}
 use Rattle.conit_sums.specs.ConitSums.{SumsState, AreSumsOf}
 use Rattle.conit_sums.proofs.SumLemmas.{sum_of-le, sum_of-one, AreSumsOf-removed}
 use Rattle.conit_sums.proofs.ConitSums.remove.Goals as goal

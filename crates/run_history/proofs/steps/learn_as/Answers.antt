@@ -1,5 +1,5 @@
-use Rattle.std.proofs.Common.{◌≡◌, ap, subst}
-use Rattle.run_history.specs.Steps.{IsLooked, joined}
+use Rattle.std.proofs.Common.{ap, subst}
+use Rattle.run_history.specs.Steps.{IsLooked}
 use Rattle.run_history.proofs.Meeting.{meets, parts_after, clerk_after}
 use Rattle.run_history.proofs.steps.learn_as.Goals as goal
 

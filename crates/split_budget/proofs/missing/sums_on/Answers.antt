@@ -6,7 +6,8 @@ use Rattle.split_budget.proofs.missing.sums_on.Goals as goal
 use Rattle.split_budget.proofs.missing.sums_on.Goals.{After-items}
 
 -- the weights of this write
-read : (c : goal.After-items) → c.items.result.now ≡ get_or c.args.writes.now c.loop-write.write-index []
+read : (c : goal.After-items)
+    → c.items.result.now ≡ get_or c.args.writes.now c.loop-write.write-index []
 read c = c.items.ensures.items ∙ get_or_read c.args.writes.now c.loop-write.write-index c.write-item.result c.loop-write-test.true c.write-item.is []
 
 pub sums_of-above-requires-clause-plus : goal.sums_of-above-requires-clause-plus

@@ -6,7 +6,8 @@ use Rattle.split_budget.proofs.opening.loan.Goals as goal
 use Rattle.split_budget.proofs.opening.loan.Goals.{After-row_known-1}
 
 -- the row's end is within the loans
-within : (c : After-row_known-1) → c.place_of-row.result * c.args.config.now.replicas + c.args.config.now.replicas ≤ length c.args.config.now.loans
+within : (c : After-row_known-1)
+    → c.place_of-row.result * c.args.config.now.replicas + c.args.config.now.replicas ≤ length c.args.config.now.loans
 within c =
     let s = setup_of c.args.config.now in
     rw c.place_of-row.ensures (row_in s (HasCounts-from_IsSetup s c.requires.sound.setup) _ (place_in s c.args.owner c.args.conit c.requires.owner c.requires.conit))

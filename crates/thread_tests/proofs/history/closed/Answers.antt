@@ -16,7 +16,8 @@ loop-clerk-preserved c =
       c.in_ok-push.ensures.items ∙ ap (λ items. items ++ one.clerk ∷ []) invariant.1 ∙ sym more,
     )
 
-all : (c : goal.After-drop-clerk-iterator-2) → c.loop-clerk.clerks.items ≡ map (λ (one : Drawn). one.clerk) c.args.drawn.items
+all : (c : goal.After-drop-clerk-iterator-2)
+    → c.loop-clerk.clerks.items ≡ map (λ (one : Drawn). one.clerk) c.args.drawn.items
 all c =
     let invariant = c.loop-clerk.invariant in
     let before = c.loop-clerk.yielded in

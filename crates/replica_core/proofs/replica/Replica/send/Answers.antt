@@ -8,7 +8,8 @@ use Rattle.replica_core.proofs.SendLemmas.{sent_due, Stands-sent}
 use Rattle.replica_core.proofs.replica.Replica.send.Goals as goal
 
 -- the message that is sent, from the replica as it was
-sent_is : (c : goal.After-enter) → c.in_ok-message.message ≡ next_message c.args.self.now.core (max c.args.moment c.args.self.now.core.last) c.args.to c.args.firsts.now
+sent_is : (c : goal.After-enter)
+    → c.in_ok-message.message ≡ next_message c.args.self.now.core (max c.args.moment c.args.self.now.core.last) c.args.to c.args.firsts.now
 sent_is c =
     c.in_ok-message.ensures.message
     ∙ ap₂ (λ (m : ℕ) (given : List ℕ). next_message c.args.self.now.core m c.args.to given) (c.max.ensures ∙ ap (λ (s : ReplicaState). max c.args.moment s.core.last) c.self.view_is) c.items.ensures

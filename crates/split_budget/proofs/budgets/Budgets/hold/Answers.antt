@@ -5,7 +5,8 @@ use Rattle.split_budget.proofs.budgets.Budgets.hold.Goals as goal
 use Rattle.split_budget.proofs.budgets.Budgets.hold.Goals.{After-index_mut}
 
 -- what was reserved
-read : (c : After-index_mut) → c.index_mut.result.now ≡ get_or c.self.inside.reserved.items c.args.conit 0
+read : (c : After-index_mut)
+    → c.index_mut.result.now ≡ get_or c.self.inside.reserved.items c.args.conit 0
 read c =
     let conit = rw (← c.self.view_is) at c.requires.conit in
     get_or_read c.self.inside.reserved.items c.args.conit c.index_mut.result.now (rw c.self.invariant.reserved conit) c.index_mut.ensures.value 0

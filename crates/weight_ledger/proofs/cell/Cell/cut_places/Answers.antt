@@ -7,5 +7,5 @@ cut-requires-clause-part g c = rw (c.requires.part.0, c.requires.part.1) (part_p
 
 pub returns-clause-left : goal.returns-clause-left
 returns-clause-left g c =
-  let t = c.args.tally.now in
-  rw (c.cut.ensures.left, c.requires.part.0, c.requires.part.1, lessened_picked c.args.places.now t.amounts, lessened_picked c.args.places.now t.owns) refl
+    let t = c.args.tally.now in
+    rw (c.cut.ensures.left, c.requires.part.0, c.requires.part.1, lessened_picked c.args.places.now t.amounts, lessened_picked c.args.places.now t.owns) refl
