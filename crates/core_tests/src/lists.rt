@@ -175,8 +175,6 @@ fn copies_writes(rt: HostRuntime) -> Result<(), Fail> {
 
 #[test]
 fn makes_lists_of_a_length(rt: HostRuntime) -> Result<(), Fail> {
-    let squares = (0..4).map(|at| at * at).collect(rt.alloc())?;
-    assert_eq!(rt; Numbers::from_vec(squares).items(), [0, 1, 4, 9].as_slice());
     let nines = Numbers::filled(rt.alloc(), 9, 3)?;
     assert_eq!(rt; nines.items(), [9, 9, 9].as_slice());
     Ok(())

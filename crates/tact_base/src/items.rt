@@ -1,5 +1,5 @@
-ghost use Rattle.std.specs.Prelude.{◌≡◌, [], ◌∷◌, ◌++◌, OnOk, OnErr, IfOk, length, take, replicate, ◌==◌};
-ghost use Rattle.std.specs.List.{AllZip, AppendsClones};
+ghost use Rattle.std.specs.Prelude.{◌≡◌, ℕ, ◌<◌, [], ◌∷◌, ◌++◌, OnOk, OnErr, IfOk, length, take, map, replicate, ◌==◌};
+ghost use Rattle.std.specs.List.{AllZip, AppendsClones, range_with_len};
 ghost use Rattle.std.specs.Cmp.Lexicographic.{pointwise, lists_equiv, lists_per};
 
 use std::alloc::{AllocError, AllocFailed, Global};
@@ -52,13 +52,6 @@ impl<T> Items<T> {
         }
     }
 
-    /// The list of the items of a `Vec`, which a chain of iterators collects. Takes no memory.
-    pub fn from_vec(items: Vec<T>) -> Self
-        ensures { result ≡ items.items }
-    {
-        Items { items }
-    }
-
     /// The items, in order.
     pub fn items(&self) -> &[T]
         ensures { result.now ≡ self.now }
@@ -89,6 +82,20 @@ impl<T: Drop> Items<T> {
     {
         self.items.push(item)?;
         Ok(())
+    }
+
+    /// The list of what `item` gives at each number below `count`, in memory of `alloc`.
+    pub fn from_fn<F: Fn(u32) -> T>(alloc: Global, count: u32, item: F) -> Result<Self, NoMemory>
+        ghost value: { ℕ → T }
+        requires callable { (at : ℕ) → at < count → F.pre item at }
+        requires gives { (at : ℕ) (given : T) → at < count → F.post item at given → given ≡ value at }
+        ensures { IfOk result (λ list. list ≡ map value (range_with_len 0 count)) }
+    {
+        let mut list = Items::new(alloc);
+        for at in 0..count {
+            list.push(item(at))?;
+        }
+        Ok(list)
     }
 
     /// Drops all items from place `len` on, if there are any. Takes no memory.
