@@ -5,6 +5,8 @@
 #[cfg(test)]
 mod budgets;
 #[cfg(test)]
+mod field_bytes;
+#[cfg(test)]
 mod lists;
 #[cfg(test)]
 mod message_ranges;
