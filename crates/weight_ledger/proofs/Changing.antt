@@ -1,5 +1,5 @@
 -- The steps of the holder keep the rule: it raises, lowers and compares.
-use Rattle.std.proofs.Common.{◌≡◌, ◌≢◌, ℕ, ◌+◌, ◌-◌, ◌%◌, ◌^◌, ◌<◌, ◌≤◌, ◌⊎◌, List, length, get_or, drop, set, sym, refl, ap, subst, ◌∙◌, ⊎_elim, arith, Option, get_or-set_same, get_or-set_other}
+use Rattle.std.proofs.Common.{◌≡◌, ◌≢◌, ℕ, ◌+◌, ◌-◌, ◌%◌, ◌^◌, ◌<◌, ◌≤◌, List, length, get_or, drop, set, sym, refl, ap, subst, ◌∙◌, ⊎_elim, arith, Option, get_or-set_same, get_or-set_other}
 use Rattle.std.proofs.Math.ListN.{length-set}
 use Rattle.std.proofs.lemmas.List.{take_all, length-drop}
 use mathlib.Core.Option.{none, some}

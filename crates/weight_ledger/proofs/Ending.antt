@@ -1,5 +1,5 @@
 -- How a cell begins, what its end finds, and what a tally's seat is.
-use Rattle.std.proofs.Common.{◌≡◌, ◌≢◌, ℕ, ◌+◌, ◌≤◌, List, [], ◌∷◌, length, get_or, drop, sym, refl, ap, subst, ◌∙◌, ⊎_elim, arith, Option, Some}
+use Rattle.std.proofs.Common.{◌≡◌, ◌≢◌, ℕ, ◌+◌, ◌≤◌, List, [], ◌∷◌, length, get_or, sym, refl, ap, subst, ◌∙◌, ⊎_elim, arith, Option, Some}
 use Rattle.std.proofs.lemmas.List.{length-drop}
 use mathlib.Core.Option.{some, some-ne-none}
 use lib.ListN.{get_elem?}
