@@ -1,2 +1,5 @@
 pub mod Partitions
 pub mod WriteOrderLemmas
+pub mod BatchLemmas
+pub mod Halves
+pub mod BatchOrder

@@ -3,7 +3,7 @@ use Rattle.std.proofs.Common.{◌≡◌, ◌≢◌, ℕ, ◌≤◌, Bool, true, 
 use Rattle.std.specs.declared.cmp.Ordering.{Ordering}
 use Rattle.std.specs.declared.cmp.Ordering.TheVariants.{Less, Equal, Greater}
 use Rattle.std.specs.Ordering.{is_lt, ordering_reverse}
-use Rattle.std.specs.List.{All, AllByRecursion, filter, insert}
+use Rattle.std.specs.List.{All, AllByRecursion, filter}
 use Rattle.std.specs.List.Sorted.{IsStrictlySortedBy, IsPartitionedBy}
 use Rattle.std.proofs.lemmas.Map.Keys.{Less-from_sorted}
 use Rattle.std.proofs.lemmas.Bool.{cond_both, cases_eq, leb-true, le-leb}
@@ -17,14 +17,14 @@ use Rattle.tact_base.specs.declared.write.Write.{Write}
 use Rattle.tact_base.specs.WriteOrder.{write_cmp, comes_before, with_write, committed_to, tentative_past}
 
 -- the order as a test
-before-from_Less : (a b : Write) → write_cmp a b ≡ Less → comes_before a b ≡ true
+pub before-from_Less : (a b : Write) → write_cmp a b ≡ Less → comes_before a b ≡ true
 before-from_Less a b less = ap is_lt less
 
 not_before-from_Less : (a b : Write) → write_cmp a b ≡ Less → comes_before b a ≡ false
 not_before-from_Less a b less = before_one_way a b (before-from_Less a b less)
 
 -- of two writes that don't compare equal one comes before the other
-Less-from_not_before : (a b : Write)
+pub Less-from_not_before : (a b : Write)
     → write_cmp a b ≢ Equal
     → comes_before b a ≡ false
     → write_cmp a b ≡ Less
@@ -45,7 +45,7 @@ each_later : (P Q : Write → Type 0) (writes : List Write)
 each_later P Q [] weaker all = All-nil Q
 each_later P Q (w ∷ writes) weaker all = All-cons Q w writes (weaker w all.0) (each_later P Q writes weaker all.1)
 
-by_place : (writes : List Write)
+pub by_place : (writes : List Write)
     → IsStrictlySortedBy write_cmp writes
     → IsSortedByPlace writes
 unfolding IsStrictlySortedBy
@@ -98,32 +98,6 @@ sorted-with_write write (w ∷ writes) apart sorted =
         → AllByRecursion Q ws
     weaken [] f all = tt
     weaken (x ∷ ws) f all = (f x all.0, weaken ws f all.1)
-
--- it is put where those before it end
-pub with_write-place : (write : Write) (writes : List Write)
-    → All (λ held. write_cmp held write ≢ Equal) writes
-    → IsStrictlySortedBy write_cmp writes
-    → with_write write writes ≡ insert writes (length (filter (λ w. comes_before w write) writes)) write
-unfolding IsStrictlySortedBy
-with_write-place write [] apart sorted = refl
-with_write-place write (w ∷ writes) apart sorted =
-    cond_both (comes_before write w) (write ∷ w ∷ writes) (w ∷ with_write write writes)
-    (λ ws. ws ≡ insert (w ∷ writes) (length (filter (λ x. comes_before x write) (w ∷ writes))) write)
-    (λ first.
-    let none : filter (λ x. comes_before x write) (w ∷ writes) ≡ [] =
-    rw (before_one_way write w first) (none_before writes (λ x less. before_trans write w x first (before-from_Less w x less)) sorted.0) in
-    rw none refl)
-    (λ later.
-    let less = Less-from_not_before w write (All-head (λ held. write_cmp held write ≢ Equal) w writes apart) later in
-    let rest = with_write-place write writes (All-tail (λ held. write_cmp held write ≢ Equal) w writes apart) sorted.1 in
-    rw (before-from_Less w write less) (ap (λ ws. w ∷ ws) rest))
-  where
-    none_before : {P : Write → Type 0} (ws : List Write)
-        → ((x : Write) → P x → comes_before write x ≡ true)
-        → AllByRecursion P ws
-        → filter (λ x. comes_before x write) ws ≡ []
-    none_before [] f all = refl
-    none_before (x ∷ ws) f all = rw (before_one_way write x (f x all.0)) (none_before ws f all.1)
 
 -- of writes in order those before a write come first, and those with a stamp of at most a point
 pub before_first : (write : Write) (writes : List Write)

@@ -2,6 +2,7 @@
 //! committed.
 #![tactic(auto)]
 
+mod merging;
 mod ordered;
 
 pub use ordered::Ordered;

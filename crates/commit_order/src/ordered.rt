@@ -1,11 +1,14 @@
-ghost use Rattle.std.specs.Prelude.{◌≡◌, ◌≢◌, ◌+◌, ◌<◌, ◌≤◌, [], All, OnOk, OnErr, IfOk, IsOk, length, insert};
+ghost use Rattle.std.specs.Prelude.{◌≡◌, ◌≢◌, ◌+◌, ◌<◌, ◌≤◌, [], ◌++◌, All, OnOk, OnErr, IfOk, IsOk, length, insert, take};
 ghost use Rattle.std.specs.declared.cmp.Ordering.TheVariants.{Equal};
 ghost use Rattle.std.specs.List.Sorted.{IsStrictlySortedBy};
-ghost use Rattle.tact_base.specs.WriteOrder.{write_cmp, write_place, with_write, committed_to, tentative_past};
+ghost use Rattle.tact_base.specs.WriteOrder.{write_cmp, write_place, with_write, in_order, committed_to, tentative_past};
+ghost use Rattle.commit_order.specs.Batches.{with_writes, first_place};
 ghost use Rattle.commit_order.specs.Places.{place_in};
 
+use crate::merging::merge_in_place;
 use std::alloc::Global;
 use std::marker::Model;
+use std::slice;
 use tact_base::{NoMemory, Place, RoomyList, Write};
 
 /// Writes in order of stamp, then origin, then index, of which those up to the last point are committed.
@@ -81,8 +84,38 @@ impl Ordered {
         ensures point { self.new.point ≡ self.old.point }
         ensures room { self.old.room ≤ self.new.room + 1 }
     {
-        let place = self.place(write.stamp, write.origin, write.index);
-        insert_copy(&mut self.writes, place as usize, write);
+        self.insert_all(slice::from_ref(write))
+    }
+
+    // Where the first of the writes belongs: at the end where there is none.
+    fn place_of_first(&self, writes: &[Write]) -> u64
+        ensures { result ≡ first_place self.now.writes writes.now }
+    {
+        match writes.first() {
+            Some(first) => self.place(first.stamp, first.origin, first.index),
+            None => self.writes.items().len() as u64,
+        }
+    }
+
+    /// Puts writes, which are in order, in their places, and answers the place of the first of them, before
+    /// which nothing moves: how many are held, where there are none. What is held after that place is passed
+    /// over once for each time that the number of the writes can be halved. Takes no memory.
+    pub fn insert_all(&mut self, writes: &[Write]) -> u64
+        requires room { length writes.now ≤ self.old.room }
+        requires sorted { IsStrictlySortedBy write_cmp writes.now }
+        requires new { All (λ write. All (λ held. write_cmp held write ≢ Equal) self.old.writes) writes.now }
+        requires tentative { All (λ write. self.old.point < write.stamp) writes.now }
+        ensures place { result ≡ first_place self.old.writes writes.now }
+        ensures writes { self.new.writes ≡ with_writes writes.now self.old.writes }
+        ensures in_order { self.new.writes ≡ in_order (self.old.writes ++ writes.now) }
+        ensures stays { take result self.new.writes ≡ take result self.old.writes }
+        ensures past { length (committed_to self.old.point self.old.writes) ≤ result }
+        ensures within { result ≤ length self.old.writes }
+        ensures point { self.new.point ≡ self.old.point }
+        ensures room { self.old.room ≤ self.new.room + length writes.now }
+    {
+        let place = self.place_of_first(writes);
+        insert_copies(&mut self.writes, place as usize, writes);
         place
     }
 
@@ -102,6 +135,13 @@ impl Ordered {
         self.committed = committed;
         self.point = stamp;
         committed as u64
+    }
+
+    /// The last point. Takes no memory.
+    pub fn point(&self) -> u64
+        ensures { result ≡ self.now.point }
+    {
+        self.point
     }
 
     /// The committed writes, in order.
@@ -130,19 +170,20 @@ impl Ordered {
     }
 }
 
-// Puts a copy of an item, whose clones never fail and are equal to it, before the one at `place`. Takes no
-// memory.
-fn insert_copy<T: Clone>(list: &mut RoomyList<T>, place: usize, item: &T)
-    requires place { place ≤ length list.old.items }
-    requires room { 0 < list.old.room }
-    requires sure { (x : T) → T.is_infallible x }
-    requires exact { (x y : T) → T.is_clone x y → y ≡ x }
-    ensures items { list.new.items ≡ insert list.old.items place item.now }
-    ensures room { list.old.room ≤ list.new.room + 1 }
+// Puts copies of writes in order into a list in order, in which the first of them belongs at `place`. Takes
+// no memory.
+fn insert_copies(list: &mut RoomyList<Write>, place: usize, writes: &[Write])
+    requires held { IsStrictlySortedBy write_cmp list.old.items }
+    requires sorted { IsStrictlySortedBy write_cmp writes.now }
+    requires place { place ≡ first_place list.old.items writes.now }
+    requires room { length writes.now ≤ list.old.room }
+    ensures items { list.new.items ≡ with_writes writes.now list.old.items }
+    ensures room { list.old.room ≤ list.new.room + length writes.now }
 {
-    match item.clone() {
-        Ok(copy) => list.insert(place, copy),
-        Err(_) => unreachable!(),
+    let held = list.items().len();
+    list.append(writes);
+    if place < held {
+        merge_in_place(list.items_mut(), held);
     }
 }
 

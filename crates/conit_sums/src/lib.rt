@@ -109,7 +109,8 @@ fn number(summed: Summed, weight: &Weight) -> u64
     }
 }
 
-fn add_each(sums: &mut Vec<u64>, weights: &[Weight], summed: Summed)
+/// Adds a number of each weight to the sum on its conit. Takes no memory.
+pub fn add_each(sums: &mut Vec<u64>, weights: &[Weight], summed: Summed)
     requires conits { All (λ weight. weight.conit < length sums.old.items) weights.now }
     requires room { (conit : ℕ) → slice_index sums.old.items conit + write_sum summed weights.now conit < 2 ^ 64 }
     ensures conits { length sums.new.items ≡ length sums.old.items }
@@ -121,7 +122,8 @@ fn add_each(sums: &mut Vec<u64>, weights: &[Weight], summed: Summed)
     }
 }
 
-fn remove_each(sums: &mut Vec<u64>, weights: &[Weight], summed: Summed)
+/// Takes a number of each weight off the sum on its conit. Takes no memory.
+pub fn remove_each(sums: &mut Vec<u64>, weights: &[Weight], summed: Summed)
     requires conits { All (λ weight. weight.conit < length sums.old.items) weights.now }
     requires held { (conit : ℕ) → write_sum summed weights.now conit ≤ slice_index sums.old.items conit }
     ensures conits { length sums.new.items ≡ length sums.old.items }

@@ -224,3 +224,102 @@ fn wait_share(peer: u32, missing: u64, reserved: u64, weight: u64, share: u64) -
         share,
     }
 }
+
+// A number that looks random, from the one before.
+fn next(number: u64) -> u64 {
+    number
+        .wrapping_mul(6_364_136_223_846_793_005)
+        .wrapping_add(1_442_695_040_888_963_407)
+}
+
+// A small weight on conit 0 or 1, by a number.
+fn weight_of(number: u64) -> Weight
+    ensures { result.conit < 2 }
+{
+    Weight {
+        conit: (number >> 40) as u32 % 2,
+        nweight: (number >> 50) as i64 % 16 - 8,
+        oweight: 0,
+    }
+}
+
+// One step by a number: a write where it fits, or the same with an amount that is held, spent or freed.
+fn take_step(budgets: &mut Budgets, log: &mut Vec<Weight>, number: u64) -> Result<(), Fail>
+    requires { budgets.old.setup.conits ≡ 2 }
+    ensures replica { budgets.new.replica ≡ budgets.old.replica }
+    ensures replicas { budgets.new.setup.replicas ≡ budgets.old.setup.replicas }
+    ensures conits { budgets.new.setup.conits ≡ 2 }
+{
+    budgets.reserve_room(1)?;
+    let weight = weight_of(number);
+    let size = weight.nweight.unsigned_abs();
+    match (number >> 33) % 5 {
+        0 => {
+            if budgets.test_reserve(weight.conit, size) == Fit::Fits {
+                budgets.hold(weight.conit, size);
+            }
+        }
+        1 => {
+            if size <= budgets.reserved(weight.conit) {
+                budgets.free_held(weight.conit, size);
+            }
+        }
+        2 => {
+            if size <= budgets.reserved(weight.conit) {
+                budgets.spend(weight);
+                log.push(weight)?;
+            }
+        }
+        _ => {
+            let weights = Weights::new(&[weight])?;
+            if budgets.test(weight) == Fit::Fits {
+                budgets.add(&weights);
+                log.push(weight)?;
+            }
+        }
+    }
+    Ok(())
+}
+
+// The sums of the positive and of the negative nweights on the conit, of the writes from `known` on.
+fn sums_from(log: &[Weight], known: u64, conit: u32) -> (u64, u64) {
+    let mut plus = 0u64;
+    let mut minus = 0u64;
+    for weight in &log[(known as usize).min(log.len())..] {
+        if weight.conit == conit {
+            plus = plus.saturating_add(weight.nweight.max(0).unsigned_abs());
+            minus = minus.saturating_add(weight.nweight.min(0).unsigned_abs());
+        }
+    }
+    (plus, minus)
+}
+
+#[test]
+fn kept_sums_are_those_from_scratch(rt: HostRuntime) -> Result<(), Fail> {
+    let loans = [
+        0, 40, 40, 0, 40, 40, 40, 0, 40, 40, 0, 40, 40, 40, 0, 40, 40, 0,
+    ];
+    let mut budgets = opening(rt.alloc(), 3, 2, &[90; 6], &loans)?;
+    let mut log = Vec::new(rt.alloc());
+    let mut known = [0; 3];
+    let mut number = 1;
+    for _ in 0..1000 {
+        number = next(number);
+        take_step(&mut budgets, &mut log, number)?;
+        let peer = 1 + (number >> 60) as usize % 2;
+        if (number >> 62) == 0 {
+            let count = (log.len() as u64 + 2).saturating_sub((number >> 20) % 12);
+            budgets.acked(peer as u32, count);
+            known[peer] = known[peer].max(count);
+        }
+        for conit in 0..2 {
+            let sums = sums_from(&log, known[peer], conit);
+            assert_eq!(rt;
+                budgets.missing(peer as u32, conit),
+                sums,
+                "{peer} on {conit}"
+            );
+        }
+    }
+    Ok(())
+}

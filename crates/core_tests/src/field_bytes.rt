@@ -5,7 +5,7 @@ use std::alloc::Global;
 use std::test::Fail;
 use tact_base::{Bytes, Op, Weight, Weights};
 
-const ADD: Op = Op::Add { key: 7, delta: 1 };
+pub(crate) const ADD: Op = Op::Add { key: 7, delta: 1 };
 
 const ADD_BYTES: [u8; 17] = *b"\x02\0\0\0\0\0\0\0\x07\0\0\0\0\0\0\0\x01";
 
@@ -27,7 +27,7 @@ const PUT: Op = Op::Put {
 
 const PUT_BYTES: [u8; 17] = *b"\x01\0\0\0\0\0\0\0\0\xff\xfc\x72\x81\x5b\x39\x80\0";
 
-const LIGHT: Weight = Weight {
+pub(crate) const LIGHT: Weight = Weight {
     conit: 0,
     nweight: 5,
     oweight: 1,
@@ -66,7 +66,7 @@ fn count_of(bytes: &[u8]) -> (Result<usize, FieldFault>, usize) {
 }
 
 // The bytes, with another one at a place.
-fn changed(alloc: Global, bytes: &[u8], at: usize, byte: u8) -> Result<Vec<u8>, Fail> {
+pub(crate) fn changed(alloc: Global, bytes: &[u8], at: usize, byte: u8) -> Result<Vec<u8>, Fail> {
     let mut copy = Vec::from_slice(alloc, bytes)?;
     if let Some(old) = copy.get_mut(at) {
         *old = byte;

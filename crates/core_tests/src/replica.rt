@@ -4,7 +4,7 @@ ghost use Rattle.std.specs.Prelude.{◌≡◌, ◌≤◌, [], IfOk};
 ghost use Rattle.tact_base.specs.declared.limits.TheConstants.{MOMENT_MAX};
 ghost use Rattle.replica_core.specs.Stands.{IsSameReplica};
 
-use replica_core::{CoreFault, Replica};
+use replica_core::{CoreFault, LoanFault, Replica};
 use run_model::{Config, Message, Reply, Request};
 use std::alloc::Global;
 use std::test::Fail;
@@ -21,7 +21,7 @@ fn no_weights() -> Weights
 }
 
 // Has client 3 write without weights.
-fn write(replica: &mut Replica, moment: u64) -> Result<Reply, CoreFault>
+pub(crate) fn write(replica: &mut Replica, moment: u64) -> Result<Reply, CoreFault>
     requires { moment ≤ MOMENT_MAX }
     ensures same { IsSameReplica replica.old.core replica.new.core }
 {
@@ -183,6 +183,12 @@ fn is_full_after_as_many_entries(rt: HostRuntime) -> Result<(), Fail> {
     assert_eq!(rt; read_all(&replica), before);
     assert_eq!(rt; replica.restart(4), Err(full));
     assert_eq!(rt; write(&mut replica, 4), Err(full));
+    let full = LoanFault::Full {
+        count: 20_000,
+        clock: 0,
+    };
+    assert_eq!(rt; replica.lend(4, 1, 0, 1), Err(full));
+    assert_eq!(rt; replica.give_back(4, 1, 0, 1), Err(full));
     assert_eq!(rt; read_all(&replica), before);
     Ok(())
 }

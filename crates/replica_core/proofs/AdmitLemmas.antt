@@ -2,15 +2,16 @@
 use Rattle.std.proofs.Common.{◌≡◌, ℕ, zero, suc, ◌+◌, ◌<◌, ◌≤◌, List, [], ◌∷◌, ◌++◌, length, get_or, set, flat_map, All, inl, inr, ◌⊎◌, refl, sym, ap, ap₂, ◌∙◌, subst, ⊎_elim, arith, get_or-set_same, get_or-set_other}
 use Rattle.std.specs.List.{range_with_len}
 use Rattle.std.proofs.lemmas.Bool.{cases_eq}
-use Rattle.std.proofs.lemmas.List.{append_assoc, length_push}
-use Rattle.std.proofs.lemmas.List.Elements.{All-cons, All-weaker}
+use Rattle.std.proofs.lemmas.List.{append_assoc, append-nil, length_push, length-set, set-set, set-get_or}
+use Rattle.std.proofs.lemmas.List.Elements.{All-cons, All-head, All-tail, All-weaker}
 use Rattle.std.proofs.lemmas.List.Sorted.{All-permutation, IsPermutation-sym}
 use Rattle.tact_base.proofs.CompareLemmas.{AreApart}
 use Rattle.tact_base.proofs.ListLemmas.{All-range, All-append_left, flat_map_agree}
 use Rattle.tact_base.proofs.OrderLemmas.{IsPermutation-with_write, IsPermutation-in_order, in_order_middle}
 use Rattle.tact_base.specs.WriteOrder.{with_write, in_order}
 use Rattle.tact_base.specs.declared.write.Write.{Write}
-use Rattle.replica_core.specs.States.{joined}
+use Rattle.commit_order.specs.Batches.{with_writes}
+use Rattle.replica_core.specs.States.{joined, AreNext}
 
 -- of joined lists, of which one gets one more element
 pub record GetsOne (before after : List Write) (write : Write) : Type 0 where
@@ -111,3 +112,51 @@ module _ (replicas : ℕ) (logs : List (List Write)) (seen : List Write) (write 
       All-weaker (λ (held : Write). (held.origin < replicas) × (held.index < length (get_or logs held.origin []))) P (λ held stands. (stands.0, omega (arith, stands.1, longer held.origin))) seen placed in
       All-permutation P (write ∷ seen) (with_write write seen) (IsPermutation-with_write write seen)
       (All-cons P write seen (among, omega (arith, next, ap length log_here, length_push (get_or logs write.origin []) write)) others)
+
+-- The next writes of an origin, one after another.
+pub record AreAdmitted (replicas : ℕ) (logs : List (List Write)) (seen : List Write) : Type 0 where
+  pub sized : length logs ≡ replicas
+  pub ordered : seen ≡ in_order (joined replicas logs)
+  pub placed : ArePlaced replicas logs seen
+
+admitted_one : (replicas : ℕ) (logs : List (List Write)) (seen : List Write) (origin : ℕ) (write : Write)
+    → AreAdmitted replicas logs seen
+    → origin < replicas
+    → write.origin ≡ origin
+    → write.index ≡ length (get_or logs origin [])
+    → AreAdmitted replicas (set logs origin (get_or logs origin [] ++ write ∷ [])) (with_write write seen)
+admitted_one replicas logs seen origin write before among is next =
+    subst (λ (o : ℕ). AreAdmitted replicas (set logs o (get_or logs o [] ++ write ∷ [])) (with_write write seen)) is
+    (let among' : write.origin < replicas = subst (λ (o : ℕ). o < replicas) (sym is) among in
+    let next' : write.index ≡ length (get_or logs write.origin []) = next ∙ ap (λ (o : ℕ). length (get_or logs o [])) (sym is) in
+    record {
+      sized = length-set logs write.origin (get_or logs write.origin [] ++ write ∷ []) ∙ before.sized;
+      ordered = admitted_ordered replicas logs seen write before.sized among' next' before.ordered before.placed;
+      placed = admitted_placed replicas logs seen write before.sized among' next' before.ordered before.placed;
+    })
+
+pub admitted_all : (writes : List Write) (replicas : ℕ) (logs : List (List Write)) (seen : List Write) (origin : ℕ)
+    → AreAdmitted replicas logs seen
+    → origin < replicas
+    → AreNext origin (length (get_or logs origin [])) writes
+    → AreAdmitted replicas (set logs origin (get_or logs origin [] ++ writes)) (with_writes writes seen)
+admitted_all [] replicas logs seen origin before among next =
+    subst (λ (after : List (List Write)). AreAdmitted replicas after seen) (sym (ap (set logs origin) (append-nil (get_or logs origin [])) ∙ set-get_or logs origin [])) before
+admitted_all (write ∷ writes) replicas logs seen origin before among next =
+    let log = get_or logs origin [] in
+    let here : write.index ≡ length log = ap (λ (ns : List ℕ). get_or ns 0 0) next.indices in
+    let one = admitted_one replicas logs seen origin write before among (All-head (λ (w : Write). w.origin ≡ origin) write writes next.origins) here in
+    let more = set logs origin (log ++ write ∷ []) in
+    let grown : get_or more origin [] ≡ log ++ write ∷ [] = get_or-set_same logs origin (log ++ write ∷ []) [] (omega (arith, among, before.sized)) in
+    let count : length (get_or more origin []) ≡ length log + 1 = ap length grown ∙ length_push log write in
+    let later : AreNext origin (length (get_or more origin [])) writes = record {
+      origins = All-tail (λ (w : Write). w.origin ≡ origin) write writes next.origins;
+      indices = ap tail_of next.indices ∙ ap (λ (n : ℕ). range_with_len n (length writes)) (sym count);
+    } in
+    let all = admitted_all writes replicas more (with_write write seen) origin one among later in
+    subst (λ (after : List (List Write)). AreAdmitted replicas after (with_writes writes (with_write write seen)))
+    (ap (λ (front : List Write). set more origin (front ++ writes)) grown ∙ set-set logs origin (log ++ write ∷ []) _ ∙ ap (set logs origin) (append_assoc log (write ∷ []) writes)) all
+  where
+    tail_of : List ℕ → List ℕ
+    tail_of [] = []
+    tail_of (n ∷ ns) = ns

@@ -1,7 +1,6 @@
 -- An entry that a replica makes where it isn't full is due, and the part goes on with it.
 use Rattle.std.proofs.Common.{◌≡◌, ℕ, ◌<◌, ◌≤◌, Bool, true, false, ◌||◌, nat_le, List, [], ◌∷◌, ◌++◌, None, refl, ap, ap₂, cond, ◌==◌, arith}
 use Rattle.std.proofs.lemmas.Bool.{leb-false}
-use Rattle.std.proofs.lemmas.List.Elements.{All-push}
 use Rattle.tact_base.proofs.ListLemmas.{flat_map_agree}
 use Rattle.tact_base.specs.WriteOrder.{in_order}
 use Rattle.tact_base.specs.declared.limits.TheConstants.{HISTORY_MAX, STAMP_MAX, MOMENT_MAX}
@@ -19,21 +18,20 @@ use Rattle.run_model.proofs.PartLemmas.{accepted_in, taken_by, own-push_none, or
 use Rattle.run_model.proofs.Growth.{Grows, Grows-push}
 use Rattle.run_promises.proofs.PartSound.{PartSound, PartSound-part}
 use Rattle.replica_core.specs.States.{Core, is_full}
-use Rattle.run_model.specs.Loans.{MovesNoLoan, HasNoLoans}
 use Rattle.replica_core.specs.Stands.{Stands}
 
 -- a replica that isn't full
 pub not_full : (core : Core)
     → is_full core ≡ false
-    → (core.count < HISTORY_MAX) × (core.clock < STAMP_MAX)
-not_full core free = go (nat_le HISTORY_MAX core.count) (nat_le STAMP_MAX core.clock) refl refl free
+    → (core.counts.count < HISTORY_MAX) × (core.writes.clock < STAMP_MAX)
+not_full core free = go (nat_le HISTORY_MAX core.counts.count) (nat_le STAMP_MAX core.writes.clock) refl refl free
   where
     go : (counted clocked : Bool)
-        → nat_le HISTORY_MAX core.count ≡ counted
-        → nat_le STAMP_MAX core.clock ≡ clocked
+        → nat_le HISTORY_MAX core.counts.count ≡ counted
+        → nat_le STAMP_MAX core.writes.clock ≡ clocked
         → (counted || clocked) ≡ false
-        → (core.count < HISTORY_MAX) × (core.clock < STAMP_MAX)
-    go false false one other free = (leb-false HISTORY_MAX core.count one, leb-false STAMP_MAX core.clock other)
+        → (core.counts.count < HISTORY_MAX) × (core.writes.clock < STAMP_MAX)
+    go false false one other free = (leb-false HISTORY_MAX core.counts.count one, leb-false STAMP_MAX core.writes.clock other)
     go true clocked one other free = cc
     go false true one other free = cc
 
@@ -58,9 +56,9 @@ module _ (part : List Entry) (core : Core) (stands : Stands part core) (free : i
   is_due in_range due =
       let room = not_full core free in
       record {
-        room = omega (arith, stands.count, room.0);
+        room = omega (arith, stands.counts.count, room.0);
         moment = omega arith;
-        clock_below = omega (arith, stands.clock, room.1);
+        clock_below = omega (arith, stands.writes.clock, room.1);
         in_range = record { replica = among; moment = moment_in; act = in_range };
         act = due;
       }
@@ -72,9 +70,6 @@ module _ (part : List Entry) (core : Core) (stands : Stands part core) (free : i
 
   pub has_grown : IsDue core.setup part entry → Grows core.replica part (part ++ entry ∷ [])
   has_grown = Grows-push core.setup part entry
-
-  pub no_loans : MovesNoLoan done → HasNoLoans (part ++ entry ∷ [])
-  no_loans none = All-push (λ (e : Entry). MovesNoLoan e.act) part entry stands.loans none
 
 -- What stays where an entry accepts and takes nothing.
 module _ (setup : Setup) (replica : ℕ) (part : List Entry) (entry : Entry) (accepts : accepted_in entry ≡ None) (takes : taken_by entry ≡ None) where

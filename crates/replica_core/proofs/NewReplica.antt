@@ -1,29 +1,30 @@
 -- A replica that has done nothing: it stands for the empty part.
-use Rattle.std.proofs.Common.{◌≡◌, ℕ, ◌+◌, ◌*◌, ◌<◌, ◌≤◌, List, [], length, get_or, replicate, refl, sym, ap, ◌∙◌, ⊎_elim, arith}
+use Rattle.std.proofs.Common.{◌≡◌, ℕ, pos, ◌+◌, ◌*◌, ◌/◌, ◌%◌, ◌<◌, ◌≤◌, List, [], length, get_or, replicate, refl, sym, ap, ap₂, ◌∙◌, ⊎_elim, subst, arith}
 use Rattle.std.specs.List.{range_with_len}
 use Rattle.std.proofs.lemmas.Bool.{cases_eq, cases_lt}
 use Rattle.std.proofs.lemmas.List.{get_or-replicate, length-replicate, get_or_past, get_or-map, length-map}
 use Rattle.std.proofs.lemmas.List.FromFn.{length-map-range_with_len, fill_by_all}
-use Rattle.std.proofs.lemmas.Nat.{mul-add-lt}
+use Rattle.std.proofs.lemmas.Nat.{mul-add-lt, div-mul-add, mod-mul-add}
 use Rattle.std.proofs.lemmas.List.Elements.{All-nil}
 use Rattle.tact_base.proofs.CoversLemmas.{least_of-is_least, least_stamp-le}
 use Rattle.tact_base.proofs.ListLemmas.{flat_map_none, get_or-map_range}
 use Rattle.tact_base.specs.Covers.{no_cover}
-use Rattle.tact_base.specs.Setup.{Setup, replicas_of}
+use Rattle.tact_base.specs.Setup.{Setup, IsSetup, replicas_of, place_of, loan_of}
 use Rattle.tact_base.specs.WriteOrder.{in_order}
 use Rattle.tact_base.specs.declared.limits.TheConstants.{CLIENTS}
 use Rattle.tact_base.specs.declared.write.Cover.{Cover}
 use Rattle.tact_base.specs.declared.write.Write.{Write}
 use Rattle.run_model.specs.Taking.{log_of, cover_of, covers_of}
-use Rattle.run_model.specs.Loans.{MovesNoLoan}
 use Rattle.run_model.specs.Order.{point}
 use Rattle.run_model.specs.Runs.{MayFollow}
-use Rattle.run_model.specs.declared.entry.Entry.{Entry}
 use Rattle.run_model.proofs.PrefixLemmas.{EachAfter-nil}
 use Rattle.run_model.proofs.Accepted.{log_of-same, log_of-other}
 use Rattle.run_model.proofs.SoundViews.{cover_of-same, cover_of-other}
-use Rattle.replica_core.specs.States.{Core, HasPlaces, IsBetweenEntries}
-use Rattle.replica_core.specs.Stands.{Stands}
+use Rattle.split_budget.specs.Budgets.{BudgetState, by_place, opening}
+use Rattle.rollback_apply.specs.Image.{ImageState, base_of}
+use Rattle.replica_core.specs.States.{Core, IsKept, HasImage}
+use Rattle.replica_core.specs.Stands.{Stands, WritesStand, BudgetsStand}
+use Rattle.replica_core.proofs.LentLemmas.{AreLentBy-opening}
 use Rattle.replica_core.proofs.StandsByPlace.{stamps_of}
 
 -- a replica of empty logs and covers
@@ -31,16 +32,16 @@ abbrev pub new_core : Setup → ℕ → Core
 new_core setup replica = record {
   setup = setup;
   replica = replica;
-  logs = replicate setup.replicas [];
-  covers = replicate setup.replicas no_cover;
-  known = replicate (setup.replicas * setup.replicas) 0;
-  seen = [];
-  point = 0;
-  clock = 0;
-  calls = replicate CLIENTS 0;
-  sends = 0;
-  count = 0;
-  last = 0;
+  writes = record {
+    logs = replicate setup.replicas [];
+    covers = replicate setup.replicas no_cover;
+    known = replicate (setup.replicas * setup.replicas) 0;
+    seen = [];
+    point = 0;
+    clock = 0;
+  };
+  budgets = opening setup replica 0;
+  counts = record { calls = replicate CLIENTS 0; sends = 0; count = 0; last = 0 };
 }
 
 module _ (setup : Setup) (replica : ℕ) (among : replica < setup.replicas) where
@@ -67,72 +68,107 @@ module _ (setup : Setup) (replica : ℕ) (among : replica < setup.replicas) wher
       ∙ ap stamp (get_or-map_range (cover_of replica [] 0) setup.replicas replica no_cover among) ∙ ap stamp (cover_nothing 0 replica refl) in
       omega (arith, first, least replica 0 (omega (arith, among, size, length-map covers stamp)))
 
-  pub Stands-new : Stands [] (new_core setup replica)
-  Stands-new = record {
-    is_part = EachAfter-nil (MayFollow setup replica);
-    loans = All-nil (λ (e : Entry). MovesNoLoan e.act);
+  WritesStand-new : WritesStand setup replica [] (new_core setup replica).writes
+  WritesStand-new = record {
     logs = fill_by_all (log_of replica []) (replicate setup.replicas []) setup.replicas [] (length-replicate setup.replicas []) (λ origin within. get_or-replicate setup.replicas origin [] [] within ∙ sym (no_log origin));
     covers = fill_by_all (cover_of replica [] 0) (replicate setup.replicas no_cover) setup.replicas no_cover (length-replicate setup.replicas no_cover) (λ origin within. get_or-replicate setup.replicas origin no_cover no_cover within ∙ sym (cover_nothing 0 origin refl));
     known = λ peer origin peer_in origin_in. get_or-replicate (setup.replicas * setup.replicas) (peer * setup.replicas + origin) 0 0 (omega (arith, mul-add-lt peer setup.replicas origin setup.replicas peer_in origin_in));
     seen = sym (ap in_order (flat_map_none (log_of replica []) (replicas_of setup) (λ k d within. no_log _)));
     point = point_zero;
     clock = refl;
-    calls = λ client within. get_or-replicate CLIENTS client 0 0 within;
-    sends = refl;
-    count = refl;
-    last = refl;
+  }
+
+  -- where a number stands among those by replica and then conit
+  at_place : (number : ℕ → ℕ → ℕ) (peer conit : ℕ)
+      → peer < setup.replicas
+      → conit < setup.conits
+      → get_or (by_place setup number) (place_of setup peer conit) 0 ≡ number peer conit
+  at_place number peer conit peer_in conit_in =
+      get_or-map_range (λ (place : ℕ). number (place / setup.conits) (place % setup.conits)) (setup.replicas * setup.conits) (place_of setup peer conit) 0 (omega (arith, mul-add-lt peer setup.conits conit setup.replicas peer_in conit_in))
+      ∙ ap₂ number (div-mul-add peer setup.conits conit conit_in) (mod-mul-add peer setup.conits conit conit_in)
+
+  nothing_at : (peer conit : ℕ)
+      → peer < setup.replicas
+      → conit < setup.conits
+      → (let none : ℕ = 0 in get_or (replicate (setup.replicas * setup.conits) none) (place_of setup peer conit) none ≡ none)
+  nothing_at peer conit peer_in conit_in = get_or-replicate (setup.replicas * setup.conits) (place_of setup peer conit) 0 0 (omega (arith, mul-add-lt peer setup.conits conit setup.replicas peer_in conit_in))
+
+  BudgetsStand-new : BudgetsStand setup replica [] (opening setup replica 0)
+  BudgetsStand-new = record {
+    given_up = omega arith;
+    had = λ peer within other. omega arith;
+    weights = refl;
+    known = λ peer within other. get_or-replicate setup.replicas peer 0 0 within;
+    reserved = λ conit within. get_or-replicate setup.conits conit 0 0 within;
+    lent = λ peer conit peer_in other conit_in. omega (arith, at_place (λ (holder at : ℕ). loan_of setup replica at holder) peer conit peer_in conit_in);
+    lent_known = λ peer conit peer_in other conit_in. omega (arith, at_place (λ (owner at : ℕ). loan_of setup owner at replica) peer conit peer_in conit_in);
+    returned = λ peer conit peer_in other conit_in. nothing_at peer conit peer_in conit_in;
+    returned_known = λ peer conit peer_in other conit_in. nothing_at peer conit peer_in conit_in;
+  }
+
+  pub Stands-new : Stands [] (new_core setup replica)
+  Stands-new = record {
+    is_part = EachAfter-nil (MayFollow setup replica);
+    writes = WritesStand-new;
+    budgets = BudgetsStand-new;
+    counts = record { calls = λ client within. get_or-replicate CLIENTS client 0 0 within; sends = refl; count = refl; last = refl };
+  }
+
+  -- no log has a write
+  no_list : (origin : ℕ) → (let none : List (List Write) = replicate setup.replicas [] in get_or none origin [] ≡ [])
+  no_list origin = ⊎_elim
+      (λ (within : origin < setup.replicas). get_or-replicate setup.replicas origin [] [] within)
+      (λ (past : setup.replicas ≤ origin). get_or_past (replicate setup.replicas []) origin [] (omega (arith, past, length-replicate {A = List Write} setup.replicas [])))
+      (cases_lt origin setup.replicas)
+
+  pub IsKept-new : IsSetup setup → IsKept (new_core setup replica)
+  IsKept-new good = record {
+    setup = good;
+    places = record {
+      among = among;
+      logs_sized = length-replicate setup.replicas [];
+      covers_sized = length-replicate setup.replicas no_cover;
+      known_sized = length-replicate (setup.replicas * setup.replicas) 0;
+      calls_sized = refl;
+    };
+    budgets = record { setup = refl; replica = refl };
+    between = record {
+      ordered = sym (ap in_order (flat_map_none (λ origin. get_or (replicate setup.replicas []) origin []) (range_with_len 0 setup.replicas) (λ k d within. no_list _)));
+      placed = All-nil (λ (write : Write). (write.origin < setup.replicas) × (write.index < length (get_or (replicate setup.replicas []) write.origin [])));
+      own = omega (arith, ap (λ (c : Cover). c.stamp) (get_or-replicate setup.replicas replica no_cover no_cover among));
+      committed = omega (arith, least_stamp-le (replicate setup.replicas no_cover) replica no_cover (omega (arith, among, length-replicate setup.replicas no_cover)), ap (λ (c : Cover). c.stamp) (get_or-replicate setup.replicas replica no_cover no_cover among));
+    };
+    lent = AreLentBy-opening setup good replica among;
   }
 
 -- so is one whose parts are equal to these
-pub Stands-made : (setup made : Setup) (replica : ℕ) (logs : List (List Write)) (covers : List Cover) (known : List ℕ) (seen : List Write) (point : ℕ)
-    → replica < setup.replicas
-    → made ≡ setup
-    → logs ≡ replicate setup.replicas []
-    → covers ≡ replicate setup.replicas no_cover
-    → known ≡ replicate (setup.replicas * setup.replicas) 0
+module _ (setup made : Setup) (replica : ℕ) (logs : List (List Write)) (covers : List Cover) (known : List ℕ) (seen : List Write) (point : ℕ) (budgets : BudgetState) (among : replica < setup.replicas)
+    (is_setup : made ≡ setup) (is_logs : logs ≡ replicate setup.replicas []) (is_covers : covers ≡ replicate setup.replicas no_cover) (is_known : known ≡ replicate (setup.replicas * setup.replicas) 0) (is_seen : seen ≡ []) (is_point : point ≡ 0) (is_budgets : record budgets { room = 0 } ≡ opening setup replica 0) where
+  abbrev made_core : Core
+  made_core = record {
+    setup = made;
+    replica = replica;
+    writes = record { logs = logs; covers = covers; known = known; seen = seen; point = point; clock = 0 };
+    budgets = record budgets { room = 0 };
+    counts = record { calls = replicate CLIENTS 0; sends = 0; count = 0; last = 0 };
+  }
+
+  same_core : made_core ≡ new_core setup replica
+  same_core = rw (is_setup, is_logs, is_covers, is_known, is_seen, is_point, is_budgets) refl
+
+  pub Stands-made : Stands [] made_core
+  Stands-made = subst (Stands []) (sym same_core) (Stands-new setup replica among)
+
+  pub IsKept-made : IsSetup setup → IsKept made_core
+  IsKept-made good = subst IsKept (sym same_core) (IsKept-new setup replica among good)
+
+-- the image of no writes
+pub HasImage-made : (seen : List Write) (point : ℕ) (image : ImageState)
     → seen ≡ []
     → point ≡ 0
-    → Stands [] (record { setup = made; replica = replica; logs = logs; covers = covers; known = known; seen = seen; point = point; clock = 0; calls = replicate CLIENTS 0; sends = 0; count = 0; last = 0 })
-Stands-made setup made replica logs covers known seen point among is_setup is_logs is_covers is_known is_seen is_point =
-    rw (is_setup, is_logs, is_covers, is_known, is_seen, is_point) (Stands-new setup replica among)
-
--- its lists have their places, and are kept in order
-pub HasPlaces-made : (replicas replica : ℕ) (logs : List (List Write)) (covers : List Cover) (known : List ℕ)
-    → replica < replicas
-    → logs ≡ replicate replicas []
-    → covers ≡ replicate replicas no_cover
-    → known ≡ replicate (replicas * replicas) 0
-    → HasPlaces replicas replica logs covers known (replicate CLIENTS 0)
-HasPlaces-made replicas replica logs covers known among is_logs is_covers is_known = record {
-  among = among;
-  logs_sized = ap length is_logs ∙ length-replicate replicas [];
-  covers_sized = ap length is_covers ∙ length-replicate replicas no_cover;
-  known_sized = ap length is_known ∙ length-replicate (replicas * replicas) 0;
-  calls_sized = refl;
-}
-
--- no log has a write
-no_list : (replicas : ℕ) (logs : List (List Write))
-    → logs ≡ replicate replicas []
-    → (origin : ℕ)
-    → get_or logs origin [] ≡ []
-no_list replicas logs is origin = ⊎_elim
-    (λ (within : origin < replicas). ap (λ (l : List (List Write)). get_or l origin []) is ∙ get_or-replicate replicas origin [] [] within)
-    (λ (past : replicas ≤ origin). get_or_past logs origin [] (omega (arith, past, ap length is, length-replicate {A = List Write} replicas [])))
-    (cases_lt origin replicas)
-
-pub IsBetweenEntries-made : (replicas replica : ℕ) (logs : List (List Write)) (covers : List Cover) (seen : List Write) (point : ℕ)
-    → replica < replicas
-    → logs ≡ replicate replicas []
-    → covers ≡ replicate replicas no_cover
-    → seen ≡ []
-    → point ≡ 0
-    → IsBetweenEntries replicas replica logs covers seen point 0
-IsBetweenEntries-made replicas replica logs covers seen point among is_logs is_covers is_seen is_point =
-    rw (is_covers, is_seen, is_point)
-    (record {
-      ordered = sym (ap in_order (flat_map_none (λ origin. get_or logs origin []) (range_with_len 0 replicas) (λ k d within. no_list replicas logs is_logs _)));
-      placed = All-nil (λ (write : Write). (write.origin < replicas) × (write.index < length (get_or logs write.origin [])));
-      own = omega (arith, ap (λ (c : Cover). c.stamp) (get_or-replicate replicas replica no_cover no_cover among));
-      committed = omega (arith, least_stamp-le (replicate replicas no_cover) replica no_cover (omega (arith, among, length-replicate replicas no_cover)), ap (λ (c : Cover). c.stamp) (get_or-replicate replicas replica no_cover no_cover among));
-    })
+    → image.committed ≡ 0
+    → ((key : ℕ) → base_of image key ≡ pos 0)
+    → image.ops ≡ []
+    → HasImage seen point image
+HasImage-made seen point image no_writes no_point none base no_ops =
+    rw (no_writes, no_point) (record { committed = none; base = base; ops = no_ops })

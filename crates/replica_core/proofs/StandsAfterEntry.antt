@@ -19,9 +19,8 @@ use Rattle.run_model.proofs.PartLemmas.{last_moment-push}
 use Rattle.run_model.proofs.Accepted.{log_of-same}
 use Rattle.run_model.proofs.Growth.{Grows}
 use Rattle.run_model.proofs.SoundViews.{cover_of-same, cover_of-other}
-use Rattle.replica_core.specs.States.{Core, log_at, cover_at, known_at, own_cover, covers_with_own, entered}
-use Rattle.run_model.specs.Loans.{HasNoLoans}
-use Rattle.replica_core.specs.Stands.{Stands}
+use Rattle.replica_core.specs.States.{Core, CountsKept, HasPlaces, log_at, cover_at, known_at, own_cover, covers_with_own, entered}
+use Rattle.replica_core.specs.Stands.{Stands, BudgetsStand}
 use Rattle.replica_core.proofs.StandsByPlace.{stamps_of}
 
 -- a told cover none of whose numbers is less is kept
@@ -36,12 +35,9 @@ later_cover-told kept told count stamp moment =
     let m : nat_le kept.moment told.moment ≡ true = le-leb kept.moment told.moment moment in
     rw (c, s, m) refl
 
--- All of a replica but its own cover, its counts and its point stands for a part with one more entry; these stand for the part before.
-pub record IsReadyToEnter (part : List Entry) (entry : Entry) (core : Core) : Type 0 where
-  pub is_part : IsPart core.setup core.replica (part ++ entry ∷ [])
-  pub grows : Grows core.replica part (part ++ entry ∷ [])
-  pub loans : HasNoLoans (part ++ entry ∷ [])
-  pub logs : core.logs ≡ map (log_of core.replica (part ++ entry ∷ [])) (replicas_of core.setup)
+-- What is kept of writes, but its own cover and its point, is that of a part with one more entry; its own cover is that of the part before.
+pub record AreWritesReady (part : List Entry) (entry : Entry) (core : Core) : Type 0 where
+  pub logs : core.writes.logs ≡ map (log_of core.replica (part ++ entry ∷ [])) (replicas_of core.setup)
   pub covers : (origin : ℕ)
       → origin < core.setup.replicas
       → (origin ≡ core.replica → ⊥)
@@ -51,40 +47,51 @@ pub record IsReadyToEnter (part : List Entry) (entry : Entry) (core : Core) : Ty
       → peer < core.setup.replicas
       → origin < core.setup.replicas
       → known_at core peer origin ≡ known (part ++ entry ∷ []) peer origin
-  pub seen : core.seen ≡ seen core.setup core.replica (part ++ entry ∷ [])
-  pub clock : core.clock ≡ clock (part ++ entry ∷ [])
+  pub seen : core.writes.seen ≡ seen core.setup core.replica (part ++ entry ∷ [])
+  pub clock : core.writes.clock ≡ clock (part ++ entry ∷ [])
+
+-- the counts of calls and of messages are those of the part with the entry, and the others those of the part before
+pub record AreCountsReady (part : List Entry) (entry : Entry) (kept : CountsKept) : Type 0 where
   pub calls : (client : ℕ)
       → client < CLIENTS
-      → get_or core.calls client 0 ≡ calls_in (part ++ entry ∷ []) client
-  pub sends : core.sends ≡ length (sent_in (part ++ entry ∷ []))
-  pub count : core.count ≡ length part
-  pub last : core.last ≡ last_moment part
+      → get_or kept.calls client 0 ≡ calls_in (part ++ entry ∷ []) client
+  pub sends : kept.sends ≡ length (sent_in (part ++ entry ∷ []))
+  pub count : kept.count ≡ length part
+  pub last : kept.last ≡ last_moment part
 
-module _ (part : List Entry) (entry : Entry) (core : Core) (handed : ℕ) (ready : IsReadyToEnter part entry core) (at : entry.moment ≡ moment_at part handed) (among : core.replica < core.setup.replicas) (sized : length core.covers ≡ core.setup.replicas) where
+-- A replica that has done all of an entry but to close it.
+pub record IsReadyToEnter (part : List Entry) (entry : Entry) (core : Core) : Type 0 where
+  pub is_part : IsPart core.setup core.replica (part ++ entry ∷ [])
+  pub grows : Grows core.replica part (part ++ entry ∷ [])
+  pub writes : AreWritesReady part entry core
+  pub budgets : BudgetsStand core.setup core.replica (part ++ entry ∷ []) core.budgets
+  pub counts : AreCountsReady part entry core.counts
+
+module _ (part : List Entry) (entry : Entry) (core : Core) (handed : ℕ) (ready : IsReadyToEnter part entry core) (at : entry.moment ≡ moment_at part handed) (places : HasPlaces core) where
   abbrev further : List Entry
   further = part ++ entry ∷ []
 
   abbrev last : ℕ
-  last = max handed core.last
+  last = max handed core.counts.last
 
   last_is : last ≡ last_moment further
-  last_is = ap (max handed) ready.last ∙ sym at ∙ sym (last_moment-push part entry)
+  last_is = ap (max handed) ready.counts.last ∙ sym at ∙ sym (last_moment-push part entry)
 
   own_log : log_at core core.replica ≡ log_of core.replica further core.replica
   own_log =
-      ap (λ (logs : List (List Write)). get_or logs core.replica []) ready.logs
-      ∙ get_or-map_range (log_of core.replica further) core.setup.replicas core.replica [] among
+      ap (λ (logs : List (List Write)). get_or logs core.replica []) ready.writes.logs
+      ∙ get_or-map_range (log_of core.replica further) core.setup.replicas core.replica [] places.among
 
   own_is : own_cover core last ≡ cover_of core.replica further (last_moment further) core.replica
   own_is =
-      ap₂ (λ (n s : ℕ). let c : Cover = record { count = n; stamp = s; moment = last } in c) (ap length (own_log ∙ log_of-same core.replica further)) ready.clock
+      ap₂ (λ (n s : ℕ). let c : Cover = record { count = n; stamp = s; moment = last } in c) (ap length (own_log ∙ log_of-same core.replica further)) ready.writes.clock
       ∙ ap (λ (m : ℕ). let c : Cover = record { count = length (own further); stamp = clock further; moment = m } in c) last_is
       ∙ sym (cover_of-same core.replica further (last_moment further))
 
   -- its own cover is later than the one before
   own_later : later_cover (cover_at core core.replica) (own_cover core last) ≡ own_cover core last
   own_later =
-      let before = ready.own ∙ cover_of-same core.replica part (last_moment part) in
+      let before = ready.writes.own ∙ cover_of-same core.replica part (last_moment part) in
       let here = own_is ∙ cover_of-same core.replica further (last_moment further) in
       let counts = ready.grows.have core.replica in
       let size : length (log_of core.replica part core.replica) ≡ length (own part) = ap length (log_of-same core.replica part) in
@@ -100,12 +107,12 @@ module _ (part : List Entry) (entry : Entry) (core : Core) (handed : ℕ) (ready
   covers_are origin within = ⊎_elim
       (λ (same : origin ≡ core.replica).
       let raised = later_cover (cover_at core core.replica) (own_cover core last) in
-      ap (λ o. get_or (set core.covers core.replica raised) o no_cover) same
-      ∙ get_or-set_same core.covers core.replica raised no_cover (omega (arith, among, sized))
+      ap (λ o. get_or (set core.writes.covers core.replica raised) o no_cover) same
+      ∙ get_or-set_same core.writes.covers core.replica raised no_cover (omega (arith, places.among, places.covers_sized))
       ∙ own_later ∙ own_is ∙ ap (cover_of core.replica further (last_moment further)) (sym same))
       (λ (other : origin ≡ core.replica → ⊥).
-      get_or-set_other core.covers core.replica origin (later_cover (cover_at core core.replica) (own_cover core last)) no_cover other
-      ∙ ready.covers origin within other ∙ sym (cover_of-other core.replica further (last_moment further) origin other))
+      get_or-set_other core.writes.covers core.replica origin (later_cover (cover_at core core.replica) (own_cover core last)) no_cover other
+      ∙ ready.writes.covers origin within other ∙ sym (cover_of-other core.replica further (last_moment further) origin other))
       (cases_eq origin core.replica)
 
   -- a cover's stamp doesn't depend on the moment of its own
@@ -121,7 +128,7 @@ module _ (part : List Entry) (entry : Entry) (core : Core) (handed : ℕ) (ready
       let stamp = λ (cover : Cover). cover.stamp in
       let covers = covers_with_own core last in
       let defined = covers_of core.setup core.replica further 0 in
-      let size : length covers ≡ core.setup.replicas = length-set core.covers core.replica (later_cover (cover_at core core.replica) (own_cover core last)) ∙ sized in
+      let size : length covers ≡ core.setup.replicas = length-set core.writes.covers core.replica (later_cover (cover_at core core.replica) (own_cover core last)) ∙ places.covers_sized in
       let size' : length defined ≡ core.setup.replicas = length-map-range_with_len (cover_of core.replica further 0) 0 core.setup.replicas in
       let count : length (stamps_of covers) ≡ length covers = length-map covers stamp in
       let count' : length (stamps_of defined) ≡ length defined = length-map defined stamp in
@@ -136,17 +143,21 @@ module _ (part : List Entry) (entry : Entry) (core : Core) (handed : ℕ) (ready
   pub Stands-entered : Stands further (entered core handed)
   Stands-entered = record {
     is_part = ready.is_part;
-    loans = ready.loans;
-    logs = ready.logs;
-    covers =
-        fill_by_all (cover_of core.replica further (last_moment further)) (covers_with_own core last) core.setup.replicas no_cover
-        (length-set core.covers core.replica (later_cover (cover_at core core.replica) (own_cover core last)) ∙ sized) covers_are;
-    known = ready.known;
-    seen = ready.seen;
-    point = ap least_of stamps_are;
-    clock = ready.clock;
-    calls = ready.calls;
-    sends = ready.sends;
-    count = omega (arith, ready.count, length_push part entry);
-    last = last_is;
+    writes = record {
+      logs = ready.writes.logs;
+      covers =
+          fill_by_all (cover_of core.replica further (last_moment further)) (covers_with_own core last) core.setup.replicas no_cover
+          (length-set core.writes.covers core.replica (later_cover (cover_at core core.replica) (own_cover core last)) ∙ places.covers_sized) covers_are;
+      known = ready.writes.known;
+      seen = ready.writes.seen;
+      point = ap least_of stamps_are;
+      clock = ready.writes.clock;
+    };
+    budgets = ready.budgets;
+    counts = record {
+      calls = ready.counts.calls;
+      sends = ready.counts.sends;
+      count = omega (arith, ready.counts.count, length_push part entry);
+      last = last_is;
+    };
   }

@@ -1,11 +1,12 @@
 -- The message that a replica sends, from what it keeps.
-use Rattle.std.specs.Prelude.{ℕ, ◌==◌, List, take, drop, length, map, replicate, slice_index, if◌then◌else◌}
+use Rattle.std.specs.Prelude.{ℕ, ◌==◌, List, take, drop, length, map, slice_index, if◌then◌else◌}
 use Rattle.std.specs.List.{flat_map}
-use Rattle.tact_base.specs.Counts.{first_index, one_more}
+use Rattle.tact_base.specs.Counts.{first_index}
 use Rattle.tact_base.specs.declared.limits.TheConstants.{MESSAGE_WRITES}
 use Rattle.tact_base.specs.declared.write.Cover.{Cover}
 use Rattle.tact_base.specs.declared.write.Write.{Write}
-use Rattle.tact_base.specs.Setup.{loan_of, conits_of}
+use Rattle.tact_base.specs.Setup.{conits_of}
+use Rattle.split_budget.specs.Budgets.{lent_to, returned_to}
 use Rattle.run_model.specs.declared.entry.Message.{Message}
 use Rattle.replica_core.specs.States.{Core, log_at, cover_at, known_at, own_cover, origins_of}
 
@@ -22,22 +23,18 @@ first_told core to given origin =
 abbrev pub writes_told : Core → List ℕ → List Write
 writes_told core firsts = take MESSAGE_WRITES (flat_map (λ origin. drop (slice_index firsts origin) (log_at core origin)) (origins_of core))
 
--- its next message; lent is what it lent at the opening, and returned nothing
+-- its next message
 abbrev pub next_message : Core → ℕ → ℕ → List ℕ → Message
 next_message core moment to given =
     let firsts = map (first_told core to given) (origins_of core) in
     record {
       from = core.replica;
       to = to;
-      number = core.sends;
+      number = core.counts.sends;
       haves = map (λ origin. length (log_at core origin)) (origins_of core);
       covers = map (cover_told core moment) (origins_of core);
       firsts = firsts;
       writes = writes_told core firsts;
-      lent = map (λ conit. loan_of core.setup core.replica conit to) (conits_of core.setup);
-      returned = replicate core.setup.conits 0;
+      lent = map (lent_to core.budgets to) (conits_of core.setup);
+      returned = map (returned_to core.budgets to) (conits_of core.setup);
     }
-
--- after one more message was sent
-abbrev pub with_sent : Core → Core
-with_sent core = record core { sends = one_more core.sends }

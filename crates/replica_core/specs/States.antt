@@ -1,47 +1,60 @@
 -- The state of a replica, as plain lists and numbers.
-use Rattle.std.specs.Prelude.{◌≡◌, ℕ, ◌+◌, ◌*◌, ◌<◌, ◌≤◌, ◌||◌, Bool, nat_le, max, List, [], ◌∷◌, ◌++◌, All, length, slice_index, slice_index_or, slice_set}
+use Rattle.std.specs.Prelude.{◌≡◌, ◌≢◌, ℕ, ◌+◌, ◌*◌, ◌<◌, ◌≤◌, ◌||◌, Bool, nat_le, max, List, [], ◌∷◌, ◌++◌, All, map, length, slice_index, slice_index_or, slice_set}
 use Rattle.std.specs.List.{flat_map, range_with_len}
 use Rattle.tact_base.specs.Counts.{one_more}
 use Rattle.tact_base.specs.Covers.{no_cover, later_cover, least_stamp}
-use Rattle.tact_base.specs.WriteOrder.{in_order, with_write}
-use Rattle.tact_base.specs.declared.limits.TheConstants.{STAMP_MAX, HISTORY_MAX, CLIENTS}
+use Rattle.tact_base.specs.Setup.{Setup, IsSetup}
+use Rattle.tact_base.specs.Images.{image_of, ops_of}
+use Rattle.tact_base.specs.WriteOrder.{in_order, with_write, committed_to, tentative_past}
+use Rattle.tact_base.specs.declared.limits.TheConstants.{STAMP_MAX, HISTORY_MAX, CLIENTS, ALPHA_MAX, AMOUNT_MAX}
 use Rattle.tact_base.specs.declared.conit_list.Weight.{Weight}
 use Rattle.tact_base.specs.declared.write.Cover.{Cover}
 use Rattle.tact_base.specs.declared.write.Op.{Op}
 use Rattle.tact_base.specs.declared.write.Write.{Write}
-use Rattle.tact_base.specs.Setup.{Setup}
+use Rattle.rollback_apply.specs.Image.{ImageState, base_of}
+use Rattle.split_budget.specs.Budgets.{BudgetState}
+use Rattle.write_log.specs.Logs.{LogState, room_of}
 
--- What a replica keeps. By origin: its log, and its cover, its own at the moment of its last entry. By peer and then origin:
--- how many of the origin's writes the peer is known to have. All writes in order, of which those up to the point are committed.
--- Its clock; by client the count of its calls; how many messages it sent; how many entries it made; the moment of the last.
-pub record Core : Type 0 where
-  pub setup : Setup
-  pub replica : ℕ
+-- What it keeps of writes. By origin: its log, and its cover, its own at the moment of its last entry. By peer and then origin: how
+-- many of the origin's writes the peer is known to have. All writes in order, of which those up to the point are committed. Its clock.
+pub record WritesKept : Type 0 where
   pub logs : List (List Write)
   pub covers : List Cover
   pub known : List ℕ
   pub seen : List Write
   pub point : ℕ
   pub clock : ℕ
+
+-- What it counts: by client its calls; how many messages it sent; how many entries it made; and the moment of the last.
+pub record CountsKept : Type 0 where
   pub calls : List ℕ
   pub sends : ℕ
   pub count : ℕ
   pub last : ℕ
 
--- and for how many more own writes it surely has room without taking memory
+-- What a replica of a setup keeps: writes, budgets (without their room) and counts.
+pub record Core : Type 0 where
+  pub setup : Setup
+  pub replica : ℕ
+  pub writes : WritesKept
+  pub budgets : BudgetState
+  pub counts : CountsKept
+
+-- and for how many more own writes it surely has room without taking memory, and for how many told writes of each other origin beside these
 pub record ReplicaState : Type 0 where
   pub core : Core
   pub spare : ℕ
+  pub beside : ℕ
 
 -- the log that it has of an origin, the cover that it has of one, and how many writes of an origin it knows a peer to have
 abbrev pub log_at : Core → ℕ → List Write
-log_at core origin = slice_index_or core.logs origin []
+log_at core origin = slice_index_or core.writes.logs origin []
 
 abbrev pub cover_at : Core → ℕ → Cover
-cover_at core origin = slice_index_or core.covers origin no_cover
+cover_at core origin = slice_index_or core.writes.covers origin no_cover
 
 abbrev pub known_at : Core → ℕ → ℕ → ℕ
-known_at core peer origin = slice_index core.known (peer * core.setup.replicas + origin)
+known_at core peer origin = slice_index core.writes.known (peer * core.setup.replicas + origin)
 
 -- the numbers of its origins
 abbrev pub origins_of : Core → List ℕ
@@ -49,59 +62,106 @@ origins_of core = range_with_len 0 core.setup.replicas
 
 -- no entry may follow: so many were made, or the clock stands at its end
 abbrev pub is_full : Core → Bool
-is_full core = nat_le HISTORY_MAX core.count || nat_le STAMP_MAX core.clock
+is_full core = nat_le HISTORY_MAX core.counts.count || nat_le STAMP_MAX core.writes.clock
 
 -- its lists have a place for each origin, for each peer and origin, and for each client
-pub record HasPlaces (replicas replica : ℕ) (logs : List (List Write)) (covers : List Cover) (known calls : List ℕ) : Type 0 where
-  pub among : replica < replicas
-  pub logs_sized : length logs ≡ replicas
-  pub covers_sized : length covers ≡ replicas
-  pub known_sized : length known ≡ replicas * replicas
-  pub calls_sized : length calls ≡ CLIENTS
+pub record HasPlaces (core : Core) : Type 0 where
+  pub among : core.replica < core.setup.replicas
+  pub logs_sized : length core.writes.logs ≡ core.setup.replicas
+  pub covers_sized : length core.writes.covers ≡ core.setup.replicas
+  pub known_sized : length core.writes.known ≡ core.setup.replicas * core.setup.replicas
+  pub calls_sized : length core.counts.calls ≡ CLIENTS
 
--- what the replica is at now: so many own writes, its clock, and a moment
-abbrev pub own_cover : Core → ℕ → Cover
-own_cover core moment = record { count = length (log_at core core.replica); stamp = core.clock; moment = moment }
+-- its budgets are those of this replica of the setup
+pub record HasBudgets (core : Core) : Type 0 where
+  pub setup : core.budgets.setup ≡ core.setup
+  pub replica : core.budgets.replica ≡ core.replica
 
--- the same with its own cover at a moment, and with that many writes committed
-abbrev pub covers_with_own : Core → ℕ → List Cover
-covers_with_own core moment = slice_set core.covers core.replica (later_cover (cover_at core core.replica) (own_cover core moment))
-
--- after one more entry at the moment that follows a handed one
-abbrev pub entered : Core → ℕ → Core
-entered core handed =
-    let last = max handed core.last in
-    let covers = covers_with_own core last in
-    record core { covers = covers; point = least_stamp covers; count = core.count + 1; last = last }
+-- The next writes of an origin, of whose log there are so many.
+pub record AreNext (origin count : ℕ) (writes : List Write) : Type 0 where
+  pub origins : All (λ (write : Write). write.origin ≡ origin) writes
+  pub indices : map (λ (write : Write). write.index) writes ≡ range_with_len count (length writes)
 
 -- all writes of its logs, joined by origin
 abbrev pub joined : ℕ → List (List Write) → List Write
 joined replicas logs = flat_map (λ origin. slice_index_or logs origin []) (range_with_len 0 replicas)
 
 -- What holds of it between two entries: the writes in order are those of its logs, each within its log; its own cover isn't past its
--- clock; and what is committed goes up to the least stamp.
-pub record IsBetweenEntries (replicas replica : ℕ) (logs : List (List Write)) (covers : List Cover) (seen : List Write) (point clock : ℕ) : Type 0 where
-  pub ordered : seen ≡ in_order (joined replicas logs)
-  pub placed : All (λ (write : Write). (write.origin < replicas) × (write.index < length (slice_index_or logs write.origin []))) seen
-  pub own : (slice_index_or covers replica no_cover).stamp ≤ clock
-  pub committed : point ≡ least_stamp covers
+-- clock; and what is committed goes no further than the least stamp.
+pub record IsBetweenEntries (core : Core) : Type 0 where
+  pub ordered : core.writes.seen ≡ in_order (joined core.setup.replicas core.writes.logs)
+  pub placed : All (λ (write : Write). (write.origin < core.setup.replicas) × (write.index < length (log_at core write.origin))) core.writes.seen
+  pub own : (cover_at core core.replica).stamp ≤ core.writes.clock
+  pub committed : core.writes.point ≤ least_stamp core.writes.covers
+
+-- numbers that an opening and so many entries can have lent: each at most the greatest alpha, and the greatest amount for each entry
+abbrev pub AreLentBy : ℕ → List ℕ → Type 0
+AreLentBy count numbers = All (λ lent. lent ≤ ALPHA_MAX + count * AMOUNT_MAX) numbers
+
+-- What every replica keeps.
+pub record IsKept (core : Core) : Type 0 where
+  pub setup : IsSetup core.setup
+  pub places : HasPlaces core
+  pub budgets : HasBudgets core
+  pub between : IsBetweenEntries core
+  pub lent : AreLentBy core.counts.count core.budgets.lent
+
+-- An image is that of writes in order: those up to a point are committed in it, and the others tentative.
+pub record HasImage (seen : List Write) (point : ℕ) (image : ImageState) : Type 0 where
+  pub committed : image.committed ≡ length (committed_to point seen)
+  pub base : (key : ℕ) → base_of image key ≡ image_of (ops_of (committed_to point seen)) key
+  pub ops : image.ops ≡ ops_of (tentative_past point seen)
+
+-- There is room for so many own writes in its log, the order, the image and the budgets; and beside it for so many told writes of each
+-- other origin, in its log, the order and the image.
+pub record HasRooms (replica spare beside : ℕ) (logs : LogState) (order_room image_room budget_room : ℕ) : Type 0 where
+  pub own : spare ≤ room_of logs replica
+  pub others : (origin : ℕ) → origin ≢ replica → origin < length logs.logs → beside ≤ room_of logs origin
+  pub order : spare + beside ≤ order_room
+  pub image : spare + beside ≤ image_room
+  pub budgets : spare ≤ budget_room
+
+-- what the replica is at now: so many own writes, its clock, and a moment
+abbrev pub own_cover : Core → ℕ → Cover
+own_cover core moment = record { count = length (log_at core core.replica); stamp = core.writes.clock; moment = moment }
+
+-- the covers with its own at a moment
+abbrev pub covers_with_own : Core → ℕ → List Cover
+covers_with_own core moment = slice_set core.writes.covers core.replica (later_cover (cover_at core core.replica) (own_cover core moment))
+
+-- after one more entry at the moment that follows a handed one: its own cover is raised, and what can be is committed
+abbrev pub entered : Core → ℕ → Core
+entered core handed =
+    let last = max handed core.counts.last in
+    let covers = covers_with_own core last in
+    record core {
+      writes = record core.writes { covers = covers; point = least_stamp covers };
+      counts = record core.counts { count = core.counts.count + 1; last = last };
+    }
+
+-- with one more message sent, and with one more call of a client
+abbrev pub with_sent : Core → Core
+with_sent core = record core { counts = record core.counts { sends = one_more core.counts.sends } }
+
+abbrev pub with_call : Core → ℕ → Core
+with_call core client =
+    record core { counts = record core.counts { calls = slice_set core.counts.calls client (one_more (slice_index core.counts.calls client)) } }
 
 -- the write that it accepts next, at the moment that follows a handed one
 abbrev pub next_write : Core → ℕ → List Weight → Op → Write
 next_write core handed weights op = record {
   origin = core.replica;
   index = length (log_at core core.replica);
-  stamp = core.clock + 1;
-  moment = max handed core.last;
+  stamp = core.writes.clock + 1;
+  moment = max handed core.counts.last;
   weights = weights;
   op = op;
 }
 
--- with a write of its own, which a client asked for
-abbrev pub accepted : Core → ℕ → Write → Core
-accepted core client write = record core {
-  logs = slice_set core.logs core.replica (log_at core core.replica ++ write ∷ []);
-  seen = with_write write core.seen;
+-- its writes with one of its own, whose stamp becomes the clock
+abbrev pub with_own : Core → Write → WritesKept
+with_own core write = record core.writes {
+  logs = slice_set core.writes.logs core.replica (log_at core core.replica ++ write ∷ []);
+  seen = with_write write core.writes.seen;
   clock = write.stamp;
-  calls = slice_set core.calls client (one_more (slice_index core.calls client));
 }

@@ -5,5 +5,5 @@
 mod fault;
 mod replica;
 
-pub use fault::CoreFault;
+pub use fault::{CoreFault, LoanFault};
 pub use replica::Replica;

@@ -2,22 +2,33 @@
 ghost use Rattle.std.specs.Prelude.{◌≡◌, ◌↔◌, ℕ, ◌*◌, ◌<◌, ◌≤◌, List, [], suc, length, map, replicate, slice_index, IfOk, OnOk, OnErr, IsOk, IfErr, IsTrue, true, false, max};
 ghost use Rattle.tact_base.specs.declared.limits.TheConstants.{CLIENTS, HISTORY_MAX, MOMENT_MAX};
 ghost use Rattle.tact_base.specs.WriteOrder.{committed_to, tentative_past};
-ghost use Rattle.replica_core.specs.States.{HasPlaces, log_at, known_at, cover_at, entered, is_full};
+ghost use Rattle.replica_core.specs.States.{IsKept, log_at, known_at, cover_at, entered, is_full};
 ghost use Rattle.replica_core.specs.Stands.{Stands, GoesOn, IsSameReplica};
-ghost use Rattle.run_model.specs.Order.{point};
+ghost use Rattle.split_budget.specs.Budgets.{opening};
+ghost use Rattle.tact_base.specs.Images.{image_of, ops_of};
+ghost use Rattle.run_model.specs.Order.{point, image};
 ghost use Rattle.run_model.specs.declared.entry.Entry.{Entry};
 ghost use Rattle.run_model.specs.declared.entry.Act.TheVariants.{Restart};
 
 mod admitting;
+mod calling;
+mod fitting;
+mod lending;
+mod refusing;
+mod reserving;
 mod sending;
+mod taking;
 mod writing;
 
+use self::admitting::commit;
 use crate::CoreFault;
 use commit_order::Ordered;
+use rollback_apply::Image;
 use run_model::Config;
+use split_budget::{Budget, Budgets};
 use std::alloc::Global;
 use std::marker::Model;
-use tact_base::{CLIENTS, Cover, HISTORY_MAX, NoMemory, STAMP_MAX, Write};
+use tact_base::{CLIENTS, Cover, HISTORY_MAX, NoMemory, Numbers, STAMP_MAX, Write};
 use version_vector::Vector;
 use write_log::Logs;
 
@@ -30,20 +41,21 @@ pub struct Replica {
     replica: u32,
     logs: Logs,
     vector: Vector,
-    ordered: Ordered,
     known: Vec<u64>,
+    ordered: Ordered,
+    image: Image,
     clock: u64,
+    budgets: Budgets,
     calls: [u64; CLIENTS as usize],
     sends: u64,
     count: u64,
     last: u64,
     spare: u64,
+    beside: u64,
 }
 
 impl Model for Replica {
-    ghost use Rattle.std.specs.Prelude.{◌≤◌};
-    ghost use Rattle.write_log.specs.Logs.{room_of};
-    ghost use Rattle.replica_core.specs.States.{ReplicaState, HasPlaces, IsBetweenEntries};
+    ghost use Rattle.replica_core.specs.States.{ReplicaState, IsKept, HasRooms, HasImage};
 
     ghost Value = { ReplicaState };
 
@@ -51,23 +63,23 @@ impl Model for Replica {
       core = record {
         setup = r.config;
         replica = r.replica;
-        logs = r.logs.logs;
-        covers = r.vector;
-        known = r.known.items;
-        seen = r.ordered.writes;
-        point = r.ordered.point;
-        clock = r.clock;
-        calls = r.calls;
-        sends = r.sends;
-        count = r.count;
-        last = r.last;
+        writes = record {
+          logs = r.logs.logs;
+          covers = r.vector;
+          known = r.known.items;
+          seen = r.ordered.writes;
+          point = r.ordered.point;
+          clock = r.clock;
+        };
+        budgets = record r.budgets { room = 0 };
+        counts = record { calls = r.calls; sends = r.sends; count = r.count; last = r.last };
       };
       spare = r.spare;
+      beside = r.beside;
     } };
 
-    ghost invariant = { λ r. HasPlaces r.config.replicas r.replica r.logs.logs r.vector r.known.items r.calls
-        × (r.spare ≤ room_of r.logs r.replica) × (r.spare ≤ r.ordered.room)
-        × IsBetweenEntries r.config.replicas r.replica r.logs.logs r.vector r.ordered.writes r.ordered.point r.clock };
+    ghost invariant = { λ r. IsKept (view r).core × HasRooms r.replica r.spare r.beside r.logs r.ordered.room r.image.room r.budgets.room
+        × HasImage r.ordered.writes r.ordered.point r.image };
 }
 
 impl Replica {
@@ -85,14 +97,17 @@ impl Replica {
             replica,
             logs: Logs::new(alloc, replicas)?,
             vector: Vector::new(alloc, replicas)?,
-            ordered: Ordered::new(alloc),
             known: vec![in alloc; 0; (replicas * replicas) as usize]?,
+            ordered: Ordered::new(alloc),
+            image: Image::new(alloc),
             clock: 0,
+            budgets: opening_budgets(alloc, config, replica)?,
             calls: [0; CLIENTS as usize],
             sends: 0,
             count: 0,
             last: 0,
             spare: 0,
+            beside: 0,
         })
     }
 
@@ -106,8 +121,11 @@ impl Replica {
         ensures err { OnErr result (self.new ≡ self.old) }
     {
         if k > self.spare {
+            let all = k.checked_add(self.beside).ok_or(NoMemory)?;
             self.logs.reserve(self.replica, k)?;
-            self.ordered.reserve(k)?;
+            self.ordered.reserve(all)?;
+            self.image.reserve(all)?;
+            self.budgets.reserve_room(k)?;
             self.spare = k;
         }
         Ok(())
@@ -140,7 +158,7 @@ impl Replica {
 
     /// Its clock. Takes no memory.
     pub fn clock(&self) -> u64
-        ensures { result ≡ self.now.core.clock }
+        ensures { result ≡ self.now.core.writes.clock }
     {
         self.clock
     }
@@ -148,30 +166,30 @@ impl Replica {
     /// The stamp up to which writes are committed: the least over the covers of all replicas. Takes no
     /// memory.
     pub fn point(&self) -> u64
-        ensures point { result ≡ self.now.core.point }
+        ensures point { result ≡ self.now.core.writes.point }
         ensures of_part { (part : List Entry) → Stands part self.now.core
             → result ≡ point self.now.core.setup self.now.core.replica part }
     {
-        self.vector.least_stamp().1
+        self.ordered.point()
     }
 
     /// The committed writes, in order. Takes no memory.
     pub fn committed(&self) -> &[Write]
-        ensures { result.now ≡ committed_to self.now.core.point self.now.core.seen }
+        ensures { result.now ≡ committed_to self.now.core.writes.point self.now.core.writes.seen }
     {
         self.ordered.committed()
     }
 
     /// The other writes that it has, in order. Takes no memory.
     pub fn tentative(&self) -> &[Write]
-        ensures { result.now ≡ tentative_past self.now.core.point self.now.core.seen }
+        ensures { result.now ≡ tentative_past self.now.core.writes.point self.now.core.writes.seen }
     {
         self.ordered.tentative()
     }
 
     /// How many entries it made. Takes no memory.
     pub fn count(&self) -> u64
-        ensures { result ≡ self.now.core.count }
+        ensures { result ≡ self.now.core.counts.count }
     {
         self.count
     }
@@ -179,16 +197,33 @@ impl Replica {
     /// How many calls of a client it answered. Takes no memory.
     pub fn calls(&self, client: u32) -> u64
         requires { client < CLIENTS }
-        ensures { result ≡ slice_index self.now.core.calls client }
+        ensures { result ≡ slice_index self.now.core.counts.calls client }
     {
         self.calls[client as usize]
     }
 
     /// The moment of its last entry, 0 at first. Takes no memory.
     pub fn last(&self) -> u64
-        ensures { result ≡ self.now.core.last }
+        ensures { result ≡ self.now.core.counts.last }
     {
         self.last
+    }
+
+    /// The value of a key: the fold of the operations of all writes that it has, in order, 0 where no write
+    /// gave it one. Takes no memory.
+    pub fn get(&self, key: u64) -> i64
+        ensures value { result ≡ image_of (ops_of self.now.core.writes.seen) key }
+        ensures of_part { (part : List Entry) → Stands part self.now.core
+            → result ≡ image self.now.core.setup self.now.core.replica part key }
+    {
+        self.image.get(key)
+    }
+
+    /// Its budgets: its shares, what its own writes use of them, and what it lends. Takes no memory.
+    pub fn budgets(&self) -> &Budgets
+        ensures { self.now.core.budgets ≡ record result.now { room = 0 } }
+    {
+        &self.budgets
     }
 
     /// For how many more own writes it has room. Takes no memory.
@@ -208,7 +243,7 @@ impl Replica {
         ensures same { IsSameReplica self.old.core self.new.core }
         ensures spare { self.new.spare ≡ self.old.spare }
         ensures not_full { OnOk result (is_full self.old.core ≡ false) }
-        ensures full { IfErr result (λ fault. (is_full self.old.core ≡ true) × (fault ≡ CoreFault.Full self.old.core.count self.old.core.clock)) }
+        ensures full { IfErr result (λ fault. (is_full self.old.core ≡ true) × (fault ≡ CoreFault.Full self.old.core.counts.count self.old.core.writes.clock)) }
         ensures err { OnErr result (self.new ≡ self.old) }
     {
         self.may_enter()?;
@@ -220,8 +255,8 @@ impl Replica {
     fn may_enter(&self) -> Result<(), CoreFault>
         ensures ok { OnOk result (is_full self.now.core ≡ false) }
         ensures err { OnErr result (is_full self.now.core ≡ true) }
-        ensures full { IfErr result (λ fault. fault ≡ CoreFault.Full self.now.core.count self.now.core.clock) }
-        ensures places { HasPlaces self.now.core.setup.replicas self.now.core.replica self.now.core.logs self.now.core.covers self.now.core.known self.now.core.calls }
+        ensures full { IfErr result (λ fault. fault ≡ CoreFault.Full self.now.core.counts.count self.now.core.writes.clock) }
+        ensures kept { IsKept self.now.core }
     {
         if self.count >= HISTORY_MAX || self.clock >= STAMP_MAX {
             return Err(CoreFault::Full {
@@ -234,7 +269,7 @@ impl Replica {
 
     // Counts an entry at the moment that follows the handed one, and commits what can be.
     fn enter(&mut self, moment: u64)
-        requires { self.old.core.count < HISTORY_MAX }
+        requires { self.old.core.counts.count < HISTORY_MAX }
         ensures { self.new ≡ record self.old { core = entered self.old.core moment } }
     {
         self.count += 1;
@@ -245,6 +280,25 @@ impl Replica {
             moment: self.last,
         };
         self.vector.raise(self.replica, own);
-        self.ordered.commit_to(self.vector.least_stamp().1);
+        commit(
+            &mut self.ordered,
+            &mut self.image,
+            self.vector.least_stamp().1,
+        );
     }
+}
+
+// The budgets of a replica of a setup at the opening.
+fn opening_budgets(alloc: Global, config: &Config, replica: u32) -> Result<Budgets, NoMemory>
+    requires { replica < config.now.replicas }
+    ensures { IfOk result (λ made. made ≡ opening config.now replica made.room) }
+{
+    let budget = Budget {
+        replica,
+        replicas: config.replicas(),
+        conits: config.conits(),
+        alphas: Numbers::from_slice(alloc, config.alphas())?,
+        loans: Numbers::from_slice(alloc, config.opening_loans())?,
+    };
+    Budgets::new(alloc, &budget)
 }

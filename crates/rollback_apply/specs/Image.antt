@@ -1,9 +1,35 @@
 -- An image: operations in order, of which a front is committed. What keys hold after them is their fold.
-use Rattle.std.specs.Prelude.{ℕ, List}
+use Rattle.std.specs.Prelude.{ℕ, ℤ, pos, Bool, false, ◌-◌, ◌&&◌, nat_eq, nat_le, List, take, Option, Some, None, unwrap_or, if◌then◌else◌, slice_get}
+use Rattle.std.specs.Map.{lookup}
+use Rattle.std.specs.Option.{option_map_or}
+use Rattle.tact_base.specs.Images.{Image, image_from}
 use Rattle.tact_base.specs.declared.write.Op.{Op}
+use Rattle.rollback_apply.specs.Keys.{names}
 
--- all operations, how many of them are committed, and how many more can surely be put in without taking memory
+-- how many operations are committed, the keys that these gave a value with it, the tentative operations in order, and
+-- how many more can surely be put in without taking memory
 pub record ImageState : Type 0 where
-  pub ops : List Op
   pub committed : ℕ
+  pub base : List (ℕ × ℤ)
+  pub ops : List Op
   pub room : ℕ
+
+-- what keys hold after the committed operations
+abbrev pub base_of : ImageState → Image
+base_of state key = unwrap_or (lookup (nat_eq key) state.base) (pos 0)
+
+-- what keys hold after all operations
+abbrev pub value_in : ImageState → Image
+value_in state = image_from (base_of state) state.ops
+
+-- whether the operation at a place, counted from the first committed one, is tentative and names a key
+abbrev pub names_at : ImageState → ℕ → ℕ → Bool
+names_at state place key =
+    nat_le state.committed place && option_map_or (λ op. names op key) (slice_get state.ops (place - state.committed)) false
+
+-- what a key held before the operation at a place, where that one is tentative and names it
+abbrev pub value_before : ImageState → ℕ → ℕ → Option ℤ
+value_before state place key =
+    if names_at state place key
+    then Some (image_from (base_of state) (take (place - state.committed) state.ops) key)
+    else None

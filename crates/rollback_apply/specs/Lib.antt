@@ -1,2 +1,4 @@
 pub mod Image
+pub mod Keys
+pub mod Layers
 pub mod Values

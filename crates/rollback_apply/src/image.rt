@@ -1,44 +1,54 @@
-ghost use Rattle.std.specs.Prelude.{◌≡◌, ◌+◌, ◌<◌, ◌≤◌, [], length, insert, OnOk, OnErr, IsOk};
-ghost use Rattle.tact_base.specs.Images.{image_of};
+ghost use Rattle.std.specs.Prelude.{◌≡◌, ℕ, pos, ◌+◌, ◌-◌, ◌<◌, ◌≤◌, [], ◌++◌, vec_len, length, insert, take, drop, OnOk, OnErr, IsOk};
+ghost use Rattle.std.specs.Vec.{vec_capacity};
+ghost use Rattle.tact_base.specs.Images.{image_from, ops_of};
+ghost use Rattle.rollback_apply.specs.Image.{base_of, value_in, value_before};
 
-use crate::values::{Values, apply, entries_for, fold_anew, value_of};
+use crate::layers::{Layers, drop_front};
 use std::alloc::Global;
-use std::collections::HashMap;
 use std::marker::Model;
-use tact_base::{NoMemory, Op, RoomyList};
+use tact_base::{NoMemory, Op, Write};
 
-/// What keys hold after operations in order, of which a front is committed and never moves. Contracts see the
-/// operations, how many of them are committed, and the room: how many more can surely be put in without taking
-/// memory. What a key holds is always the fold of the operations.
+/// What keys hold after operations in order, of which a front is committed and never moves. The committed ones are
+/// kept as values alone, each tentative one with an undo, what its keys held before it. Contracts see how many are
+/// committed, what keys hold after these, the tentative operations, and the room: how many more can surely be put
+/// in without taking memory. Places are counted from the first committed operation.
 #[derive(Debug, Drop)]
 pub struct Image {
-    ops: RoomyList<Op>,
-    values: Values,
-    committed: usize,
+    ops: Vec<Op>,
+    layers: Layers,
+    committed: u64,
     room: usize,
 }
 
 impl Model for Image {
+    ghost use Rattle.std.specs.Vec.{vec_capacity};
     ghost use Rattle.rollback_apply.specs.Image.{ImageState};
-    ghost use Rattle.rollback_apply.specs.Values.{IsFolded};
+    ghost use Rattle.rollback_apply.specs.Layers.{IsKept};
 
     ghost Value = { ImageState };
 
-    ghost view = { λ s. record { ops = s.ops.items; committed = s.committed; room = s.room } };
+    ghost view = { λ image. record {
+      committed = image.committed;
+      base = image.layers.base.entries;
+      ops = image.ops.items;
+      room = image.room;
+    } };
 
-    ghost invariant = { λ s. IsFolded s.ops s.values s.committed s.room };
+    ghost invariant = { λ image.
+        IsKept image.layers image.ops.items (vec_capacity image.ops) image.room };
 }
 
 impl Image {
     /// The image of no operations, without room; they will lie in memory of `alloc`. Takes no memory.
     pub fn new(alloc: Global) -> Image
-        ensures ops { result.ops ≡ [] }
         ensures committed { result.committed ≡ 0 }
+        ensures base { (key : ℕ) → base_of result key ≡ pos 0 }
+        ensures ops { result.ops ≡ [] }
         ensures room { result.room ≡ 0 }
     {
         Image {
-            ops: RoomyList::new(alloc),
-            values: HashMap::new(alloc),
+            ops: Vec::new(alloc),
+            layers: Layers::new(alloc),
             committed: 0,
             room: 0,
         }
@@ -47,8 +57,9 @@ impl Image {
     /// Makes room for at least `k` more operations, without memory where there is so much. `NoMemory` leaves
     /// everything as it was.
     pub fn reserve(&mut self, k: u64) -> Result<(), NoMemory>
-        ensures ops { self.new.ops ≡ self.old.ops }
         ensures committed { self.new.committed ≡ self.old.committed }
+        ensures base { (key : ℕ) → base_of self.new key ≡ base_of self.old key }
+        ensures ops { self.new.ops ≡ self.old.ops }
         ensures room { OnOk result (k ≤ self.new.room) }
         ensures enough { k ≤ self.old.room → IsOk result }
         ensures kept { self.old.room ≤ self.new.room }
@@ -58,189 +69,117 @@ impl Image {
         if k <= self.room {
             return Ok(());
         }
-        let entries = entries_for(self.ops.items().len(), k)?;
-        self.ops.reserve(k as u64)?;
-        self.values.reserve(entries - self.values.len())?;
+        let count = self.ops.len().checked_add(k).ok_or(NoMemory)?;
+        self.ops.reserve(k)?;
+        self.layers.reserve(count)?;
         self.room = k;
         Ok(())
     }
 
-    /// The value of a key, which is 0 for an absent one. Takes no memory.
+    /// The value of a key after all operations, which is 0 for an absent one. Takes no memory.
     pub fn get(&self, key: u64) -> i64
-        ensures { result ≡ image_of self.now.ops key }
+        ensures { result ≡ value_in self.now key }
     {
-        value_of(&self.values, key)
+        self.layers.get(key)
     }
 
-    /// Puts an operation before the one at `place`, or at the end. Those after it act after it: the values are
-    /// rolled back to none and all operations applied again, but at the end, where this one alone is applied.
-    /// Takes no memory.
+    /// The value of a key before the operation at `place`: `None` exactly where that one isn't tentative, or
+    /// doesn't name the key. Takes no memory.
+    pub fn before(&self, place: u64, key: u64) -> Option<i64>
+        ensures { result ≡ value_before self.now place key }
+    {
+        if place < self.committed {
+            return None;
+        }
+        let index = (place - self.committed) as usize;
+        let op = *self.ops.get(index)?;
+        let held = *self.layers.undos.get(index)?;
+        held.among(op, key)
+    }
+
+    /// Puts an operation before the tentative one at `place`, or at the end. Those from `place` on are undone, from
+    /// the last to the first, and applied again after it. Takes no memory.
     pub fn insert_at(&mut self, place: u64, op: Op)
         requires room { 0 < self.old.room }
         requires tentative { self.old.committed ≤ place }
-        requires within { place ≤ length self.old.ops }
-        ensures ops { self.new.ops ≡ insert self.old.ops place op }
+        requires within { place ≤ self.old.committed + length self.old.ops }
         ensures committed { self.new.committed ≡ self.old.committed }
+        ensures base { (key : ℕ) → base_of self.new key ≡ base_of self.old key }
+        ensures ops { self.new.ops ≡ insert self.old.ops (place - self.old.committed) op }
         ensures room { self.old.room ≡ self.new.room + 1 }
     {
-        let place = place as usize;
-        let is_last = place == self.ops.items().len();
-        self.ops.insert(place, op);
+        let index = (place - self.committed) as usize;
+        let undone = self.ops.len() - index;
+        self.layers.rewind(&self.ops, index, undone + 1);
+        insert_op(&mut self.ops, index, op);
         self.room -= 1;
-        if is_last {
-            apply(&mut self.values, op);
-        } else {
-            fold_anew(&mut self.values, self.ops.items());
-        }
+        self.layers.apply_rest(&self.ops);
     }
 
-    /// Commits the first `count` operations: nothing is put between them any more. Takes no memory.
+    /// Undoes the tentative operations from `place` on, from the last to the first, and applies those of `writes`
+    /// in their place. It costs what it undoes and applies, but for the seldom call that applies all tentative ones
+    /// anew. Takes no memory.
+    pub fn redo_from(&mut self, place: u64, writes: &[Write])
+        requires tentative { self.old.committed ≤ place }
+        requires within { place ≤ self.old.committed + length self.old.ops }
+        requires room { length writes.now ≤ self.old.room + (self.old.committed + length self.old.ops - place) }
+        ensures committed { self.new.committed ≡ self.old.committed }
+        ensures base { (key : ℕ) → base_of self.new key ≡ base_of self.old key }
+        ensures ops { self.new.ops ≡ take (place - self.old.committed) self.old.ops ++ ops_of writes.now }
+        ensures room { self.new.room + length writes.now ≡ self.old.room + (self.old.committed + length self.old.ops - place) }
+    {
+        let index = (place - self.committed) as usize;
+        let count = self.ops.len() + self.room;
+        self.layers.rewind(&self.ops, index, writes.len());
+        replace_from(&mut self.ops, index, writes);
+        self.room = count - self.ops.len();
+        self.layers.apply_rest(&self.ops);
+    }
+
+    /// Commits the operations before `count`: they are kept as values alone, and nothing is put between them any
+    /// more. It costs what tentative operations go or stay. Takes no memory.
     pub fn commit(&mut self, count: u64)
         requires more { self.old.committed ≤ count }
-        requires within { count ≤ length self.old.ops }
-        ensures ops { self.new.ops ≡ self.old.ops }
+        requires within { count ≤ self.old.committed + length self.old.ops }
         ensures committed { self.new.committed ≡ count }
+        ensures base { (key : ℕ)
+            → base_of self.new key ≡ image_from (base_of self.old) (take (count - self.old.committed) self.old.ops) key }
+        ensures ops { self.new.ops ≡ drop (count - self.old.committed) self.old.ops }
         ensures room { self.new.room ≡ self.old.room }
     {
-        self.committed = count as usize;
+        let going = (count - self.committed) as usize;
+        if going == 0 {
+            return;
+        }
+        self.layers.settle(&self.ops, going);
+        drop_front(&mut self.ops, going);
+        self.committed = count;
     }
 }
 
-#[cfg(test)]
-mod tests {
-    use super::*;
-    use std::process::Abort;
-    use std::test::Fail;
-
-    const MOST: i64 = 1_000_000_000_000_000;
-
-    fn put(key: u64, value: i64) -> Op {
-        Op::Put { key, value }
+// Puts an operation before the one at a place, in memory that is there.
+fn insert_op(ops: &mut Vec<Op>, place: usize, op: Op)
+    requires place { place ≤ vec_len ops.old }
+    requires capacity { vec_len ops.old < vec_capacity ops.old }
+    ensures items { ops.new.items ≡ insert ops.old.items place op }
+    ensures capacity { vec_capacity ops.old ≤ vec_capacity ops.new }
+{
+    if ops.insert(place, op).is_err() {
+        unreachable!();
     }
+}
 
-    fn add(key: u64, delta: i64) -> Op {
-        Op::Add { key, delta }
-    }
-
-    fn shift(from: u64, to: u64, amount: u64) -> Op {
-        Op::Shift { from, to, amount }
-    }
-
-    // The image of operations, each put in at the end.
-    fn folded(alloc: Global, ops: &[Op]) -> Result<Image, Fail> {
-        let mut image = Image::new(alloc);
-        for (place, op) in ops.iter().enumerate() {
-            image.reserve(1)?;
-            image.insert_at(place as u64, *op);
+// Puts the operations of writes in place of those from a place on, in memory that is there.
+fn replace_from(ops: &mut Vec<Op>, place: usize, writes: &[Write])
+    requires place { place ≤ vec_len ops.old }
+    requires capacity { place + length writes.now ≤ vec_capacity ops.old }
+    ensures items { ops.new.items ≡ take place ops.old.items ++ ops_of writes.now }
+    ensures capacity { vec_capacity ops.old ≤ vec_capacity ops.new }
+{
+    ops.truncate(place);
+    for write in writes {
+        if ops.push(write.op).is_err() {
+            unreachable!();
         }
-        Ok(image)
-    }
-
-    #[test]
-    fn folds_operations(rt: HostRuntime) -> Result<(), Fail> {
-        for (ops, key, value) in [
-            // An absent key, and one that is 0.
-            ([].as_slice(), 7, 0),
-            ([put(7, 0)].as_slice(), 7, 0),
-            ([put(7, 3), put(7, 0)].as_slice(), 7, 0),
-            ([put(7, 3)].as_slice(), 8, 0),
-            // The caps, which hold for sums alone.
-            ([put(1, MOST), add(1, 1)].as_slice(), 1, MOST),
-            ([put(1, -MOST), add(1, -1)].as_slice(), 1, -MOST),
-            ([put(1, MOST - 1), add(1, 1)].as_slice(), 1, MOST),
-            ([put(1, i64::MAX)].as_slice(), 1, i64::MAX),
-            ([put(1, i64::MAX), add(1, 0)].as_slice(), 1, MOST),
-            ([put(1, i64::MIN)].as_slice(), 1, i64::MIN),
-            ([put(1, i64::MIN), add(1, i64::MIN)].as_slice(), 1, -MOST),
-            ([add(1, i64::MAX)].as_slice(), 1, MOST),
-            // Exactly the amount held, and one more.
-            ([put(1, 5), shift(1, 2, 5)].as_slice(), 1, 0),
-            ([put(1, 5), shift(1, 2, 5)].as_slice(), 2, 5),
-            ([put(1, 5), shift(1, 2, 6)].as_slice(), 1, 5),
-            ([put(1, 5), shift(1, 2, 6)].as_slice(), 2, 0),
-            ([put(1, -1), shift(1, 2, 0)].as_slice(), 1, -1),
-            // Between equal keys, and more than any key holds.
-            ([put(1, 5), shift(1, 1, 5)].as_slice(), 1, 5),
-            (
-                [put(1, i64::MAX), shift(1, 2, u64::MAX)].as_slice(),
-                1,
-                i64::MAX,
-            ),
-            ([put(1, i64::MAX), shift(1, 2, u64::MAX)].as_slice(), 2, 0),
-            // The key that receives stops at the cap.
-            (
-                [put(1, 5), put(2, MOST - 1), shift(1, 2, 5)].as_slice(),
-                1,
-                0,
-            ),
-            (
-                [put(1, 5), put(2, MOST - 1), shift(1, 2, 5)].as_slice(),
-                2,
-                MOST,
-            ),
-            // The amount 0 acts, also on an absent key.
-            ([shift(1, 2, 0)].as_slice(), 1, 0),
-            ([shift(1, 2, 0)].as_slice(), 2, 0),
-            ([put(2, i64::MAX), shift(1, 2, 0)].as_slice(), 2, MOST),
-        ] {
-            let image = folded(rt.alloc(), ops)?;
-            assert_eq!(rt; image.get(key), value, "{key} after {ops:?}");
-        }
-        Ok(())
-    }
-
-    #[test]
-    fn a_late_operation_makes_a_shift_act(rt: HostRuntime) -> Result<(), Fail> {
-        let mut image = Image::new(rt.alloc());
-        assert_eq!(rt; image.reserve(2), Ok(()));
-        image.insert_at(0, shift(1, 2, 5));
-        assert_eq!(rt; (image.get(1), image.get(2)), (0, 0));
-        image.insert_at(0, add(1, 5));
-        assert_eq!(rt; (image.get(1), image.get(2)), (0, 5));
-        image.commit(1);
-        assert_eq!(rt; (image.get(1), image.get(2)), (0, 5));
-        Ok(())
-    }
-
-    // A number that looks random, from the one before.
-    fn next(number: u64) -> u64 {
-        number
-            .wrapping_mul(6_364_136_223_846_793_005)
-            .wrapping_add(1_442_695_040_888_963_407)
-    }
-
-    // An operation on the keys below 4, by a number.
-    fn op_of(number: u64) -> Op {
-        let key = (number >> 56) % 4;
-        let amount = (number >> 40) % 32;
-        match (number >> 60) % 3 {
-            0 => put(key, amount as i64),
-            1 => add(key, amount as i64 - 16),
-            _ => shift(key, (number >> 48) % 4, amount),
-        }
-    }
-
-    fn assert_same(rt: &impl Abort, image: &Image, other: &Image) {
-        for key in 0..4 {
-            assert_eq!(rt; image.get(key), other.get(key), "at key {key}");
-        }
-    }
-
-    #[test]
-    fn late_operations_fold_as_in_order(rt: HostRuntime) -> Result<(), Fail> {
-        let mut image = Image::new(rt.alloc());
-        let mut order = Vec::new(rt.alloc());
-        let mut number = 1;
-        for count in 0..150 {
-            number = next(number);
-            let committed = count / 2;
-            image.commit(committed);
-            let place = committed + (number >> 33) % (count - committed + 1);
-            image.reserve(1)?;
-            image.insert_at(place, op_of(number));
-            order.insert(place as usize, op_of(number))?;
-            assert_same(&rt, &image, &folded(rt.alloc(), &order)?);
-        }
-        Ok(())
     }
 }

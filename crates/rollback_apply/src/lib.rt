@@ -2,6 +2,12 @@
 #![tactic(auto)]
 
 mod image;
+mod keys;
+mod layers;
 mod values;
 
 pub use image::Image;
+pub use values::value_after;
+
+#[cfg(test)]
+mod tests;

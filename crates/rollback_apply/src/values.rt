@@ -1,14 +1,27 @@
-ghost use Rattle.std.specs.Prelude.{◌≡◌, ℕ, ◌+◌, ◌*◌, ◌<◌, ◌≤◌, ◌+ℤ◌, ◌^◌, length, IfOk, OnErr};
-ghost use Rattle.std.specs.HashMap.{hash_map_len, spare};
-ghost use Rattle.tact_base.specs.Images.{capped, with_value, shift_acts, after_op, image_of};
-ghost use Rattle.tact_base.specs.declared.write.Op.TheVariants.{Shift};
+ghost use Rattle.std.specs.Prelude.{◌≡◌, ℕ, ◌+◌, ◌*◌, ◌==◌, ◌≤◌, ◌<◌, ◌^◌, Some, nat_eq, length, IfOk, OnErr, if◌then◌else◌};
+ghost use Rattle.std.specs.HashMap.{get, spare};
+ghost use Rattle.tact_base.specs.Images.{after_op, image_from, image_of};
+ghost use Rattle.rollback_apply.specs.Keys as keys;
 ghost use Rattle.rollback_apply.specs.Values.{value_at, capacity_of};
 
+use crate::keys::{KeyValues, first_key, second_key, values_after};
+use std::alloc::Global;
 use std::collections::HashMap;
-use tact_base::{NoMemory, Op, VALUE_MAX};
+use tact_base::{NoMemory, Op};
 
-/// The values of keys. A key that is absent has the value 0. No operation takes a key out.
+/// The values of keys. A key that is absent has the value 0, or what a map below this one has.
 pub type Values = HashMap<u64, i64>;
+
+/// The value of a key after operations in order: their fold from scratch. It wants memory for twice as many keys as
+/// there are operations, and answers `NoMemory` where there isn't so much.
+pub fn value_after(alloc: Global, ops: &[Op], key: u64) -> Result<i64, NoMemory>
+    ensures { IfOk result (λ value. value ≡ image_of ops.now key) }
+{
+    let mut values = HashMap::new(alloc);
+    values.reserve(entries_for(ops.len())?)?;
+    apply_all(&mut values, ops);
+    Ok(value_of(&values, key))
+}
 
 /// The value of a key. Takes no memory.
 pub fn value_of(values: &Values, key: u64) -> i64
@@ -17,84 +30,66 @@ pub fn value_of(values: &Values, key: u64) -> i64
     values.get(&key).copied().unwrap_or(0)
 }
 
-/// The greatest number of entries after so many operations and so many more: two for each. `NoMemory` where it
-/// is past the greatest usize.
-pub fn entries_for(held: usize, more: usize) -> Result<usize, NoMemory>
-    ensures ok { IfOk result (λ entries. entries ≡ 2 * (held + more)) }
-    ensures err { OnErr result (2 ^ 64 ≤ 2 * (held + more)) }
+/// The greatest number of entries that so many operations make: two for each. `NoMemory` where it is past the
+/// greatest usize.
+pub fn entries_for(count: usize) -> Result<usize, NoMemory>
+    ensures ok { IfOk result (λ entries. entries ≡ 2 * count) }
+    ensures err { OnErr result (2 ^ 64 ≤ 2 * count) }
 {
-    let count = held.checked_add(more).ok_or(NoMemory)?;
     count.checked_mul(2).ok_or(NoMemory)
 }
 
-/// Changes the values as an operation says. Takes no memory.
-pub fn apply(values: &mut Values, op: Op)
-    requires { 2 ≤ spare values.old }
-    ensures values { (key : ℕ) → value_at values.new key ≡ after_op (value_at values.old) op key }
-    ensures few { hash_map_len values.new ≤ hash_map_len values.old + 2 }
-    ensures memory { capacity_of values.old ≤ capacity_of values.new }
+/// Changes the values as operations say, in order. Takes no memory.
+pub fn apply_all(values: &mut Values, ops: &[Op])
+    requires { 2 * length ops.now ≤ spare values.old }
+    ensures values { (key : ℕ) → value_at values.new key ≡ image_from (value_at values.old) ops.now key }
+    ensures spare { spare values.old ≤ spare values.new + 2 * length ops.now }
 {
-    match op {
-        Op::Put { key, value } => set_value(values, key, value),
-        Op::Add { key, delta } => {
-            let sum = capped_sum(value_of(values, key), delta);
-            set_value(values, key, sum);
-        }
-        Op::Shift { from, to, amount } => shift(values, from, to, amount),
-    }
-}
-
-/// Makes the values those after operations, whatever they were. Takes no memory.
-pub fn fold_anew(values: &mut Values, ops: &[Op])
-    requires { 2 * length ops.now ≤ capacity_of values.old }
-    ensures values { (key : ℕ) → value_at values.new key ≡ image_of ops.now key }
-    ensures few { hash_map_len values.new ≤ 2 * length ops.now }
-    ensures memory { capacity_of values.old ≤ capacity_of values.new }
-{
-    values.clear();
     for op in ops {
         apply(values, *op);
     }
 }
 
-fn shift(values: &mut Values, from: u64, to: u64, amount: u64)
+fn apply(values: &mut Values, op: Op)
     requires { 2 ≤ spare values.old }
-    ensures values { (key : ℕ) → value_at values.new key ≡ after_op (value_at values.old) (Shift from to amount) key }
-    ensures few { hash_map_len values.new ≤ hash_map_len values.old + 2 }
+    ensures values { (key : ℕ) → value_at values.new key ≡ after_op (value_at values.old) op key }
+    ensures spare { spare values.old ≤ spare values.new + 2 }
+{
+    let first = value_of(values, first_key(op));
+    let second = if second_key(op) == first_key(op) {
+        first
+    } else {
+        value_of(values, second_key(op))
+    };
+    let held = KeyValues { first, second };
+    set_keys(values, op, values_after(op, held));
+}
+
+/// Gives the keys of an operation other values, in memory that is there.
+pub fn set_keys(values: &mut Values, op: Op, new: KeyValues)
+    requires { 2 ≤ spare values.old }
+    ensures updates { (key : ℕ)
+        → get nat_eq values.new key
+        ≡ (if key == keys.second_key op
+        then Some new.second
+        else (if key == keys.first_key op then Some new.first else get nat_eq values.old key)) }
     ensures memory { capacity_of values.old ≤ capacity_of values.new }
+    ensures spare { spare values.old ≤ spare values.new + 2 }
 {
-    let held = value_of(values, from);
-    if !acts(from, to, amount, held) {
-        return;
+    if first_key(op) != second_key(op) {
+        set_value(values, first_key(op), new.first);
     }
-    let amount = amount as i64;
-    let raised = capped_sum(value_of(values, to), amount);
-    set_value(values, from, held - amount);
-    set_value(values, to, raised);
-}
-
-// Whether a shift acts where the first key holds `held`.
-fn acts(from: u64, to: u64, amount: u64, held: i64) -> bool
-    ensures { result ≡ shift_acts (λ _. held) from to amount }
-{
-    from != to && held >= 0 && amount <= held as u64
-}
-
-// The sum, stopping at 10^15 and -10^15.
-fn capped_sum(value: i64, delta: i64) -> i64
-    ensures { result ≡ capped (value +ℤ delta) }
-{
-    let most = VALUE_MAX as i64;
-    value.saturating_add(delta).min(most).max(-most)
+    set_value(values, second_key(op), new.second);
 }
 
 // Gives a key a value, in memory that is there. A key that is present keeps its entry, so that nothing but its
 // value changes.
 fn set_value(values: &mut Values, key: u64, value: i64)
     requires { 0 < spare values.old }
-    ensures values { (other : ℕ) → value_at values.new other ≡ with_value (value_at values.old) key value other }
-    ensures few { hash_map_len values.new ≤ hash_map_len values.old + 1 }
+    ensures updates { (other : ℕ)
+        → get nat_eq values.new other ≡ (if other == key then Some value else get nat_eq values.old other) }
     ensures memory { capacity_of values.old ≤ capacity_of values.new }
+    ensures spare { spare values.old ≤ spare values.new + 1 }
 {
     match values.get_mut(&key) {
         Some(held) => *held = value,

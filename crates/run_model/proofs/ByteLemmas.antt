@@ -1,15 +1,17 @@
 -- A field that is read stands where it was read, and a field that stands there is read.
-use Rattle.std.proofs.Common.{◌≡◌, ℕ, ◌+◌, ◌^◌, ◌<◌, ◌≤◌, ◌⊎◌, ℤ, pos, negsuc, Bool, true, false, cond, ltb, nat_le, List, [], ◌∷◌, ◌++◌, length, get_or, take, drop, Result, Ok, Err, refl, sym, ap, subst, ◌∙◌, arith, inl, inr}
+use Rattle.std.proofs.Common.{◌≡◌, ℕ, ◌+◌, ◌^◌, ◌<◌, ◌≤◌, ℤ, Bool, true, false, cond, ltb, nat_le, List, [], ◌∷◌, ◌++◌, length, get_or, take, drop, Result, Ok, Err, refl, sym, ap, subst, ◌∙◌, arith, inl, inr}
 use Rattle.std.specs.Prelude.{unsigned_abs}
 use Rattle.std.specs.Int.{w64, from_be_bytes, cast_signed, cast_unsigned}
 use Rattle.std.proofs.lemmas.Bool.{cases_lt, ltb-false, le-ltb}
 use Rattle.std.proofs.lemmas.Bool.Decides.{nat_tests}
 use Rattle.std.proofs.lemmas.List.{take_at, drop_at, take-take, drop-take, drop-drop, length-append, length-take, length-drop, get_or-drop, get_or-take, get_or_past}
-use Rattle.std.proofs.lemmas.Int.{to_z-of_z, of_z-to_z, fits_signed_from_abs}
+use Rattle.std.specs.Int.RustNames.{FitsSigned}
+use Rattle.std.proofs.lemmas.Int.{to_z-of_z, of_z-to_z}
+use Rattle.std.proofs.Math.Facts.{Fits-of_lt, Fits-of_z, sfits_to_z}
 use Rattle.std.proofs.lemmas.Nat.{be_bytes_8, from_be_bytes-to_be_bytes_8}
 use Rattle.std.proofs.Math.Seq.{take-add}
-use Rattle.run_model.specs.declared.get_bytes.FieldFault.{FieldFault}
-use Rattle.run_model.specs.declared.get_bytes.FieldFault.TheVariants.{Short, BadField}
+use Rattle.run_model.specs.declared.fields.FieldFault.{FieldFault}
+use Rattle.run_model.specs.declared.fields.FieldFault.TheVariants.{Short, BadField}
 use Rattle.run_model.specs.Bytes.{◌>>=◌, Field, StandsAt, field_at, is_from_to, byte_at, number_at, signed_at, number_bytes, signed_bytes}
 
 -- ---- spellings at places
@@ -72,7 +74,8 @@ pub bind_ok : {A B : Type 0} (r : Result A FieldFault) (f : A → Result B Field
 bind_ok (Ok x) f y e = (x, refl, e)
 bind_ok (Err d) f y e = absurd cc
 
-abbrev done : {A : Type 0} → A → Result A FieldFault
+-- a result of reading that is no fault
+abbrev pub done : {A : Type 0} → A → Result A FieldFault
 done x = Ok x
 
 pub ok_is : {A : Type 0} (x y : A) → done x ≡ done y → x ≡ y
@@ -251,7 +254,7 @@ size_is_within size number small = grind (arith, nat_tests)
 pub signed_taken : (size : ℕ) (bytes : List ℕ) (place : ℕ) (number : ℤ) (next : ℕ)
     → AreBytes bytes
     → signed_at size bytes place ≡ Ok (number, next)
-    → Spelled bytes place (signed_bytes number) next × (unsigned_abs number ≤ size)
+    → Spelled bytes place (signed_bytes number) next × (unsigned_abs number ≤ size) × FitsSigned w64 number
 unfolding signed_at signed_bytes
 signed_taken size bytes place number next fits e =
     let value : List ℕ → ℤ = λ field. cast_signed w64 (from_be_bytes w64 field) in
@@ -263,25 +266,11 @@ signed_taken size bytes place number next fits e =
     let back : cast_unsigned w64 number ≡ from_be_bytes w64 field = ap (cast_unsigned w64) (sym t.1) ∙ of_z-to_z w64 (from_be_bytes w64 field) (below_wide field fine) in
     let text : field ≡ number_bytes (cast_unsigned w64 number) = sym spells ∙ ap number_bytes (sym back) in
     let long = length-number_bytes (cast_unsigned w64 number) in
-    (record { stands = stands_eight (number_bytes (cast_unsigned w64 number)) bytes place long text; after = omega (arith, t.3, long) }, size_is_within size number t.2)
-
--- the two's complement of a number of few enough bits is a number of 64 bits, and reads as it
-complement_fits : (number : ℤ) → cast_unsigned w64 number < 2 ^ 64 ⊎ (2 ^ 63 < unsigned_abs number)
-complement_fits (pos n) = elim (cases_lt n (2 ^ 64)) [ inl lt ↦ inl lt | inr le ↦ inr (omega arith) ]
-complement_fits (negsuc n) = inl (omega arith)
-
-signed_fits : (size : ℕ) (number : ℤ)
-    → size < 2 ^ 63
-    → unsigned_abs number ≤ size
-    → (cast_unsigned w64 number < 2 ^ 64) × (cast_signed w64 (cast_unsigned w64 number) ≡ number)
-signed_fits size number narrow small = (
-  elim (complement_fits number) [ inl lt ↦ lt | inr gt ↦ absurd (omega arith) ],
-  to_z-of_z w64 number (fits_signed_from_abs w64 number (omega arith)),
-)
+    (record { stands = stands_eight (number_bytes (cast_unsigned w64 number)) bytes place long text; after = omega (arith, t.3, long) }, size_is_within size number t.2, subst (FitsSigned w64) t.1 (sfits_to_z (Fits-of_lt (below_wide field fine))))
 
 pub signed_again : (size : ℕ) (bytes : List ℕ) (place : ℕ) (number : ℤ)
     → place ≤ length bytes
-    → size < 2 ^ 63
+    → FitsSigned w64 number
     → unsigned_abs number ≤ size
     → StandsAt (signed_bytes number) bytes place
     → signed_at size bytes place ≡ Ok (number, place + length (signed_bytes number))
@@ -291,9 +280,8 @@ signed_again size bytes place number within narrow small stands =
     let rule : ℤ → Bool = λ z. nat_le (unsigned_abs z) size in
     let long = length-number_bytes (cast_unsigned w64 number) in
     let ends = stands_within (number_bytes (cast_unsigned w64 number)) bytes place stands within in
-    let fits : (cast_unsigned w64 number < 2 ^ 64) × (cast_signed w64 (cast_unsigned w64 number) ≡ number) = signed_fits size number narrow small in
     let is : value (take 8 (drop place bytes)) ≡ number =
     ap value (eight_stand (number_bytes (cast_unsigned w64 number)) bytes place long stands)
-    ∙ ap (cast_signed w64) (eight_back (cast_unsigned w64 number) fits.0) ∙ fits.1 in
+    ∙ ap (cast_signed w64) (eight_back (cast_unsigned w64 number) (Fits-of_z narrow).fits) ∙ to_z-of_z w64 number narrow in
     let good = size_within size number small in
     rw long (field_again 8 value rule bytes place number (omega (arith, long, ends)) is good)

@@ -1,8 +1,12 @@
 pub mod TextLemmas
 pub mod ByteLemmas
+pub mod Readers
+pub mod ListBytes
 pub mod OpBytes
 pub mod WeightBytes
-pub mod WeightLoop
+pub mod RequestBytes
+pub mod ReplyBytes
+pub mod ListLoop
 pub mod PrefixLemmas
 pub mod RunInduction
 pub mod PartLemmas

@@ -1,10 +1,13 @@
 -- An operation that is read stands where it was read, and one that stands there is read.
-use Rattle.std.proofs.Common.{◌≡◌, ℕ, zero, suc, ◌+◌, ◌<◌, ◌≤◌, ℤ, cond, eqb, List, [], ◌∷◌, ◌++◌, length, Ok, refl, sym, ap, subst, arith}
+use Rattle.std.proofs.Common.{◌≡◌, ℕ, zero, suc, ◌+◌, ◌<◌, ◌≤◌, ℤ, cond, eqb, List, [], ◌∷◌, ◌++◌, length, Ok, refl, sym, ap, ◌∙◌, subst, arith}
+use Rattle.std.specs.Int.{w64}
+use Rattle.std.proofs.lemmas.Int.{fits_signed_from_abs}
 use Rattle.tact_base.specs.declared.limits.TheConstants.{KEY_MAX, VALUE_MAX}
 use Rattle.tact_base.specs.declared.write.Op.{Op}
 use Rattle.tact_base.specs.declared.write.Op.TheVariants.{Put, Add, Shift}
 use Rattle.run_model.specs.Ranges.{IsOpInRange}
 use Rattle.run_model.specs.Bytes.{◌>>=◌, StandsAt, byte_at, number_at, signed_at, put_at, add_at, shift_at, op_at, number_bytes, signed_bytes, op_bytes}
+use Rattle.run_model.proofs.Readers.{Reader, SpelledAs}
 use Rattle.run_model.proofs.ByteLemmas.{AreBytes, Spelled, stands_first, stands_second, stands_within, spelled_then, bind_ok, ok_is, byte_taken, byte_again, number_taken, number_again, signed_taken, signed_again}
 
 put_taken : (bytes : List ℕ) (place : ℕ) (op : Op) (next : ℕ)
@@ -130,7 +133,7 @@ op_again (Put key value) bytes place within fits stands =
     let tag = byte_again 1 4 bytes place 1 within (omega arith) (omega arith) tag-stands in
     let inside = stands_within (1 ∷ []) bytes place tag-stands within in
     let t = pair_again bytes (place + 1) key value inside fits.0 (stands_second (1 ∷ []) fields bytes place stands) in
-    let last = signed_again VALUE_MAX bytes (place + 1 + length (number_bytes key)) value t.2 (omega arith) fits.1 t.1 in
+    let last = signed_again VALUE_MAX bytes (place + 1 + length (number_bytes key)) value t.2 (fits_signed_from_abs w64 value (omega (arith, fits.1))) fits.1 t.1 in
     (place + 1 + length (number_bytes key) + length (signed_bytes value), rw (tag, t.0, last) refl)
 op_again (Add key delta) bytes place within fits stands =
     let fields = number_bytes key ++ signed_bytes delta in
@@ -138,7 +141,7 @@ op_again (Add key delta) bytes place within fits stands =
     let tag = byte_again 1 4 bytes place 2 within (omega arith) (omega arith) tag-stands in
     let inside = stands_within (2 ∷ []) bytes place tag-stands within in
     let t = pair_again bytes (place + 1) key delta inside fits.0 (stands_second (2 ∷ []) fields bytes place stands) in
-    let last = signed_again VALUE_MAX bytes (place + 1 + length (number_bytes key)) delta t.2 (omega arith) fits.1 t.1 in
+    let last = signed_again VALUE_MAX bytes (place + 1 + length (number_bytes key)) delta t.2 (fits_signed_from_abs w64 delta (omega (arith, fits.1))) fits.1 t.1 in
     (place + 1 + length (number_bytes key) + length (signed_bytes delta), rw (tag, t.0, last) refl)
 op_again (Shift from to amount) bytes place within fits stands =
     let fields = number_bytes from ++ (number_bytes to ++ number_bytes amount) in
@@ -156,3 +159,17 @@ op_again (Shift from to amount) bytes place within fits stands =
     let last = number_again 0 (suc VALUE_MAX) bytes (place + 1 + length (number_bytes from) + length (number_bytes to)) amount past-two (omega arith) (omega arith) (omega arith)
     (stands_second (number_bytes to) (number_bytes amount) bytes (place + 1 + length (number_bytes from)) rest) in
     (place + 1 + length (number_bytes from) + length (number_bytes to) + length (number_bytes amount), rw (tag, one, two, last) refl)
+
+-- so operations are read as they are spelled
+pub op_reader : Reader (SpelledAs IsOpInRange op_bytes) op_at
+op_reader = record {
+  taken = λ bytes place op next fits e.
+      let t = op_taken bytes place op next fits e in
+      (op_bytes op, (t.0, refl), t.1);
+  again = λ bytes place op text fits within s stands.
+      let there : StandsAt (op_bytes op) bytes place = subst (λ t. StandsAt t bytes place) s.1 stands in
+      let read = op_again op bytes place within s.0 there in
+      let t = op_taken bytes place op read.0 fits read.1 in
+      let ends : read.0 ≡ place + length text = t.1.after ∙ ap (λ spelled. place + length spelled) (sym s.1) in
+      rw (read.1, ends) refl;
+}

@@ -1,15 +1,16 @@
--- Weights and operations as bytes: how each is spelled, and how the fields of a spelling are read.
-use Rattle.std.specs.Prelude.{◌≡◌, ℕ, zero, suc, ◌+◌, ◌<◌, ℤ, Bool, ◌&&◌, ◌==◌, nat_le, nat_lt, List, [], ◌∷◌, ◌++◌, length, take, drop, slice_index, All, Result, Ok, Err, if◌then◌else◌}
+-- Weights, needs and operations as bytes: how each is spelled, and how the fields of a spelling are read.
+use Rattle.std.specs.Prelude.{◌≡◌, ℕ, zero, suc, ◌+◌, ◌^◌, ◌<◌, ℤ, Bool, ◌&&◌, ◌==◌, nat_le, nat_lt, List, [], ◌∷◌, ◌++◌, length, take, drop, slice_index, All, Result, Ok, Err, if◌then◌else◌}
 use Rattle.std.specs.Int.{w64, to_be_bytes, from_be_bytes, cast_unsigned, cast_signed}
 use Rattle.std.specs.Int.RustNames.{unsigned_abs}
 use Rattle.std.specs.List.{flat_map}
 use Rattle.tact_base.specs.ConitList.{IsConitList}
-use Rattle.tact_base.specs.declared.limits.TheConstants.{KEY_MAX, VALUE_MAX, WEIGHT_MAX, LIST_MAX}
+use Rattle.tact_base.specs.declared.limits.TheConstants.{AMOUNT_MAX, KEY_MAX, MOMENT_MAX, VALUE_MAX, WEIGHT_MAX, LIST_MAX}
 use Rattle.tact_base.specs.declared.conit_list.Weight.{Weight}
+use Rattle.tact_base.specs.declared.conit_list.Need.{Need}
 use Rattle.tact_base.specs.declared.write.Op.{Op}
 use Rattle.tact_base.specs.declared.write.Op.TheVariants.{Put, Add, Shift}
-use Rattle.run_model.specs.declared.get_bytes.FieldFault.{FieldFault}
-use Rattle.run_model.specs.declared.get_bytes.FieldFault.TheVariants.{Short, BadField}
+use Rattle.run_model.specs.declared.fields.FieldFault.{FieldFault}
+use Rattle.run_model.specs.declared.fields.FieldFault.TheVariants.{Short, BadField}
 
 -- ---- spelling
 
@@ -25,9 +26,16 @@ signed_bytes number = number_bytes (cast_unsigned w64 number)
 abbrev pub weight_bytes : Weight → List ℕ
 weight_bytes weight = weight.conit ∷ signed_bytes weight.nweight ++ number_bytes weight.oweight
 
--- weights: how many in one byte, then each
+-- a need: its conit in one byte, and its numbers
+abbrev pub need_bytes : Need → List ℕ
+need_bytes need = need.conit ∷ number_bytes need.num ++ (number_bytes need.order ++ number_bytes need.stale)
+
+-- weights, and needs: how many in one byte, then each
 abbrev pub weights_bytes : List Weight → List ℕ
 weights_bytes weights = length weights ∷ flat_map weight_bytes weights
+
+abbrev pub needs_bytes : List Need → List ℕ
+needs_bytes needs = length needs ∷ flat_map need_bytes needs
 
 -- an operation: its tag in one byte, and its fields
 abbrev pub op_bytes : Op → List ℕ
@@ -71,6 +79,21 @@ number_at least bound = field_at 8 (from_be_bytes w64) (is_from_to least bound)
 unfoldable pub signed_at : ℕ → List ℕ → ℕ → Field ℤ
 signed_at size = field_at 8 (λ field. cast_signed w64 (from_be_bytes w64 field)) (λ number. nat_le (unsigned_abs number) size)
 
+-- any number of eight bytes, and any signed one
+abbrev pub any_number_at : List ℕ → ℕ → Field ℕ
+any_number_at = number_at 0 (2 ^ 64)
+
+abbrev pub any_signed_at : List ℕ → ℕ → Field ℤ
+any_signed_at = signed_at (2 ^ 63)
+
+-- So many items one after the other. Each is read with the least number that it may begin with, which follows from the one before.
+unfoldable pub list_at : {A : Type 0} → (ℕ → List ℕ → ℕ → Field A) → (A → ℕ) → ℕ → ℕ → List ℕ → ℕ → Field (List A)
+list_at item after zero least bytes place = Ok ([], place)
+list_at item after (suc count) least bytes place = do
+  first ← item least bytes place
+  others ← list_at item after count (after first.0) bytes first.1
+  Ok (first.0 ∷ others.0, others.1)
+
 -- a weight with a conit of at least `least`, which the one before doesn't reach
 unfoldable pub weight_at : ℕ → ℕ → List ℕ → ℕ → Field Weight
 weight_at conits least bytes place = do
@@ -79,19 +102,25 @@ weight_at conits least bytes place = do
   oweight ← number_at 0 (suc WEIGHT_MAX) bytes nweight.1
   Ok (record { conit = conit.0; nweight = nweight.0; oweight = oweight.0 }, oweight.1)
 
--- so many weights with rising conits
-unfoldable pub weight_list_at : ℕ → ℕ → ℕ → List ℕ → ℕ → Field (List Weight)
-weight_list_at zero conits least bytes place = Ok ([], place)
-weight_list_at (suc count) conits least bytes place = do
-  first ← weight_at conits least bytes place
-  others ← weight_list_at count conits (suc first.0.conit) bytes first.1
-  Ok (first.0 ∷ others.0, others.1)
+-- a need, alike
+unfoldable pub need_at : ℕ → ℕ → List ℕ → ℕ → Field Need
+need_at conits least bytes place = do
+  conit ← byte_at least conits bytes place
+  num ← number_at 0 (suc AMOUNT_MAX) bytes conit.1
+  order ← number_at 0 (suc AMOUNT_MAX) bytes num.1
+  stale ← number_at 0 (suc MOMENT_MAX) bytes order.1
+  Ok (record { conit = conit.0; num = num.0; order = order.0; stale = stale.0 }, stale.1)
 
--- weights
+-- weights, and needs, with rising conits
 unfoldable pub weights_at : ℕ → List ℕ → ℕ → Field (List Weight)
 weights_at conits bytes place = do
   count ← byte_at 0 (suc LIST_MAX) bytes place
-  weight_list_at count.0 conits 0 bytes count.1
+  list_at (weight_at conits) (λ weight. suc weight.conit) count.0 0 bytes count.1
+
+unfoldable pub needs_at : ℕ → List ℕ → ℕ → Field (List Need)
+needs_at conits bytes place = do
+  count ← byte_at 0 (suc LIST_MAX) bytes place
+  list_at (need_at conits) (λ need. suc need.conit) count.0 0 bytes count.1
 
 -- an operation, by its tag
 unfoldable pub put_at : List ℕ → ℕ → Field Op
@@ -128,3 +157,9 @@ abbrev pub AreWeightsOf : ℕ → List Weight → Type 0
 AreWeightsOf conits weights =
     IsConitList (λ (weight : Weight). weight.conit) (λ (weight : Weight). nat_le (unsigned_abs weight.nweight) WEIGHT_MAX && nat_le weight.oweight WEIGHT_MAX) weights
     × All (λ (weight : Weight). weight.conit < conits) weights
+
+-- needs alike
+abbrev pub AreNeedsOf : ℕ → List Need → Type 0
+AreNeedsOf conits needs =
+    IsConitList (λ (need : Need). need.conit) (λ (need : Need). nat_le need.num AMOUNT_MAX && nat_le need.order AMOUNT_MAX && nat_le need.stale MOMENT_MAX) needs
+    × All (λ (need : Need). need.conit < conits) needs

@@ -13,6 +13,7 @@ pub mod Promises
 pub mod Call
 pub mod Text
 pub mod Bytes
+pub mod CallBytes
 pub mod ScriptRuns
 pub mod Worked
 pub mod WorkedBoard

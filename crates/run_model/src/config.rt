@@ -112,6 +112,20 @@ impl Config {
         row(self.loans.items(), self.replicas, place)
     }
 
+    /// The alphas, by owner and then conit.
+    pub fn alphas(&self) -> &[u64]
+        ensures { result.now ≡ self.now.alphas }
+    {
+        self.alphas.items()
+    }
+
+    /// What is lent at the opening, by owner, conit and holder.
+    pub fn opening_loans(&self) -> &[u64]
+        ensures { result.now ≡ self.now.loans }
+    {
+        self.loans.items()
+    }
+
     /// A setup equal to this one, in memory of `alloc`.
     pub fn copy(&self, alloc: Global) -> Result<Config, NoMemory>
         ensures { IfOk result (λ config. config ≡ self.now) }

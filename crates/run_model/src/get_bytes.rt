@@ -1,23 +1,19 @@
-//! Weights and operations, read from bytes field by field: each reader is given the bytes and a place, and
+//! Weights, needs and operations, read from bytes field by field: each reader is given the bytes and a place, and
 //! answers its value and the place after it, or the first fault.
 
-ghost use Rattle.std.specs.Prelude.{◌≡◌, ◌≤◌, ◌<◌, ◌+◌, List, IfErr, IfOk, Err, Ok, length, take, drop, unsigned_abs};
-ghost use Rattle.std.specs.Int.{w64, from_be_bytes};
+ghost use Rattle.std.specs.Prelude.{◌≡◌, ◌≤◌, ◌<◌, ◌+◌, ◌^◌, ℕ, suc, List, Result, IfErr, IfOk, Err, Ok, length};
 ghost use Rattle.tact_base.specs.declared.conit_list.Weight.{Weight};
 ghost use Rattle.tact_base.specs.declared.write.Op.{Op};
+ghost use Rattle.run_model.specs.declared.fields.FieldFault.{FieldFault};
 ghost use Rattle.run_model.specs.Ranges.{IsOpInRange};
-ghost use Rattle.run_model.specs.Bytes.{StandsAt, Reads, AreWeightsOf, weights_bytes, op_bytes, byte_at, number_at, signed_at, weight_at, weight_list_at, weights_at, put_at, add_at, shift_at, op_at};
+ghost use Rattle.run_model.specs.Bytes.{StandsAt, Reads, AreWeightsOf, weights_bytes, op_bytes, any_signed_at, list_at, weight_at, weights_at, need_at, needs_at, put_at, add_at, shift_at, op_at};
 
-use tact_base::{KEY_MAX, LIST_MAX, Op, VALUE_MAX, WEIGHT_MAX, Weight, Weights};
-
-/// Why bytes aren't the spelling of what was to be read: the first fault from the left.
-#[derive(Clone, Copy, Debug, PartialEq, Eq)]
-pub enum FieldFault {
-    /// The bytes end before the field at hand does. All fields before it are good.
-    Short,
-    /// The field whose first byte is at this place is whole, and breaks its rule. All fields before it are good.
-    BadField(usize),
-}
+use crate::FieldFault;
+use crate::fields::{any_signed_at, byte_at, number_at, signed_at};
+use tact_base::{
+    AMOUNT_MAX, KEY_MAX, LIST_MAX, MOMENT_MAX, Need, Needs, Op, VALUE_MAX, WEIGHT_MAX, Weight,
+    Weights,
+};
 
 /// Reads weights of a setup with so many conits from `place` on, and moves `place` past them: their number in
 /// one byte, then for each its conit in one byte, above that of the one before, its nweight and its oweight in
@@ -58,75 +54,11 @@ pub fn get_op(bytes: &[u8], place: &mut usize) -> Result<Op, FieldFault>
     Ok(op)
 }
 
-// A number of one byte, at least `least` and below `bound`.
-#[tactic(auto, unfolding(crate::specs::Bytes::byte_at))]
-fn byte_at(bytes: &[u8], place: usize, least: u32, bound: u32) -> Result<(u32, usize), FieldFault>
-    requires { place ≤ length bytes.now }
-    ensures within { IfOk result (λ read. (least ≤ read.0) × (read.0 < bound) × (read.1 ≤ length bytes.now)) }
-    ensures exact { result ≡ byte_at least bound bytes.now place }
-{
-    let Some(byte) = bytes.get(place) else {
-        return Err(FieldFault::Short);
-    };
-    let number = u32::from(*byte);
-    if least <= number && number < bound {
-        Ok((number, place + 1))
-    } else {
-        Err(FieldFault::BadField(place))
-    }
-}
-
-// The eight bytes from a place on, as a number.
-fn eight_at(bytes: &[u8], place: usize) -> u64
-    requires { place + 8 ≤ length bytes.now }
-    ensures { result ≡ from_be_bytes w64 (take 8 (drop place bytes.now)) }
-{
-    let field = &bytes[place..place + 8];
-    u64::from_be_bytes([
-        field[0], field[1], field[2], field[3], field[4], field[5], field[6], field[7],
-    ])
-}
-
-// A number of eight bytes, at least `least` and below `bound`.
-#[tactic(auto, unfolding(crate::specs::Bytes::number_at))]
-fn number_at(bytes: &[u8], place: usize, least: u64, bound: u64) -> Result<(u64, usize), FieldFault>
-    requires { place ≤ length bytes.now }
-    ensures within { IfOk result (λ read. (least ≤ read.0) × (read.0 < bound) × (read.1 ≤ length bytes.now)) }
-    ensures exact { result ≡ number_at least bound bytes.now place }
-{
-    if bytes.len() - place < 8 {
-        return Err(FieldFault::Short);
-    }
-    let number = eight_at(bytes, place);
-    if least <= number && number < bound {
-        Ok((number, place + 8))
-    } else {
-        Err(FieldFault::BadField(place))
-    }
-}
-
-// A signed number of eight bytes, of at most a size.
-#[tactic(auto, unfolding(crate::specs::Bytes::signed_at))]
-fn signed_at(bytes: &[u8], place: usize, size: u64) -> Result<(i64, usize), FieldFault>
-    requires { place ≤ length bytes.now }
-    ensures within { IfOk result (λ read. (unsigned_abs read.0 ≤ size) × (read.1 ≤ length bytes.now)) }
-    ensures exact { result ≡ signed_at size bytes.now place }
-{
-    if bytes.len() - place < 8 {
-        return Err(FieldFault::Short);
-    }
-    let number = eight_at(bytes, place).cast_signed();
-    if number.unsigned_abs() <= size {
-        Ok((number, place + 8))
-    } else {
-        Err(FieldFault::BadField(place))
-    }
-}
-
 #[tactic(auto, unfolding(crate::specs::Bytes::put_at))]
 fn put_at(bytes: &[u8], place: usize) -> Result<(Op, usize), FieldFault>
     requires { place ≤ length bytes.now }
-    ensures { result ≡ put_at bytes.now place }
+    ensures within { IfOk result (λ read. read.1 ≤ length bytes.now) }
+    ensures exact { result ≡ put_at bytes.now place }
 {
     let (key, place) = number_at(bytes, place, 0, KEY_MAX + 1)?;
     let (value, place) = signed_at(bytes, place, VALUE_MAX)?;
@@ -136,7 +68,8 @@ fn put_at(bytes: &[u8], place: usize) -> Result<(Op, usize), FieldFault>
 #[tactic(auto, unfolding(crate::specs::Bytes::add_at))]
 fn add_at(bytes: &[u8], place: usize) -> Result<(Op, usize), FieldFault>
     requires { place ≤ length bytes.now }
-    ensures { result ≡ add_at bytes.now place }
+    ensures within { IfOk result (λ read. read.1 ≤ length bytes.now) }
+    ensures exact { result ≡ add_at bytes.now place }
 {
     let (key, place) = number_at(bytes, place, 0, KEY_MAX + 1)?;
     let (delta, place) = signed_at(bytes, place, VALUE_MAX)?;
@@ -146,7 +79,8 @@ fn add_at(bytes: &[u8], place: usize) -> Result<(Op, usize), FieldFault>
 #[tactic(auto, unfolding(crate::specs::Bytes::shift_at))]
 fn shift_at(bytes: &[u8], place: usize) -> Result<(Op, usize), FieldFault>
     requires { place ≤ length bytes.now }
-    ensures { result ≡ shift_at bytes.now place }
+    ensures within { IfOk result (λ read. read.1 ≤ length bytes.now) }
+    ensures exact { result ≡ shift_at bytes.now place }
 {
     let (from, place) = number_at(bytes, place, 0, KEY_MAX + 1)?;
     let (to, place) = number_at(bytes, place, 0, KEY_MAX + 1)?;
@@ -155,9 +89,10 @@ fn shift_at(bytes: &[u8], place: usize) -> Result<(Op, usize), FieldFault>
 }
 
 #[tactic(auto, unfolding(crate::specs::Bytes::op_at))]
-fn op_at(bytes: &[u8], place: usize) -> Result<(Op, usize), FieldFault>
+pub(crate) fn op_at(bytes: &[u8], place: usize) -> Result<(Op, usize), FieldFault>
     requires { place ≤ length bytes.now }
-    ensures { result ≡ op_at bytes.now place }
+    ensures within { IfOk result (λ read. read.1 ≤ length bytes.now) }
+    ensures exact { result ≡ op_at bytes.now place }
 {
     let (tag, place) = byte_at(bytes, place, 1, 4)?;
     if tag == 1 {
@@ -171,7 +106,7 @@ fn op_at(bytes: &[u8], place: usize) -> Result<(Op, usize), FieldFault>
 
 // A weight with a conit of at least `least`.
 #[tactic(auto, unfolding(crate::specs::Bytes::weight_at))]
-fn weight_at(
+pub(crate) fn weight_at(
     conits: u32,
     least: u32,
     bytes: &[u8],
@@ -194,10 +129,36 @@ fn weight_at(
     ))
 }
 
-#[tactic(auto, unfolding(crate::specs::Bytes::weights_at))]
-fn weights_of(conits: u32, bytes: &[u8], place: usize) -> Result<(Weights, usize), FieldFault>
+#[tactic(auto, unfolding(crate::specs::Bytes::need_at))]
+fn need_at(conits: u32, least: u32, bytes: &[u8], place: usize) -> Result<(Need, usize), FieldFault>
     requires { place ≤ length bytes.now }
-    ensures { result ≡ weights_at conits bytes.now place }
+    ensures within { IfOk result (λ read. (read.0.conit < conits) × (read.1 ≤ length bytes.now)) }
+    ensures exact { result ≡ need_at conits least bytes.now place }
+{
+    let (conit, place) = byte_at(bytes, place, least, conits)?;
+    let (num, place) = number_at(bytes, place, 0, AMOUNT_MAX + 1)?;
+    let (order, place) = number_at(bytes, place, 0, AMOUNT_MAX + 1)?;
+    let (stale, place) = number_at(bytes, place, 0, MOMENT_MAX + 1)?;
+    Ok((
+        Need {
+            conit,
+            num,
+            order,
+            stale,
+        },
+        place,
+    ))
+}
+
+#[tactic(auto, unfolding(crate::specs::Bytes::weights_at))]
+pub(crate) fn weights_of(
+    conits: u32,
+    bytes: &[u8],
+    place: usize,
+) -> Result<(Weights, usize), FieldFault>
+    requires { place ≤ length bytes.now }
+    ensures within { IfOk result (λ read. read.1 ≤ length bytes.now) }
+    ensures exact { result ≡ weights_at conits bytes.now place }
 {
     let (count, place) = byte_at(bytes, place, 0, LIST_MAX as u32 + 1)?;
     let mut items = [Weight::default(); LIST_MAX];
@@ -209,19 +170,131 @@ fn weights_of(conits: u32, bytes: &[u8], place: usize) -> Result<(Weights, usize
     }
 }
 
-// Reads as many weights as there are items, and answers the place after them.
-fn fill(items: &mut [Weight], conits: u32, bytes: &[u8], start: usize) -> Result<usize, FieldFault>
+#[tactic(auto, unfolding(crate::specs::Bytes::needs_at))]
+pub(crate) fn needs_of(
+    conits: u32,
+    bytes: &[u8],
+    place: usize,
+) -> Result<(Needs, usize), FieldFault>
+    requires { place ≤ length bytes.now }
+    ensures within { IfOk result (λ read. read.1 ≤ length bytes.now) }
+    ensures exact { result ≡ needs_at conits bytes.now place }
+{
+    let (count, place) = byte_at(bytes, place, 0, LIST_MAX as u32 + 1)?;
+    let mut items = [Need::default(); LIST_MAX];
+    let items = &mut items[..count as usize];
+    let place = fill(items, conits, bytes, place)?;
+    match Needs::new(items) {
+        Ok(needs) => Ok((needs, place)),
+        Err(_) => Err(FieldFault::Short),
+    }
+}
+
+// What stands in a list in bytes.
+pub(crate) trait Listed: Copy {
+    // How one is read that begins with at least some number.
+    ghost item_at: { ℕ → ℕ → List ℕ → ℕ → Result (Self × ℕ) FieldFault };
+
+    // What the next one begins with at least.
+    ghost after: { Self → ℕ };
+
+    // Reads one at a place, and answers the place after it.
+    fn read_at(
+        conits: u32,
+        least: u32,
+        bytes: &[u8],
+        place: usize,
+    ) -> Result<(Self, usize), FieldFault>
+        requires { place ≤ length bytes.now }
+        ensures within { IfOk result (λ read. (after read.0 < 2 ^ 32) × (read.1 ≤ length bytes.now)) }
+        ensures exact { result ≡ item_at conits least bytes.now place };
+
+    // What the next one begins with at least.
+    fn least_after(&self) -> u32
+        requires { after self.now < 2 ^ 32 }
+        ensures { result ≡ after self.now };
+}
+
+impl Listed for Weight {
+    ghost item_at = { weight_at };
+
+    ghost after = { λ weight. suc weight.conit };
+
+    fn read_at(
+        conits: u32,
+        least: u32,
+        bytes: &[u8],
+        place: usize,
+    ) -> Result<(Self, usize), FieldFault> {
+        weight_at(conits, least, bytes, place)
+    }
+
+    fn least_after(&self) -> u32 {
+        self.conit + 1
+    }
+}
+
+impl Listed for Need {
+    ghost item_at = { need_at };
+
+    ghost after = { λ need. suc need.conit };
+
+    fn read_at(
+        conits: u32,
+        least: u32,
+        bytes: &[u8],
+        place: usize,
+    ) -> Result<(Self, usize), FieldFault> {
+        need_at(conits, least, bytes, place)
+    }
+
+    fn least_after(&self) -> u32 {
+        self.conit + 1
+    }
+}
+
+// A sum, which follows from none before.
+impl Listed for i64 {
+    ghost item_at = { λ conits least. any_signed_at };
+
+    ghost after = { λ sum. 0 };
+
+    fn read_at(
+        _conits: u32,
+        _least: u32,
+        bytes: &[u8],
+        place: usize,
+    ) -> Result<(Self, usize), FieldFault> {
+        any_signed_at(bytes, place)
+    }
+
+    fn least_after(&self) -> u32 {
+        0
+    }
+}
+
+// Reads as many as there are items, and answers the place after them.
+pub(crate) fn fill<T: Listed>(
+    items: &mut [T],
+    conits: u32,
+    bytes: &[u8],
+    start: usize,
+) -> Result<usize, FieldFault>
     requires { start ≤ length bytes.now }
-    ensures ok { IfOk result (λ next. weight_list_at (length items.old) conits 0 bytes.now start ≡ Ok (items.new, next)) }
-    ensures err { IfErr result (λ fault. weight_list_at (length items.old) conits 0 bytes.now start ≡ Err fault) }
+    ensures within { IfOk result (λ next. next ≤ length bytes.now) }
+    ensures ok { IfOk result
+        (λ next. list_at (T.item_at conits) T.after (length items.old) 0 bytes.now start
+        ≡ Ok (items.new, next)) }
+    ensures err { IfErr result
+        (λ fault. list_at (T.item_at conits) T.after (length items.old) 0 bytes.now start ≡ Err fault) }
 {
     let mut place = start;
     let mut least = 0;
     for item in items.iter_mut() {
-        let (weight, next) = weight_at(conits, least, bytes, place)?;
-        least = weight.conit + 1;
+        let (read, next) = T::read_at(conits, least, bytes, place)?;
+        least = read.least_after();
         place = next;
-        *item = weight;
+        *item = read;
     }
     Ok(place)
 }

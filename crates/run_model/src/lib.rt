@@ -6,10 +6,13 @@ mod call;
 mod cause;
 mod config;
 mod entry;
+mod fields;
 mod get_bytes;
+mod get_call_bytes;
 mod header;
 mod laws;
 mod put_bytes;
+mod put_call_bytes;
 mod ranges;
 mod script_line;
 mod status;
@@ -21,10 +24,16 @@ pub use call::{Reply, Request, Sums};
 pub use cause::Cause;
 pub use config::Config;
 pub use entry::{Act, Entry, Message};
-pub use get_bytes::{FieldFault, get_op, get_weights};
+pub use fields::{
+    FieldFault, any_number_at, any_signed_at, append_byte, append_number, append_numbers,
+    append_signed, byte_at, number_at, signed_at,
+};
+pub use get_bytes::{get_op, get_weights};
+pub use get_call_bytes::{get_reply, get_request};
 pub use header::{end_of, head_of};
 pub use laws::runs_agree;
 pub use put_bytes::{put_op, put_weights};
+pub use put_call_bytes::{put_reply, put_request};
 pub use ranges::is_message_in_range;
 pub use script_line::Line;
 pub use status::{ByteKind, InputKind, LineKind, LoadKind, Status, UsageKind};

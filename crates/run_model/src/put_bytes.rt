@@ -7,8 +7,8 @@ ghost use Rattle.tact_base.specs.declared.limits.TheConstants.{CONITS_MAX};
 ghost use Rattle.run_model.specs.Text.{BeginsWith};
 ghost use Rattle.run_model.specs.Bytes.{number_bytes, signed_bytes, weight_bytes, weights_bytes, op_bytes};
 
+use crate::fields::{append_byte, append_number, append_signed};
 use crate::tokens::all_or_nothing;
-use byteorder::{BigEndian, ByteOrder};
 use tact_base::{Bytes, NoMemory, Op, Weight, Weights};
 
 /// Appends weights: their number in one byte, then for each its conit in one byte, its nweight and its oweight
@@ -35,7 +35,7 @@ pub fn put_op(op: &Op, out: &mut Bytes) -> Result<(), NoMemory>
 }
 
 #[tactic(auto, using(crate::proofs::TextLemmas::begins_grown, crate::proofs::TextLemmas::always_err))]
-fn append_weights(weights: &Weights, out: &mut Bytes) -> Result<(), NoMemory>
+pub(crate) fn append_weights(weights: &Weights, out: &mut Bytes) -> Result<(), NoMemory>
     requires { All (λ weight. weight.conit < CONITS_MAX) weights.now }
     ensures ok { OnOk result (out.new ≡ out.old ++ weights_bytes weights.now) }
     ensures err { OnErr result (BeginsWith out.old out.new) }
@@ -58,18 +58,18 @@ fn append_each(items: &[Weight], out: &mut Bytes) -> Result<(), NoMemory>
 }
 
 #[tactic(auto, using(crate::proofs::TextLemmas::begins_grown, crate::proofs::TextLemmas::always_err))]
-fn append_weight(weight: &Weight, out: &mut Bytes) -> Result<(), NoMemory>
+pub(crate) fn append_weight(weight: &Weight, out: &mut Bytes) -> Result<(), NoMemory>
     requires { weight.now.conit < CONITS_MAX }
     ensures ok { OnOk result (out.new ≡ out.old ++ weight_bytes weight.now) }
     ensures err { OnErr result (BeginsWith out.old out.new) }
 {
-    out.push(weight.conit as u8)?;
+    append_byte(weight.conit, out)?;
     append_signed(weight.nweight, out)?;
     append_number(weight.oweight, out)
 }
 
 #[tactic(auto, using(crate::proofs::TextLemmas::begins_grown, crate::proofs::TextLemmas::always_err))]
-fn append_op(op: &Op, out: &mut Bytes) -> Result<(), NoMemory>
+pub(crate) fn append_op(op: &Op, out: &mut Bytes) -> Result<(), NoMemory>
     ensures ok { OnOk result (out.new ≡ out.old ++ op_bytes op.now) }
     ensures err { OnErr result (BeginsWith out.old out.new) }
 {
@@ -94,22 +94,4 @@ fn append_pair(tag: u8, key: u64, number: i64, out: &mut Bytes) -> Result<(), No
     out.push(tag)?;
     append_number(key, out)?;
     append_signed(number, out)
-}
-
-#[tactic(auto, unfolding(crate::specs::Bytes::number_bytes))]
-fn append_number(number: u64, out: &mut Bytes) -> Result<(), NoMemory>
-    ensures ok { OnOk result (out.new ≡ out.old ++ number_bytes number) }
-    ensures err { OnErr result (BeginsWith out.old out.new) }
-{
-    let mut field = [0; 8];
-    BigEndian::write_u64(&mut field, number);
-    out.append(&field)
-}
-
-#[tactic(auto, unfolding(crate::specs::Bytes::signed_bytes))]
-fn append_signed(number: i64, out: &mut Bytes) -> Result<(), NoMemory>
-    ensures ok { OnOk result (out.new ≡ out.old ++ signed_bytes number) }
-    ensures err { OnErr result (BeginsWith out.old out.new) }
-{
-    append_number(number.cast_unsigned(), out)
 }

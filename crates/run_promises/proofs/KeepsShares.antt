@@ -14,7 +14,7 @@ use Rattle.run_model.specs.Missing.{missing_plus, missing_minus, greater_missing
 use Rattle.run_model.specs.OwnWrites.{asked_write, done_as, accepted_as, accepted_by}
 use Rattle.run_model.specs.Ranges.{AreWeightsInRange, IsRequestInRange, IsActInRange}
 use Rattle.run_model.specs.Replies.{first_some, refusal, weight_refusal, done, reply_of}
-use Rattle.run_model.specs.Runs.{IsActDue, IsDue}
+use Rattle.run_model.specs.Runs.{IsActDue, IsDue, MayFollow, IsPart}
 use Rattle.run_model.specs.declared.call.Reply.{Reply}
 use Rattle.run_model.specs.declared.call.Reply.TheVariants as reply
 use Rattle.run_model.specs.declared.call.Request.{Request}
@@ -23,6 +23,8 @@ use Rattle.run_model.specs.declared.entry.Act.{Act}
 use Rattle.run_model.specs.declared.entry.Act.TheVariants as act
 use Rattle.run_model.specs.declared.entry.Entry.{Entry}
 use Rattle.tact_base.proofs.FilterSums.{weights_on-one, above_zero-le, below_zero-le, one_or_none-le}
+use Rattle.tact_base.proofs.ListLemmas.{from_right}
+use Rattle.run_model.proofs.PrefixLemmas.{IsPrefix-append, EachAfter-prefix, EachAfter-last}
 use Rattle.run_promises.proofs.SharesWrites.{lent_known-le-push, missing-le-push, peers_refuse, weights_refuse, amount_fits, missing_plus_fits, missing_minus_fits}
 
 -- what requests were granted on a conit in all, and what was released or spent of it
@@ -241,3 +243,16 @@ module _ (setup : Setup) (part : List Entry) (entry : Entry) (due : IsDue setup 
     used = λ conit. omega (arith, granted_sum-push conit, used_sum-push conit, HasGranted-acted setup entry.replica part conit (keeps.used conit) entry.moment entry.act due.act);
     each = IsWithinShare-push;
   }
+
+-- So every part that can be keeps within its shares.
+pub KeepsShares-part : (setup : Setup) (replica : ℕ) (part : List Entry)
+    → IsPart setup replica part
+    → KeepsShares setup replica part
+KeepsShares-part setup replica part = from_right (λ part. IsPart setup replica part → KeepsShares setup replica part)
+    (λ is. KeepsShares-nil setup replica)
+    (λ before entry keeps is.
+    let (here, due, fits) = EachAfter-last (MayFollow setup replica) before entry is in
+    let earlier = keeps (EachAfter-prefix (MayFollow setup replica) before (before ++ entry ∷ []) (IsPrefix-append before (entry ∷ [])) is) in
+    subst (λ r. KeepsShares setup r (before ++ entry ∷ [])) here
+    (KeepsShares-push setup before entry due (subst (λ r. KeepsShares setup r before) (sym here) earlier)))
+    part

@@ -2,6 +2,7 @@ pub mod LoanSteps
 pub mod LoansAgree
 pub mod KeepsHome
 pub mod SharesWrites
+pub mod FirstReplies
 pub mod KeepsShares
 pub mod Exact
 pub mod Within

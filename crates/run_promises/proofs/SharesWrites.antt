@@ -77,7 +77,7 @@ first_some-none {A} f (item ∷ items) none = go (f item) refl none (first_some-
     go (Some given) is none rest = cc
 
 -- where no refusal is given the amount fits
-refused_as-none : (conit : ℕ) (answer : Fit)
+pub refused_as-none : (conit : ℕ) (answer : Fit)
     → refused_as conit answer ≡ None
     → answer ≡ fit.Fits
 refused_as-none conit fit.Fits none = refl

@@ -1,5 +1,5 @@
 -- What the budgets keep fits in 64 bits, and is kept as amounts are held and acknowledgements taken.
-use Rattle.std.proofs.Common.{◌≡◌, ℕ, ◌+◌, ◌^◌, ◌<◌, ◌≤◌, max, length, get_or, set, refl, sym, ⊎_elim, arith}
+use Rattle.std.proofs.Common.{◌≡◌, ℕ, ◌+◌, ◌-◌, ◌^◌, ◌<◌, ◌≤◌, max, ℤ, length, get_or, set, refl, sym, ap, ◌∙◌, ⊎_elim, arith}
 use Rattle.std.proofs.lemmas.Bool.{cases_eq}
 use Rattle.std.proofs.lemmas.List.{length-set}
 use Rattle.std.proofs.lemmas.List.Elements.{All-get_or}
@@ -8,17 +8,18 @@ use Rattle.tact_base.specs.Setup.{place_of}
 use Rattle.tact_base.specs.Sums.{above_zero, below_zero}
 use Rattle.tact_base.specs.declared.fit.Fit.TheVariants.{Fits}
 use Rattle.split_budget.specs.declared.side.Side.TheVariants.{Greater}
-use Rattle.split_budget.specs.Budgets.{BudgetState, IsPeer, reserved_on, share, missing_plus, missing_minus, greater_missing}
+use Rattle.split_budget.specs.Budgets.{BudgetState, IsPeer, reserved_on, share, greater_missing, part_on, had_by_all, with_given_up}
 use Rattle.split_budget.specs.Answers.{reserve_answer, missing_on}
 use Rattle.split_budget.specs.Kept.{KeepsPeer, KeepsBudgets}
 use Rattle.split_budget.proofs.KeptLemmas.{KeepsBudgets-changed}
+use Rattle.split_budget.proofs.OwnLemmas.{drop-given_up, least_below-number}
 use Rattle.split_budget.proofs.Places.{get_or-set_cases, get_or-set_grows}
 use Rattle.split_budget.proofs.Parts.{part_on-known}
 use Rattle.split_budget.proofs.Refusals.{answer-Fits}
 
 -- One state that keeps, and a peer on a conit.
 module _ (s : BudgetState) (keeps : KeepsBudgets s) where
-  -- a share fits in 64 bits, and so does what may be missed
+  -- a share fits in 64 bits
   pub share-fits : (peer conit : ℕ)
       → IsPeer s peer
       → conit < s.setup.conits
@@ -27,18 +28,6 @@ module _ (s : BudgetState) (keeps : KeepsBudgets s) where
       let within : place_of s.setup peer conit < length s.lent_known = rw keeps.lent_known (place_in s.setup peer conit is.0 k) in
       let told = All-get_or (λ told. told < 2 ^ 64) s.lent_known (place_of s.setup peer conit) 0 within keeps.told in
       omega (arith, told)
-
-  pub missing_plus-fits : (peer conit : ℕ)
-      → IsPeer s peer
-      → conit < s.setup.conits
-      → missing_plus s peer conit < 2 ^ 64
-  missing_plus-fits peer conit is k = omega (arith, share-fits peer conit is k, (keeps.peers peer conit is k).plus)
-
-  pub missing_minus-fits : (peer conit : ℕ)
-      → IsPeer s peer
-      → conit < s.setup.conits
-      → missing_minus s peer conit < 2 ^ 64
-  missing_minus-fits peer conit is k = omega (arith, share-fits peer conit is k, (keeps.peers peer conit is k).minus)
 
   -- some replica is a peer
   a_peer : (peer : ℕ) × IsPeer s peer
@@ -64,8 +53,8 @@ module _ (s : BudgetState) (keeps : KeepsBudgets s) where
       → reserve_answer s conit amount ≡ Fits
       → KeepsBudgets (record s { reserved = set s.reserved conit (reserved_on s conit + amount) })
   KeepsBudgets-held conit amount k fits =
-      KeepsBudgets-changed s keeps s.weights s.known (set s.reserved conit (reserved_on s conit + amount)) s.lent s.returned s.returned_known s.room
-      refl (length-set s.reserved conit (reserved_on s conit + amount)) refl refl refl held_peer keeps.home
+      KeepsBudgets-changed s keeps s.weights (set s.reserved conit (reserved_on s conit + amount)) s.lent s.returned s.returned_known s.room
+      (length-set s.reserved conit (reserved_on s conit + amount)) refl refl refl held_peer keeps.home
     where
       held_peer : (peer at : ℕ)
           → IsPeer s peer
@@ -82,21 +71,69 @@ module _ (s : BudgetState) (keeps : KeepsBudgets s) where
           (get_or-set_cases s.reserved conit (reserved_on s conit + amount) at (rw keeps.reserved k))
 
   -- a peer is known to have more
-  pub KeepsBudgets-acked : (peer count : ℕ)
-      → IsPeer s peer
+  pub KeepsBudgets-known : (peer count : ℕ)
       → KeepsBudgets (record s { known = set s.known peer (max (get_or s.known peer 0) count) })
-  KeepsBudgets-acked peer count is_one =
-      let known = set s.known peer (max (get_or s.known peer 0) count) in
-      KeepsBudgets-changed s keeps s.weights known s.reserved s.lent s.returned s.returned_known s.room
-      (length-set s.known peer (max (get_or s.known peer 0) count)) refl refl refl refl
-      (λ other conit is within.
-      let kept = keeps.peers other conit is within in
-      let more = get_or-set_grows s.known peer (max (get_or s.known peer 0) count) other (omega arith) in
+  KeepsBudgets-known peer count =
+      let newest = max (get_or s.known peer 0) count in
+      let grows : (other : ℕ) → get_or s.known other 0 ≤ get_or (set s.known peer newest) other 0 =
+      λ other. get_or-set_grows s.known peer newest other (omega arith) in
       record {
-        plus = omega (arith, kept.plus, part_on-known above_zero conit (get_or s.known other 0) (get_or known other 0) s.weights more);
-        minus = omega (arith, kept.minus, part_on-known below_zero conit (get_or s.known other 0) (get_or known other 0) s.weights more);
-        returned = kept.returned;
-        returned_known = kept.returned_known;
-        lent = kept.lent;
-      })
-      keeps.home
+        setup = keeps.setup;
+        replica = keeps.replica;
+        known = length-set s.known peer newest ∙ keeps.known;
+        reserved = keeps.reserved;
+        lent = keeps.lent;
+        lent_known = keeps.lent_known;
+        returned = keeps.returned;
+        returned_known = keeps.returned_known;
+        told = keeps.told;
+        given_up = λ other is. omega (arith, keeps.given_up other is, grows other);
+        peers = λ other conit is within.
+            let kept = keeps.peers other conit is within in
+            let less = λ (part : ℤ → ℕ). part_on-known part conit (get_or s.known other 0 - s.given_up) (get_or (set s.known peer newest) other 0 - s.given_up) s.weights (omega (arith, grows other)) in
+            record {
+              plus = omega (arith, kept.plus, less above_zero);
+              minus = omega (arith, kept.minus, less below_zero);
+              returned = kept.returned;
+              returned_known = kept.returned_known;
+              lent = kept.lent;
+            };
+        home = keeps.home;
+      }
+
+  -- what each peer is known to have is given up
+  pub KeepsBudgets-given_up : (room : ℕ) → KeepsBudgets (record (with_given_up s) { room = room })
+  KeepsBudgets-given_up room =
+      let had : (peer : ℕ) → IsPeer s peer → had_by_all s ≤ get_or s.known peer 0 - s.given_up =
+      λ peer is. least_below-number (length s.weights) s.replica (λ peer. get_or s.known peer 0 - s.given_up) s.setup.replicas peer is.0 is.1 in
+      record {
+        setup = keeps.setup;
+        replica = keeps.replica;
+        known = keeps.known;
+        reserved = keeps.reserved;
+        lent = keeps.lent;
+        lent_known = keeps.lent_known;
+        returned = keeps.returned;
+        returned_known = keeps.returned_known;
+        told = keeps.told;
+        given_up = λ peer is. omega (arith, keeps.given_up peer is, had peer is);
+        peers = λ peer conit is within.
+            let kept = keeps.peers peer conit is within in
+            let same = λ (part : ℤ → ℕ). ap (part_on part conit) (drop-given_up (get_or s.known peer 0) s.given_up (had_by_all s) s.weights (had peer is)) in
+            record {
+              plus = omega (arith, kept.plus, same above_zero);
+              minus = omega (arith, kept.minus, same below_zero);
+              returned = kept.returned;
+              returned_known = kept.returned_known;
+              lent = kept.lent;
+            };
+        home = keeps.home;
+      }
+
+-- both at once
+pub KeepsBudgets-acked : (s : BudgetState)
+    → KeepsBudgets s
+    → (peer count room : ℕ)
+    → KeepsBudgets (record (with_given_up (record s { known = set s.known peer (max (get_or s.known peer 0) count) })) { room = room })
+KeepsBudgets-acked s keeps peer count room =
+    KeepsBudgets-given_up (record s { known = set s.known peer (max (get_or s.known peer 0) count) }) (KeepsBudgets-known s keeps peer count) room

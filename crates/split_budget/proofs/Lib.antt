@@ -5,5 +5,7 @@ pub mod Refusals
 pub mod Openings
 pub mod KeptLemmas
 pub mod AmountsKept
+pub mod OwnLemmas
+pub mod SumsKept
 pub mod LoansKept
 pub mod WritesKept

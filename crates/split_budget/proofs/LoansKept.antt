@@ -1,13 +1,14 @@
 -- What the budgets keep as parts of the bounds are lent and given back.
-use Rattle.std.proofs.Common.{◌≡◌, ◌==◌, ℕ, ◌+◌, ◌<◌, ◌≤◌, max, cond, true, List, map, get_or, set, sum, refl, sym, ap, subst, inl, inr, ◌⊎◌, ⊎_elim, arith}
+use Rattle.std.proofs.Common.{◌≡◌, ◌==◌, ℕ, ◌+◌, ◌^◌, ◌<◌, ◌≤◌, ◌∙◌, max, cond, true, List, length, map, get_or, set, sum, refl, sym, ap, subst, inl, inr, ◌⊎◌, ⊎_elim, arith}
 use Rattle.std.proofs.lemmas.Bool.{cases_eq, eq-eqb}
 use Rattle.std.proofs.lemmas.List.{length-set}
+use Rattle.std.proofs.lemmas.List.Elements.{All-set, All-get_or}
 use Rattle.std.proofs.lemmas.List.Sums.{sum-map, sum_by-le-sum_by}
 use Rattle.tact_base.proofs.PeerSums.{at_one, at_one-peers, sum_by-plus}
 use Rattle.tact_base.proofs.SetupLemmas.{place_in}
 use Rattle.tact_base.specs.Setup.{Setup, peers_of, place_of, alpha_of}
 use Rattle.tact_base.specs.declared.limits.TheConstants.{LENT_MAX}
-use Rattle.split_budget.specs.Budgets.{BudgetState, IsPeer, lent_to, returned_by, returned_to, out, all_out, home, free}
+use Rattle.split_budget.specs.Budgets.{BudgetState, IsPeer, lent_to, lent_by, returned_by, returned_to, out, all_out, home, free}
 use Rattle.split_budget.specs.Kept.{KeepsPeer, KeepsBudgets}
 use Rattle.split_budget.proofs.KeptLemmas.{KeepsBudgets-changed}
 use Rattle.split_budget.proofs.Places.{place_of-replica, place_of-conit, get_or-set_cases, get_or-set_grows}
@@ -53,13 +54,51 @@ module _ (s : BudgetState) (keeps : KeepsBudgets s) (holder conit told : ℕ) (i
 
   pub KeepsBudgets-returned : KeepsBudgets with_returned
   KeepsBudgets-returned =
-      KeepsBudgets-changed s keeps s.weights s.known s.reserved s.lent s.returned (set s.returned_known here now_returned) s.room
-      refl refl refl refl (length-set s.returned_known here now_returned)
+      KeepsBudgets-changed s keeps s.weights s.reserved s.lent s.returned (set s.returned_known here now_returned) s.room
+      refl refl refl (length-set s.returned_known here now_returned)
       (λ peer at is within.
       let kept = keeps.peers peer at is within in
       record { plus = kept.plus; minus = kept.minus; returned = kept.returned; returned_known = returned-within peer at kept.returned_known; lent = kept.lent })
       (λ at within.
       omega (arith, sum-le (λ peer. out with_returned peer at) (λ peer. out s peer at) (peers_of s.setup s.replica) (out-falls at), keeps.home at within))
+
+-- An owner tells that it lent so much.
+module _ (s : BudgetState) (keeps : KeepsBudgets s) (owner conit told : ℕ) (is_owner : IsPeer s owner) (conit_in : conit < s.setup.conits) (fits : told < 2 ^ 64) where
+  abbrev told_place : ℕ
+  told_place = place_of s.setup owner conit
+
+  abbrev now_told : ℕ
+  now_told = max (lent_by s owner conit) told
+
+  now_told-fits : now_told < 2 ^ 64
+  now_told-fits =
+      let within : told_place < length s.lent_known = rw keeps.lent_known (place_in s.setup owner conit is_owner.0 conit_in) in
+      omega (arith, fits, All-get_or (λ told. told < 2 ^ 64) s.lent_known told_place 0 within keeps.told)
+
+  pub KeepsBudgets-told : KeepsBudgets (record s { lent_known = set s.lent_known told_place now_told })
+  KeepsBudgets-told = record {
+    setup = keeps.setup;
+    replica = keeps.replica;
+    known = keeps.known;
+    reserved = keeps.reserved;
+    lent = keeps.lent;
+    lent_known = length-set s.lent_known told_place now_told ∙ keeps.lent_known;
+    returned = keeps.returned;
+    returned_known = keeps.returned_known;
+    told = All-set (λ told. told < 2 ^ 64) s.lent_known told_place now_told now_told-fits keeps.told;
+    given_up = keeps.given_up;
+    peers = λ peer at is within.
+        let kept = keeps.peers peer at is within in
+        let grows = get_or-set_grows s.lent_known told_place now_told (place_of s.setup peer at) (omega arith) in
+        record {
+          plus = omega (arith, kept.plus, grows);
+          minus = omega (arith, kept.minus, grows);
+          returned = omega (arith, kept.returned, grows);
+          returned_known = kept.returned_known;
+          lent = kept.lent;
+        };
+    home = keeps.home;
+  }
 
 -- More is lent to a holder, of what is at home.
 module _ (s : BudgetState) (keeps : KeepsBudgets s) (holder conit amount : ℕ) (is_holder : IsPeer s holder) (conit_in : conit < s.setup.conits) (at_home : amount ≤ home s conit) (limit : lent_to s holder conit + amount ≤ LENT_MAX) where
@@ -125,8 +164,8 @@ module _ (s : BudgetState) (keeps : KeepsBudgets s) (holder conit amount : ℕ) 
 
   pub KeepsBudgets-lent : KeepsBudgets with_lent
   KeepsBudgets-lent =
-      KeepsBudgets-changed s keeps s.weights s.known s.reserved (set s.lent place (lent_to s holder conit + amount)) s.returned s.returned_known s.room
-      refl refl (length-set s.lent place (lent_to s holder conit + amount)) refl refl
+      KeepsBudgets-changed s keeps s.weights s.reserved (set s.lent place (lent_to s holder conit + amount)) s.returned s.returned_known s.room
+      refl (length-set s.lent place (lent_to s holder conit + amount)) refl refl
       (λ peer at is within.
       let kept = keeps.peers peer at is within in
       let more = get_or-set_grows s.lent place (lent_to s holder conit + amount) (place_of s.setup peer at) (omega arith) in
@@ -168,5 +207,5 @@ module _ (s : BudgetState) (keeps : KeepsBudgets s) (owner conit amount : ℕ) (
 
   pub KeepsBudgets-given : KeepsBudgets with_given
   KeepsBudgets-given =
-      KeepsBudgets-changed s keeps s.weights s.known s.reserved s.lent (set s.returned (place_of s.setup owner conit) (returned_to s owner conit + amount)) s.returned_known s.room
-      refl refl refl (length-set s.returned (place_of s.setup owner conit) (returned_to s owner conit + amount)) refl given-peer keeps.home
+      KeepsBudgets-changed s keeps s.weights s.reserved s.lent (set s.returned (place_of s.setup owner conit) (returned_to s owner conit + amount)) s.returned_known s.room
+      refl refl (length-set s.returned (place_of s.setup owner conit) (returned_to s owner conit + amount)) refl given-peer keeps.home

@@ -1,5 +1,5 @@
 -- What the budgets keep at the opening.
-use Rattle.std.proofs.Common.{◌≡◌, ℕ, ◌*◌, ◌/◌, ◌%◌, ◌^◌, ◌<◌, ◌≤◌, ℤ, List, [], get_or, drop, All, replicate, ap, arith}
+use Rattle.std.proofs.Common.{◌≡◌, ℕ, ◌-◌, ◌*◌, ◌/◌, ◌%◌, ◌^◌, ◌<◌, ◌≤◌, ℤ, List, [], get_or, drop, All, replicate, ap, arith}
 use Rattle.std.proofs.lemmas.List.{length-replicate, get_or-replicate, drop_all}
 use Rattle.std.proofs.lemmas.List.Elements.{All-map}
 use Rattle.std.proofs.lemmas.List.FromFn.{length-map-range_with_len}
@@ -20,7 +20,7 @@ use Rattle.split_budget.proofs.Places.{get_or-by_place}
 -- One opening, with so much room.
 module _ (setup : Setup) (good : IsSetup setup) (replica : ℕ) (among : replica < setup.replicas) (room : ℕ) where
   -- a loan is within the limit of alphas
-  loan-limit : (owner conit holder : ℕ)
+  pub loan-limit : (owner conit holder : ℕ)
       → owner < setup.replicas
       → conit < setup.conits
       → holder < setup.replicas
@@ -63,8 +63,8 @@ module _ (setup : Setup) (good : IsSetup setup) (replica : ℕ) (among : replica
       let returned : returned_to state peer conit ≡ 0 = get_or-replicate (setup.replicas * setup.conits) (place_of setup peer conit) 0 0 within in
       let told : returned_by state peer conit ≡ 0 = get_or-replicate (setup.replicas * setup.conits) (place_of setup peer conit) 0 0 within in
       record {
-        plus = omega (arith, nothing_missed above_zero (get_or (replicate setup.replicas 0) peer 0) conit, none);
-        minus = omega (arith, nothing_missed below_zero (get_or (replicate setup.replicas 0) peer 0) conit, none);
+        plus = omega (arith, nothing_missed above_zero (get_or (replicate setup.replicas 0) peer 0 - 0) conit, none);
+        minus = omega (arith, nothing_missed below_zero (get_or (replicate setup.replicas 0) peer 0 - 0) conit, none);
         returned = omega (arith, returned);
         returned_known = omega (arith, told);
         lent = omega (arith, lent-opening peer conit is.0 k, loan-limit replica conit peer among k is.0);
@@ -93,6 +93,7 @@ module _ (setup : Setup) (good : IsSetup setup) (replica : ℕ) (among : replica
     returned = length-replicate (setup.replicas * setup.conits) 0;
     returned_known = length-replicate (setup.replicas * setup.conits) 0;
     told = told-fits;
+    given_up = λ peer is. omega arith;
     peers = opening-peer;
     home = opening-home;
   }

@@ -1,12 +1,12 @@
 -- The sum of a part of each nweight on a conit, over writes that are added, taken in turn, or known.
-use Rattle.std.proofs.Common.{◌≡◌, ◌==◌, ℕ, ◌+◌, ◌-◌, ◌<◌, ◌≤◌, min, ℤ, List, [], ◌∷◌, ◌++◌, length, get_or, take, drop, sum_by, refl, sym, ap, ◌∙◌, ⊎_elim, arith}
+use Rattle.std.proofs.Common.{◌≡◌, ◌==◌, ℕ, ◌+◌, ◌-◌, ◌<◌, ◌≤◌, ◌^◌, ℤ, List, [], ◌∷◌, ◌++◌, length, get_or, take, drop, sum_by, All, false, refl, sym, ap, ◌∙◌, ⊎_elim, arith}
 use Rattle.std.specs.List.{flat_map}
-use Rattle.std.proofs.lemmas.Bool.{cases_lt}
-use Rattle.std.proofs.lemmas.List.{append-nil, take-append-drop, take_more, take_rest, drop-append-le, drop_all, drop_min, drop-drop, length_push}
+use Rattle.std.proofs.lemmas.Bool.{cases_lt, ne_eqb}
+use Rattle.std.proofs.lemmas.List.{append-nil, take-append-drop, drop-append-le, drop_all, drop-drop, length_push, get_or_past}
 use Rattle.std.proofs.lemmas.List.Concat.{flat_map-append}
-use Rattle.std.proofs.lemmas.List.Elements.{filter-append}
-use Rattle.std.proofs.lemmas.List.Sums.{sum_by-append}
-use Rattle.tact_base.proofs.SumsLemmas.{sum_on_conit-yes}
+use Rattle.std.proofs.lemmas.List.Elements.{filter-append, All-weaker}
+use Rattle.std.proofs.lemmas.List.Sums.{sum_by-append, sum_by-cons}
+use Rattle.tact_base.proofs.ListLemmas.{filter_none}
 use Rattle.tact_base.specs.Sums.{on_conit}
 use Rattle.tact_base.specs.declared.conit_list.Weight.{Weight}
 use Rattle.split_budget.specs.Budgets.{part_sum, part_on}
@@ -25,23 +25,37 @@ module _ (part : ℤ → ℕ) (conit : ℕ) where
       → part_on part conit (weights ∷ []) ≡ part_sum part conit weights
   part_on-one weights = ap (λ (all : List Weight). sum_by (λ weight. part weight.nweight) (on_conit conit all)) (append-nil weights)
 
-  -- one more write of a list
-  pub part_on-more : (xs : List (List Weight)) (i : ℕ)
-      → i < length xs
-      → part_on part conit (take (i + 1) xs) ≡ part_on part conit (take i xs) + part_sum part conit (get_or xs i [])
-  part_on-more xs i within =
-      rw (take_more xs i [] within, part_on-append (take i xs) (get_or xs i [] ∷ []), part_on-one (get_or xs i [])) refl
+  -- added up write by write
+  pub part_on-sum : (xs : List (List Weight))
+      → sum_by (λ weights. part_sum part conit weights) xs ≡ part_on part conit xs
+  part_on-sum [] = refl
+  part_on-sum (weights ∷ xs) =
+      omega (arith, sum_by-cons (λ (ws : List Weight). part_sum part conit ws) weights xs, part_on-sum xs, part_on-append (weights ∷ []) xs, part_on-one weights)
+
+  -- past the conits of all weights there is nothing
+  pub part_sum-past : (conits : ℕ) (weights : List Weight)
+      → All (λ weight. weight.conit < conits) weights
+      → conits ≤ conit
+      → part_sum part conit weights ≡ 0
+  part_sum-past conits weights on past =
+      ap (sum_by (λ weight. part weight.nweight))
+      (filter_none (λ weight. weight.conit == conit) weights
+      (All-weaker (λ weight. weight.conit < conits) (λ weight. (weight.conit == conit) ≡ false) (λ weight within. ne_eqb weight.conit conit (λ same. omega (arith, same, within))) weights on))
+
+  -- so what fits with the weights on each conit that has a sum, fits on all
+  pub sum-fits : (sums : List ℕ) (weights : List Weight)
+      → All (λ weight. weight.conit < length sums) weights
+      → (conit < length sums → get_or sums conit 0 + part_sum part conit weights < 2 ^ 64)
+      → get_or sums conit 0 + part_sum part conit weights < 2 ^ 64
+  sum-fits sums weights on fits =
+      ⊎_elim fits
+      (λ (past : length sums ≤ conit). omega (arith, get_or_past sums conit 0 past, part_sum-past (length sums) weights on past))
+      (cases_lt conit (length sums))
 
   -- what a list has is what a front of it has, and what the rest has
   part_on-split : (i : ℕ) (xs : List (List Weight))
       → part_on part conit xs ≡ part_on part conit (take i xs) + part_on part conit (drop i xs)
   part_on-split i xs = ap (part_on part conit) (sym (take-append-drop i xs)) ∙ part_on-append (take i xs) (drop i xs)
-
-  -- so one more write fits
-  pub part_on-fits : (xs : List (List Weight)) (i : ℕ)
-      → i < length xs
-      → part_on part conit (take i xs) + part_sum part conit (get_or xs i []) ≤ part_on part conit xs
-  part_on-fits xs i within = omega (arith, part_on-more xs i within, part_on-split (i + 1) xs)
 
   -- where more is known, no more is missed
   pub part_on-known : (k m : ℕ) (xs : List (List Weight))
@@ -60,24 +74,3 @@ module _ (part : ℤ → ℕ) (conit : ℕ) where
       (λ (within : k ≤ length xs).
       rw (drop-append-le k xs (weights ∷ []) within, part_on-append (drop k xs) (weights ∷ []), part_on-one weights) (omega arith))
       (cases_lt (length xs) k)
-
--- Over the weights of a write, one after another: one more is on the conit, or on another.
-module _ (part : ℤ → ℕ) (conit : ℕ) (weights : List Weight) (i : ℕ) (d : Weight) (within : i < length weights) where
-  pub sum_on_conit-fits : ((get_or weights i d).conit ≡ conit)
-      → part_sum part conit (take i weights) + part (get_or weights i d).nweight ≤ part_sum part conit weights
-  sum_on_conit-fits same =
-      let amount = λ (weight : Weight). part weight.nweight in
-      let on = λ (list : List Weight). sum_by amount (on_conit conit list) in
-      let more = sum_on_conit-yes amount conit weights i d within same in
-      let split : on weights ≡ on (take (i + 1) weights) + on (drop (i + 1) weights) =
-      ap on (sym (take-append-drop (i + 1) weights)) ∙ ap (sum_by amount) (filter-append (λ weight. weight.conit == conit) (take (i + 1) weights) (drop (i + 1) weights))
-      ∙ sum_by-append amount (on_conit conit (take (i + 1) weights)) (on_conit conit (drop (i + 1) weights)) in
-      omega (arith, more, split)
-
--- the writes that are read from where a peer is known to be, at most at the end
-pub read_from_known : {T : Type 0} (lists weights : List T) (known at : ℕ)
-    → lists ≡ weights
-    → at ≡ min known (length lists)
-    → take (length lists - at) (drop at lists) ≡ drop known weights
-read_from_known lists weights known at same is =
-    take_rest lists at ∙ ap (λ n. drop n lists) is ∙ drop_min known lists ∙ ap (drop known) same

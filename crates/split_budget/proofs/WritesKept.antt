@@ -1,5 +1,5 @@
 -- What the budgets keep as writes are added that fit, or that take their weight out of what is reserved.
-use Rattle.std.proofs.Common.{◌≡◌, ◌==◌, ℕ, ◌+◌, ◌-◌, ◌<◌, ◌≤◌, true, false, cond, ℤ, unsigned_abs, List, [], ◌∷◌, ◌++◌, length, get_or, set, All, refl, sym, ap, subst, ⊎_elim, arith}
+use Rattle.std.proofs.Common.{◌≡◌, ◌==◌, ℕ, ◌+◌, ◌-◌, ◌^◌, ◌<◌, ◌≤◌, true, false, cond, ℤ, unsigned_abs, List, [], ◌∷◌, ◌++◌, length, get_or, set, All, refl, sym, ap, subst, ⊎_elim, arith}
 use Rattle.std.proofs.lemmas.Bool.{ne_eqb, eq-eqb}
 use Rattle.std.proofs.lemmas.List.{length-set}
 use Rattle.std.proofs.lemmas.List.Elements.{All-weaker}
@@ -11,6 +11,7 @@ use Rattle.tact_base.specs.declared.fit.Fit.TheVariants.{Fits}
 use Rattle.split_budget.specs.Budgets.{BudgetState, IsPeer, reserved_on, share, part_sum, missing_plus, missing_minus}
 use Rattle.split_budget.specs.Answers.{weight_answer, missing_on, side_of}
 use Rattle.split_budget.specs.Kept.{KeepsBudgets}
+use Rattle.split_budget.proofs.AmountsKept.{share-fits}
 use Rattle.split_budget.proofs.KeptLemmas.{KeepsBudgets-changed}
 use Rattle.split_budget.proofs.Places.{get_or-set_cases}
 use Rattle.split_budget.proofs.Parts.{part_on-push}
@@ -27,12 +28,12 @@ module _ (s : BudgetState) (keeps : KeepsBudgets s) (weights : List Weight) (res
       × (missing_minus s peer conit + part_sum below_zero conit weights + get_or reserved conit 0 ≤ share s peer conit))
       → KeepsBudgets with_write
   KeepsBudgets-with_write long within =
-      KeepsBudgets-changed s keeps (s.weights ++ weights ∷ []) s.known reserved s.lent s.returned s.returned_known room refl long refl refl refl
+      KeepsBudgets-changed s keeps (s.weights ++ weights ∷ []) reserved s.lent s.returned s.returned_known room long refl refl refl
       (λ peer conit is k.
       let kept = keeps.peers peer conit is k in
       record {
-        plus = omega (arith, (within peer conit is k).0, part_on-push above_zero conit (get_or s.known peer 0) s.weights weights);
-        minus = omega (arith, (within peer conit is k).1, part_on-push below_zero conit (get_or s.known peer 0) s.weights weights);
+        plus = omega (arith, (within peer conit is k).0, part_on-push above_zero conit (get_or s.known peer 0 - s.given_up) s.weights weights);
+        minus = omega (arith, (within peer conit is k).1, part_on-push below_zero conit (get_or s.known peer 0 - s.given_up) s.weights weights);
         returned = kept.returned;
         returned_known = kept.returned_known;
         lent = kept.lent;
@@ -74,6 +75,17 @@ module _ (s : BudgetState) (keeps : KeepsBudgets s) (weights : List Weight) (roo
             (λ weight answered same. (weight-within peer conit is k weight answered same).1) weights fits),
       )
 
+  -- so it fits in 64 bits
+  pub added-fits : (peer conit : ℕ)
+      → IsPeer s peer
+      → conit < s.setup.conits
+      → (missing_plus s peer conit + part_sum above_zero conit weights < 2 ^ 64)
+      × (missing_minus s peer conit + part_sum below_zero conit weights < 2 ^ 64)
+  added-fits peer conit is k =
+      let within = added-within peer conit is k in
+      let fits = share-fits s keeps peer conit is k in
+      (omega (arith, within.0, fits), omega (arith, within.1, fits))
+
   pub KeepsBudgets-added : KeepsBudgets (record s { weights = s.weights ++ weights ∷ []; room = room })
   KeepsBudgets-added = KeepsBudgets-with_write s keeps weights s.reserved room refl added-within
 
@@ -99,6 +111,17 @@ module _ (s : BudgetState) (keeps : KeepsBudgets s) (weight : Weight) (room : �
       let size : cond (weight.conit == conit) (unsigned_abs weight.nweight) 0 ≡ 0 = ap (λ yes. cond yes (unsigned_abs weight.nweight) 0) off in
       omega (arith, most, size, there.1))
       (get_or-set_cases s.reserved weight.conit (reserved_on s weight.conit - unsigned_abs weight.nweight) conit (rw keeps.reserved conit_in))
+
+  -- so what a peer may miss then fits in 64 bits
+  pub spent-fits : (peer conit : ℕ)
+      → IsPeer s peer
+      → conit < s.setup.conits
+      → (missing_plus s peer conit + part_sum above_zero conit (weight ∷ []) < 2 ^ 64)
+      × (missing_minus s peer conit + part_sum below_zero conit (weight ∷ []) < 2 ^ 64)
+  spent-fits peer conit is k =
+      let kept = keeps.peers peer conit is k in
+      let fits = share-fits s keeps peer conit is k in
+      (omega (arith, kept.plus, part-left above_zero above_zero-le conit, fits), omega (arith, kept.minus, part-left below_zero below_zero-le conit, fits))
 
   pub KeepsBudgets-spent : KeepsBudgets (record s { weights = s.weights ++ (weight ∷ []) ∷ []; reserved = left; room = room })
   KeepsBudgets-spent =

@@ -1,19 +1,21 @@
 -- The numerical budgets of one replica: its shares of the bounds of the others, what its own writes use of them, and
 -- what it lends of its own bound (this project's own rule).
-use Rattle.std.specs.Prelude.{◌≢◌, ℕ, ◌-◌, ◌*◌, ◌/◌, ◌%◌, ◌<◌, max, ℤ, List, [], drop, map, sum, sum_by, replicate, slice_index}
+use Rattle.std.specs.Prelude.{◌≢◌, ℕ, ◌+◌, ◌-◌, ◌*◌, ◌/◌, ◌%◌, ◌<◌, max, ℤ, List, [], ◌∷◌, length, drop, map, sum, sum_by, replicate, slice_index}
 use Rattle.std.specs.List.{flat_map, range_with_len}
+use Rattle.tact_base.specs.Covers.{least_of}
 use Rattle.tact_base.specs.Setup.{Setup, IsSetup, peers_of, place_of, alpha_of, loan_of}
 use Rattle.tact_base.specs.Sums.{above_zero, below_zero, on_conit}
 use Rattle.tact_base.specs.declared.conit_list.Weight.{Weight}
 use Rattle.split_budget.specs.declared.budget.Budget.{Budget}
 
--- The setup, and the replica; the weights of the replica's own writes, in order, and how many of these writes each
--- replica is known to have; by conit, what is reserved; by replica and then conit, all that was ever lent to it and all
--- that it told it lent, all that was ever given back to it and all that it told it gave back; and how many more writes
--- can surely be added without taking memory.
+-- The setup, and the replica; how many of the replica's first own writes are given up, which each peer is known to have,
+-- and the weights of the own writes after these, in order; how many own writes each replica is known to have; by conit,
+-- what is reserved; by replica and then conit, all that was ever lent to it and all that it told it lent, all that was ever
+-- given back to it and all that it told it gave back; and how many more writes can surely be added without taking memory.
 pub record BudgetState : Type 0 where
   pub setup : Setup
   pub replica : ℕ
+  pub given_up : ℕ
   pub weights : List (List Weight)
   pub known : List ℕ
   pub reserved : List ℕ
@@ -42,6 +44,7 @@ abbrev pub opening : Setup → ℕ → ℕ → BudgetState
 opening setup replica room = record {
   setup = setup;
   replica = replica;
+  given_up = 0;
   weights = [];
   known = replicate setup.replicas 0;
   reserved = replicate setup.conits 0;
@@ -100,7 +103,7 @@ part_on part conit writes = part_sum part conit (flat_map (λ weights. weights) 
 
 -- the weights of the writes that a peer isn't known to have
 abbrev pub maybe_missed : BudgetState → ℕ → List (List Weight)
-maybe_missed s peer = drop (slice_index s.known peer) s.weights
+maybe_missed s peer = drop (slice_index s.known peer - s.given_up) s.weights
 
 -- the sum of their positive nweights on a conit, and that of the sizes of their negative ones
 abbrev pub missing_plus : BudgetState → ℕ → ℕ → ℕ
@@ -115,3 +118,11 @@ greater_missing s peer conit = max (missing_plus s peer conit) (missing_minus s 
 -- what of its share of an owner's bound covers nothing
 abbrev pub free : BudgetState → ℕ → ℕ → ℕ
 free s owner conit = share s owner conit - greater_missing s owner conit - reserved_on s conit
+
+-- how many of the writes that are kept each peer is known to have
+abbrev pub had_by_all : BudgetState → ℕ
+had_by_all s = least_of (length s.weights ∷ map (λ peer. slice_index s.known peer - s.given_up) (peers_of s.setup s.replica))
+
+-- these are given up
+abbrev pub with_given_up : BudgetState → BudgetState
+with_given_up s = record s { given_up = s.given_up + had_by_all s; weights = drop (had_by_all s) s.weights }

@@ -2,17 +2,17 @@ ghost use Rattle.std.specs.Prelude.{◌≡◌, ◌+◌, ◌-◌, ◌<◌, ◌≤
 ghost use Rattle.tact_base.specs.Setup.{place_of};
 ghost use Rattle.tact_base.specs.declared.fit.Fit.TheVariants.{Fits};
 ghost use Rattle.tact_base.specs.declared.limits.TheConstants.{LENT_MAX};
-ghost use Rattle.split_budget.specs.Budgets.{IsBudget, setup_of, opening, IsPeer, reserved_on, lent_to, returned_by, lent_by, returned_to, share, out, home, missing_plus, missing_minus, free};
+ghost use Rattle.split_budget.specs.Budgets.{IsBudget, setup_of, opening, IsPeer, reserved_on, lent_to, returned_by, lent_by, returned_to, share, out, home, missing_plus, missing_minus, free, with_given_up};
 ghost use Rattle.split_budget.specs.Kept.{KeepsBudgets};
 ghost use Rattle.split_budget.specs.Answers.{fit_by, answer, missing_on, weight_answer, reserve_answer};
 
-use crate::missing::{Row, sums_on};
 use crate::opening::{copy, lent, lent_known};
+use crate::own_writes::OwnWrites;
 use crate::side::Side;
 use crate::{Budget, Fit};
 use std::alloc::Global;
 use std::marker::Model;
-use tact_base::{Few, NoMemory, RoomyList, Weight, Weights};
+use tact_base::{NoMemory, Weight, Weights};
 
 /// The budgets of one replica. It holds a share of each peer's bound on each conit, and accepts own writes
 /// as long as what the peer may not have seen of them stays within it, of either sign. Of its own bound it
@@ -20,8 +20,7 @@ use tact_base::{Few, NoMemory, RoomyList, Weight, Weights};
 #[derive(Debug, Drop)]
 pub struct Budgets {
     config: Budget,
-    weights: RoomyList<Row>,
-    known: Vec<u64>,
+    own: OwnWrites,
     reserved: Vec<u64>,
     lent: Vec<u64>,
     lent_known: Vec<u64>,
@@ -34,22 +33,23 @@ impl Model for Budgets {
 
     ghost Value = { BudgetState };
 
-    ghost use Rattle.split_budget.specs.Kept.{KeepsBudgets};
+    ghost use Rattle.split_budget.specs.Kept.{KeepsOwn};
 
     ghost view = { λ a. record {
       setup = setup_of a.config;
       replica = a.config.replica;
-      weights = a.weights.items;
-      known = a.known.items;
+      given_up = a.own.given_up;
+      weights = a.own.weights;
+      known = a.own.known;
       reserved = a.reserved.items;
       lent = a.lent.items;
       lent_known = a.lent_known.items;
       returned = a.returned.items;
       returned_known = a.returned_known.items;
-      room = a.weights.room;
+      room = a.own.room;
     } };
 
-    ghost invariant = { λ a. KeepsBudgets (view a) };
+    ghost invariant = { λ a. KeepsOwn (view a) a.own };
 }
 
 impl Budgets {
@@ -61,8 +61,7 @@ impl Budgets {
         let places = config.replicas as usize * config.conits as usize;
         Ok(Budgets {
             config: copy(alloc, config)?,
-            weights: RoomyList::new(alloc),
-            known: vec![in alloc; 0; config.replicas as usize]?,
+            own: OwnWrites::new(alloc, config.replica, config.replicas, config.conits)?,
             reserved: vec![in alloc; 0; config.conits as usize]?,
             lent: lent(alloc, config)?,
             lent_known: lent_known(alloc, config)?,
@@ -90,9 +89,7 @@ impl Budgets {
         ensures sums { result ≡ (missing_plus self.now peer conit, missing_minus self.now peer conit) }
         ensures kept { KeepsBudgets self.now }
     {
-        let writes = self.weights.items();
-        let known = (self.known[peer as usize] as usize).min(writes.len());
-        sums_on(&writes[known..], conit)
+        (self.own.plus(peer, conit), self.own.minus(peer, conit))
     }
 
     /// What is reserved on the conit. Takes no memory.
@@ -262,7 +259,7 @@ impl Budgets {
         ensures kept { self.old.room ≤ self.new.room }
         ensures err { OnErr result (self.new ≡ self.old) }
     {
-        self.weights.reserve(k)
+        self.own.reserve(k)
     }
 
     /// Adds an own write with these weights, each of which fits. Takes no memory.
@@ -276,7 +273,7 @@ impl Budgets {
         } }
         ensures room { self.old.room ≤ self.new.room + 1 }
     {
-        self.weights.push(Few::new(weights.items()));
+        self.own.add(weights.items());
     }
 
     /// Reserves an amount that fits on the conit. Takes no memory.
@@ -316,18 +313,20 @@ impl Budgets {
         ensures room { self.old.room ≤ self.new.room + 1 }
     {
         self.reserved[weight.conit as usize] -= weight.nweight.unsigned_abs();
-        self.weights.push(Few::new(&[weight]));
+        self.own.add(&[weight]);
     }
 
-    /// Notes that the peer has the first `count` own writes. An older note changes nothing. Takes no memory.
+    /// Notes that the peer has the first `count` own writes, of which there may be fewer by now, and gives up
+    /// those that each peer is known to have. An older note changes nothing else. Takes no memory.
     pub fn acked(&mut self, peer: u32, count: u64)
         requires { IsPeer self.old peer }
-        ensures { self.new ≡ record self.old {
+        ensures acked { self.new ≡ record (with_given_up (record self.old {
           known = slice_set self.old.known peer (max (slice_index self.old.known peer) count);
-        } }
+        })) { room = self.new.room } }
+        ensures room { self.old.room ≤ self.new.room }
+        ensures kept { KeepsBudgets self.new }
     {
-        let known = &mut self.known[peer as usize];
-        *known = (*known).max(count);
+        self.own.acked(peer, count);
     }
 
     /// Notes that the owner has lent `told` on the conit in all, the opening loan included. An older note
@@ -335,10 +334,11 @@ impl Budgets {
     pub fn note_lent(&mut self, owner: u32, conit: u32, told: u64)
         requires owner { IsPeer self.old owner }
         requires conit { conit < self.old.setup.conits }
-        ensures { self.new ≡ record self.old {
+        ensures noted { self.new ≡ record self.old {
           lent_known = slice_set self.old.lent_known (place_of self.old.setup owner conit)
               (max (lent_by self.old owner conit) told);
         } }
+        ensures kept { KeepsBudgets self.new }
     {
         let place = self.config.place_of(owner, conit);
         self.lent_known[place] = self.lent_known[place].max(told);
@@ -350,10 +350,11 @@ impl Budgets {
         requires holder { IsPeer self.old holder }
         requires conit { conit < self.old.setup.conits }
         requires lent { told ≤ lent_to self.old holder conit }
-        ensures { self.new ≡ record self.old {
+        ensures noted { self.new ≡ record self.old {
           returned_known = slice_set self.old.returned_known (place_of self.old.setup holder conit)
               (max (returned_by self.old holder conit) told);
         } }
+        ensures kept { KeepsBudgets self.new }
     {
         let place = self.config.place_of(holder, conit);
         self.returned_known[place] = self.returned_known[place].max(told);

@@ -4,8 +4,9 @@
 
 mod budget;
 mod budgets;
-mod missing;
+mod missed;
 mod opening;
+mod own_writes;
 mod side;
 
 pub use budget::Budget;

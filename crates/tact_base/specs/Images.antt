@@ -34,9 +34,13 @@ after_op image (Shift from to amount) =
     then with_value (with_value image from (image from -ℤ pos amount)) to (capped (image to +ℤ pos amount))
     else image
 
--- the image after operations, in order
+-- the image after operations in order, from another one
+abbrev pub image_from : Image → List Op → Image
+image_from image ops = fold after_op image ops
+
+-- and from the empty one
 abbrev pub image_of : List Op → Image
-image_of ops = fold after_op empty_image ops
+image_of ops = image_from empty_image ops
 
 -- the operations of writes
 abbrev pub ops_of : List Write → List Op

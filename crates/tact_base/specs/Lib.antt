@@ -10,3 +10,4 @@ pub mod Shares
 pub mod Counts
 pub mod Admission
 pub mod Roomy
+pub mod RoomyLends

@@ -1,4 +1,6 @@
-ghost use Rattle.std.specs.Prelude.{◌≡◌, ◌+◌, ◌<◌, ◌≤◌, [], ◌∷◌, ◌++◌, OnOk, OnErr, IsOk, length, insert};
+ghost use Rattle.std.specs.Prelude.{◌≡◌, ◌+◌, ◌<◌, ◌≤◌, [], ◌∷◌, ◌++◌, OnOk, OnErr, IsOk, length, insert, drop};
+ghost use Rattle.std.specs.Borrow.{sem};
+ghost use Rattle.tact_base.specs.RoomyLends.{lends_items};
 
 use crate::NoMemory;
 use std::alloc::Global;
@@ -41,6 +43,14 @@ impl<T> RoomyList<T> {
         &self.items
     }
 
+    /// The items, in order, to be changed in place.
+    pub fn items_mut(&mut self) -> &mut [T]
+        ensures* writes_back { sem 𝓛 (lends_items T.row self.entry result) }
+        ensures items { result.now ≡ self.old.items }
+    {
+        &mut self.items
+    }
+
     /// Makes room for at least `count` more items, without memory where there is so much. `NoMemory`
     /// leaves the list as it was.
     pub fn reserve(&mut self, count: u64) -> Result<(), NoMemory>
@@ -77,6 +87,15 @@ impl<T: Drop> RoomyList<T> {
         if self.items.insert(place, item).is_err() {
             unreachable!();
         }
+    }
+
+    /// Drops the first `count` items. Takes no memory.
+    pub fn drop_front(&mut self, count: usize)
+        requires { count ≤ length self.old.items }
+        ensures items { self.new.items ≡ drop count self.old.items }
+        ensures room { self.old.room ≤ self.new.room }
+    {
+        drop(self.items.drain(..count));
     }
 }
 

@@ -1,7 +1,8 @@
 //! The message that a replica sends.
 ghost use Rattle.std.specs.Prelude.{◌≡◌, ◌≢◌, ◌<◌, ◌≤◌, List, true, false, take, drop, length, map, slice_index, IfOk, IfErr, OnOk, OnErr};
 ghost use Rattle.tact_base.specs.declared.limits.TheConstants.{MOMENT_MAX};
-ghost use Rattle.tact_base.specs.Setup.{IsSetup, loan_of, conits_of};
+ghost use Rattle.tact_base.specs.Setup.{conits_of};
+ghost use Rattle.split_budget.specs.Budgets.{lent_to, returned_to};
 ghost use Rattle.run_model.specs.Histories.{moment_at};
 ghost use Rattle.run_model.specs.Messages.{message_of};
 ghost use Rattle.run_model.specs.declared.entry.Act.TheVariants as act;
@@ -46,9 +47,9 @@ impl Replica {
     // The message that is sent at this moment, where these firsts are given.
     fn next_message(&self, moment: u64, to: u32, given: &[u64]) -> Result<Message, NoMemory>
         requires to { to < self.now.core.setup.replicas }
+        requires other { to ≢ self.now.core.replica }
         requires given { length given.now ≡ self.now.core.setup.replicas }
         ensures message { IfOk result (λ message. message ≡ next_message self.now.core moment to given.now) }
-        ensures setup { OnOk result (IsSetup self.now.core.setup) }
     {
         let firsts = self.firsts(to, given)?;
         Ok(Message {
@@ -60,7 +61,7 @@ impl Replica {
             writes: self.writes(firsts.items())?,
             firsts,
             lent: self.lent(to)?,
-            returned: Numbers::filled(self.alloc, 0, self.config.conits())?,
+            returned: self.returned(to)?,
         })
     }
 
@@ -148,15 +149,29 @@ impl Replica {
             .slice(origin, first, (most as u64).min(have - first))
     }
 
-    // What the replica ever lent to the holder: the opening loans.
+    // What the replica ever lent to a peer, by conit.
     fn lent(&self, holder: u32) -> Result<Numbers, NoMemory>
-        requires { holder < self.now.core.setup.replicas }
-        ensures { IfOk result (λ lent. lent ≡ map (λ conit. loan_of self.now.core.setup self.now.core.replica conit holder) (conits_of self.now.core.setup)) }
+        requires holder { holder < self.now.core.setup.replicas }
+        requires other { holder ≢ self.now.core.replica }
+        ensures { IfOk result (λ lent. lent ≡ map (lent_to self.now.core.budgets holder) (conits_of self.now.core.setup)) }
     {
         let mut lent = Numbers::new(self.alloc);
         for conit in 0..self.config.conits() {
-            lent.push(self.config.loan(self.replica, conit, holder))?;
+            lent.push(self.budgets.lent(holder, conit))?;
         }
         Ok(lent)
+    }
+
+    // What the replica ever gave back to a peer, by conit.
+    fn returned(&self, owner: u32) -> Result<Numbers, NoMemory>
+        requires owner { owner < self.now.core.setup.replicas }
+        requires other { owner ≢ self.now.core.replica }
+        ensures { IfOk result (λ returned. returned ≡ map (returned_to self.now.core.budgets owner) (conits_of self.now.core.setup)) }
+    {
+        let mut returned = Numbers::new(self.alloc);
+        for conit in 0..self.config.conits() {
+            returned.push(self.budgets.returned(owner, conit))?;
+        }
+        Ok(returned)
     }
 }

@@ -1,62 +1,90 @@
-//! A call of a client, answered.
-ghost use Rattle.std.specs.Prelude.{◌≡◌, ◌+◌, ◌<◌, ◌≤◌, [], length, slice_index, true, false, OnOk, OnErr, IfOk, IfErr, IsOk, List, ◌∷◌};
-ghost use Rattle.tact_base.specs.declared.limits.TheConstants.{CLIENTS, MOMENT_MAX};
-ghost use Rattle.run_model.specs.Histories.{calls_in, moment_at};
-ghost use Rattle.run_model.specs.Ranges.{IsRequestInRange};
-ghost use Rattle.run_model.specs.Replies.{reply_of};
+//! Writes that clients ask for.
+ghost use Rattle.std.specs.Prelude.{All, ◌≡◌, ◌+◌, ◌<◌, ◌≤◌, [], ◌∷◌, ◌++◌, length, false, OnErr, IfOk, IsOk, unsigned_abs};
+ghost use Rattle.tact_base.specs.declared.limits.TheConstants.{CLIENTS, WEIGHT_MAX};
 ghost use Rattle.run_model.specs.declared.call.Reply.TheVariants as reply;
 ghost use Rattle.run_model.specs.declared.call.Request.TheVariants as request;
-ghost use Rattle.run_model.specs.declared.entry.Act.TheVariants as act;
-ghost use Rattle.run_model.specs.declared.entry.Entry.{Entry};
-ghost use Rattle.replica_core.specs.States.{log_at, entered, accepted, next_write, is_full};
-ghost use Rattle.replica_core.specs.Stands.{Stands, GoesOn, IsSameReplica, IsFaultOf, IsPlainWrite};
+ghost use Rattle.replica_core.specs.States.{log_at, entered, next_write, is_full};
+ghost use Rattle.replica_core.specs.Stands.{IsSameReplica};
+ghost use Rattle.replica_core.specs.Calling.{MayAsk, Answers, MayCount, with_counted, accepted};
 
 use super::Replica;
 use super::admitting::admit;
-use crate::CoreFault;
-use run_model::{Reply, Request};
-use tact_base::{Op, Weights, Write};
+use run_model::Reply;
+use split_budget::Budgets;
+use std::slice;
+use tact_base::{NoMemory, Op, Weight, Weights, Write};
 
 impl Replica {
-    /// Answers a call of a client at a moment. The moment of the entry is the greater of the handed one and
-    /// that of the last entry.
-    ///
-    /// `Full` comes exactly where 20,000 entries were made or the clock stands at 2^40. `NoMemory` doesn't
-    /// come where there is room for a write (`spare`). Both leave the replica as it was.
-    pub fn call(&mut self, moment: u64, client: u32, request: &Request) -> Result<Reply, CoreFault>
-        requires moment { moment ≤ MOMENT_MAX }
-        requires client { client < CLIENTS }
-        requires in_range { IsRequestInRange self.old.core.setup request.now }
-        requires plain { IsPlainWrite request.now }
-        ensures goes_on { IfOk result (λ given. GoesOn self.old.core self.new.core moment
-            (λ part. act.Call client (calls_in part client) request.now given)) }
-        ensures due { IfOk result (λ given. (part : List Entry) → Stands part self.old.core
-            → given ≡ reply_of self.old.core.setup self.old.core.replica part (moment_at part moment) request.now) }
+    // Accepts a write, if no peer's share forbids it.
+    pub(super) fn answer_write(
+        &mut self,
+        moment: u64,
+        client: u32,
+        weights: &Weights,
+        op: Op,
+    ) -> Result<Reply, NoMemory>
+        requires { MayAsk self.old.core moment client (request.Write weights.now op) }
+        ensures answers { IfOk result (Answers self.old.core self.new.core moment client (request.Write weights.now op)) }
         ensures same { IsSameReplica self.old.core self.new.core }
         ensures spare { self.old.spare ≤ self.new.spare + 1 }
-        ensures not_full { OnOk result (is_full self.old.core ≡ false) }
-        ensures fault { IfErr result (IsFaultOf self.old.core) }
-        ensures enough { 0 < self.old.spare → is_full self.old.core ≡ false → IsOk result }
+        ensures enough { 0 < self.old.spare → IsOk result }
         ensures err { OnErr result (self.new ≡ self.old) }
     {
-        self.may_enter()?;
-        match request {
-            Request::Write { weights, op } => {
-                let asked = weights.clone()?;
-                self.reserve(1)?;
-                Ok(self.accept(moment, client, asked, *op))
-            }
-            _ => unreachable!(),
+        if let Some(refusal) = self.weights_refusal(weights.items()) {
+            self.close_call(moment, client);
+            return Ok(refusal);
         }
+        let weights = weights.clone()?;
+        self.reserve(1)?;
+        Ok(self.accept(moment, client, weights, op, None))
     }
 
-    // Accepts a write that a client asked for.
-    fn accept(&mut self, moment: u64, client: u32, weights: Weights, op: Op) -> Reply
+    // Accepts a write of one weight, if its size is reserved.
+    pub(super) fn answer_held(
+        &mut self,
+        moment: u64,
+        client: u32,
+        weight: Weight,
+        op: Op,
+    ) -> Result<Reply, NoMemory>
+        requires { MayAsk self.old.core moment client (request.Held weight op) }
+        ensures answers { IfOk result (Answers self.old.core self.new.core moment client (request.Held weight op)) }
+        ensures same { IsSameReplica self.old.core self.new.core }
+        ensures spare { self.old.spare ≤ self.new.spare + 1 }
+        ensures enough { 0 < self.old.spare → IsOk result }
+        ensures err { OnErr result (self.new ≡ self.old) }
+    {
+        let held = self.budgets.reserved(weight.conit);
+        let amount = weight.nweight.unsigned_abs();
+        if held < amount {
+            self.close_call(moment, client);
+            return Ok(Reply::NotHeld {
+                conit: weight.conit,
+                held,
+                amount,
+            });
+        }
+        self.reserve(1)?;
+        Ok(self.accept(moment, client, only(weight), op, Some(weight)))
+    }
+
+    // Accepts a write that a client asked for, whose weights count; a held one is taken out of what is reserved.
+    fn accept(
+        &mut self,
+        moment: u64,
+        client: u32,
+        weights: Weights,
+        op: Op,
+        held: Option<Weight>,
+    ) -> Reply
         requires free { is_full self.old.core ≡ false }
         requires room { 0 < self.old.spare }
         requires client { client < CLIENTS }
-        ensures reply { result ≡ reply.Done (length (log_at self.old.core self.old.core.replica)) (self.old.core.clock + 1) }
-        ensures core { self.new.core ≡ entered (accepted self.old.core client (next_write self.old.core moment weights op)) moment }
+        requires conits { All (λ weight. weight.conit < self.old.core.setup.conits) weights }
+        requires counts { MayCount self.old.core.budgets weights held }
+        ensures reply { result ≡ reply.Done (length (log_at self.old.core self.old.core.replica)) (self.old.core.writes.clock + 1) }
+        ensures core { self.new.core
+            ≡ entered (accepted self.old.core client (next_write self.old.core moment weights op) held) moment }
         ensures spare { self.old.spare ≡ self.new.spare + 1 }
     {
         let index = self.logs.count(self.replica);
@@ -69,12 +97,43 @@ impl Replica {
             weights,
             op,
         };
-        admit(&mut self.logs, &mut self.ordered, &write);
+        admit(
+            &mut self.logs,
+            &mut self.ordered,
+            &mut self.image,
+            self.replica,
+            slice::from_ref(&write),
+        );
+        count(&mut self.budgets, &write.weights, held);
         self.clock = stamp;
-        let number = self.calls[client as usize];
-        self.calls[client as usize] = number.saturating_add(1);
         self.spare -= 1;
-        self.enter(moment);
+        self.close_call(moment, client);
         Reply::Done { index, stamp }
+    }
+}
+
+// Counts the weights of a write in budgets; a held one is taken out of what is reserved.
+fn count(budgets: &mut Budgets, weights: &Weights, held: Option<Weight>)
+    requires room { 0 < budgets.old.room }
+    requires conits { All (λ weight. weight.conit < budgets.old.setup.conits) weights.now }
+    requires counts { MayCount budgets.old weights.now held }
+    ensures counted { budgets.new ≡ record (with_counted budgets.old weights.now held) { room = budgets.new.room } }
+    ensures room { budgets.old.room ≤ budgets.new.room + 1 }
+{
+    match held {
+        None => budgets.add(weights),
+        Some(weight) => budgets.spend(weight),
+    }
+}
+
+// The list of one weight.
+fn only(weight: Weight) -> Weights
+    requires nweight { unsigned_abs weight.nweight ≤ WEIGHT_MAX }
+    requires oweight { weight.oweight ≤ WEIGHT_MAX }
+    ensures { result ≡ weight ∷ [] }
+{
+    match Weights::new(&[weight]) {
+        Ok(weights) => weights,
+        Err(_) => unreachable!(),
     }
 }

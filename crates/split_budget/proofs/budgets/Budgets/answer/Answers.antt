@@ -20,7 +20,7 @@ returns-in_default c =
     (λ fits. c.in_default.not-Fits (c.fit_by.ensures ∙ fits)) in
     record {
       answer = c.fit_by.ensures ∙ sym first;
-      kept = rw (← c.self.view_is) c.self.invariant;
+      kept = rw (← c.self.view_is) c.self.invariant.keeps;
     }
 
 pub loop-peer-preserved : goal.loop-peer-preserved

@@ -11,8 +11,8 @@ use Rattle.split_budget.proofs.budgets.Budgets.home.Goals.{After-items, then-pee
 within : (c : After-items) → c.place_of-place.result < length c.self.inside.config.alphas
 within c =
     let s = setup_of c.self.inside.config in
-    let counts = HasCounts-from_IsSetup s c.self.invariant.setup in
-    rw (c.place_of-place.ensures, counts.alphas) (place_in s c.self.inside.config.replica c.args.conit c.self.invariant.replica (rw (← c.self.view_is) at c.requires))
+    let counts = HasCounts-from_IsSetup s c.self.invariant.keeps.setup in
+    rw (c.place_of-place.ensures, counts.alphas) (place_in s c.self.inside.config.replica c.args.conit c.self.invariant.keeps.replica (rw (← c.self.view_is) at c.requires))
 
 pub bounds-items-place : goal.bounds-items-place
 bounds-items-place c = rw c.items.ensures (within (goal.at.bounds-items-place c).After-items)
@@ -20,7 +20,7 @@ bounds-items-place c = rw c.items.ensures (within (goal.at.bounds-items-place c)
 pub offset_bounds-items-place : goal.offset_bounds-items-place
 offset_bounds-items-place c =
     let s = setup_of c.self.inside.config in
-    let counts = HasCounts-from_IsSetup s c.self.invariant.setup in
+    let counts = HasCounts-from_IsSetup s c.self.invariant.keeps.setup in
     omega (arith, within c, counts.alphas, places_are_few s counts)
 
 pub overflow_sub-home : goal.overflow_sub-home

@@ -1,0 +1,111 @@
+//! Messages that a replica can take, and each way in which it can't.
+
+use crate::replica::write;
+use replica_core::Replica;
+use run_model::{Config, Message};
+use std::alloc::Global;
+use std::test::Fail;
+use tact_base::{Cover, Covers, Numbers, Op, Weights, Write, WriteList};
+
+// What a message is made of: the index and the stamp are those of its one write, which is replica 0's.
+#[derive(Clone, Copy)]
+struct Parts<'a> {
+    from: u32,
+    to: u32,
+    haves: &'a [u64],
+    index: u64,
+    stamp: u64,
+    returned: &'a [u64],
+}
+
+// Replica 0 tells replica 1 its first write.
+const GOOD: Parts<'static> = Parts {
+    from: 0,
+    to: 1,
+    haves: &[6, 2, 1],
+    index: 0,
+    stamp: 12,
+    returned: &[0, 2],
+};
+
+fn of_haves(haves: &[u64]) -> Parts<'_> {
+    Parts { haves, ..GOOD }
+}
+
+fn of_returned(returned: &[u64]) -> Parts<'_> {
+    Parts { returned, ..GOOD }
+}
+
+fn of_write(index: u64, stamp: u64) -> Parts<'static> {
+    Parts {
+        index,
+        stamp,
+        ..GOOD
+    }
+}
+
+// The write of a message whose sender's cover stands at the stamp 12.
+fn told(parts: &Parts) -> Result<Write, Fail> {
+    Ok(Write {
+        origin: 0,
+        index: parts.index,
+        stamp: parts.stamp,
+        moment: 20,
+        weights: Weights::new(&[])?,
+        op: Op::Add { key: 7, delta: 1 },
+    })
+}
+
+fn message_of(alloc: Global, parts: &Parts) -> Result<Message, Fail> {
+    let cover = Cover {
+        count: 1,
+        stamp: 12,
+        moment: 30,
+    };
+    let mut writes = WriteList::new(alloc);
+    writes.push(told(parts)?)?;
+    Ok(Message {
+        from: parts.from,
+        to: parts.to,
+        number: 3,
+        haves: Numbers::from_slice(alloc, parts.haves)?,
+        covers: Covers::from_slice(alloc, &[cover; 3])?,
+        firsts: Numbers::from_slice(alloc, &[parts.index, 2, 0])?,
+        writes,
+        lent: Numbers::from_slice(alloc, &[5, 0])?,
+        returned: Numbers::from_slice(alloc, parts.returned)?,
+    })
+}
+
+// Replica 1 of three, which made two writes, and lends 2 on the second of two conits to replica 0.
+fn one_of_three(alloc: Global) -> Result<Replica, Fail> {
+    let loans = [0, 0, 0, 0, 0, 0, 0, 0, 0, 2, 0, 0, 0, 0, 0, 0, 0, 0];
+    let config = Config::new(alloc, 3, 2, &[9; 6], &loans)?;
+    let mut replica = Replica::new(alloc, &config, 1)?;
+    write(&mut replica, 5)?;
+    write(&mut replica, 6)?;
+    Ok(replica)
+}
+
+#[test]
+fn knows_the_messages_that_fit(rt: HostRuntime) -> Result<(), Fail> {
+    let replica = one_of_three(rt.alloc())?;
+    let cases = [
+        (GOOD, true, "a message that fits"),
+        (Parts { from: 3, ..GOOD }, false, "a sender past the count"),
+        (Parts { from: 1, ..GOOD }, false, "of itself"),
+        (Parts { to: 2, ..GOOD }, false, "addressed to another"),
+        (of_haves(&[6, 2]), false, "haves too short"),
+        (of_haves(&[6, 3, 1]), false, "more own writes than made"),
+        (of_returned(&[0, 1]), true, "less returned than lent"),
+        (of_returned(&[0, 3]), false, "more returned than lent"),
+        (of_returned(&[1, 2]), false, "returned where none was lent"),
+        (of_write(0, 13), false, "a stamp past the sender's"),
+        (of_write(1, 13), true, "a write that isn't next"),
+    ];
+    for (parts, due, text) in cases {
+        let message = message_of(rt.alloc(), &parts)?;
+        assert_eq!(rt; replica.fits(&message), due, "{text}");
+    }
+    Ok(())
+}
