@@ -1,5 +1,5 @@
 use Rattle.std.proofs.Common.{◌≡◌, ◌<◌}
-use Rattle.core_tests.proofs.budgets.kept_sums_are_those_from_scratch.Given as goal
+use Rattle.ground_tests.proofs.budgets.kept_sums_are_those_from_scratch.Given as goal
 
 abbrev pub invariant-loop : goal.invariant-loop
 invariant-loop g l = record {

@@ -1,5 +1,5 @@
 use Rattle.std.proofs.Common.{◌≡◌}
-use Rattle.core_tests.proofs.budgets.keeps_the_signs_apart.Given as goal
+use Rattle.ground_tests.proofs.budgets.keeps_the_signs_apart.Given as goal
 
 abbrev pub invariant-loop-nweight : goal.invariant-loop-nweight
 invariant-loop-nweight g l = record {

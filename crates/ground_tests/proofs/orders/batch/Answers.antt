@@ -1,5 +1,5 @@
-use Rattle.core_tests.proofs.Triples.{three_sorted}
-use Rattle.core_tests.proofs.orders.batch.Goals as goal
+use Rattle.ground_tests.proofs.Triples.{three_sorted}
+use Rattle.ground_tests.proofs.orders.batch.Goals as goal
 
 pub returns-clause-sorted : goal.returns-clause-sorted
 returns-clause-sorted c =

@@ -1,5 +1,5 @@
 use Rattle.std.proofs.Common.{◌≡◌, ◌*◌, ◌<◌, ◌≤◌, All}
-use Rattle.core_tests.proofs.orders.batches_go_in_one_by_one.Given as goal
+use Rattle.ground_tests.proofs.orders.batches_go_in_one_by_one.Given as goal
 
 abbrev pub invariant-loop-index : goal.invariant-loop-index
 invariant-loop-index g l = record {

@@ -1,7 +1,7 @@
 use Rattle.std.proofs.Common.{◌≡◌, ◌++◌, refl, arith}
 use Rattle.tact_base.specs.WriteOrder.{in_order}
-use Rattle.core_tests.proofs.Triples.{below_next}
-use Rattle.core_tests.proofs.orders.batches_go_in_one_by_one.Goals as goal
+use Rattle.ground_tests.proofs.Triples.{below_next}
+use Rattle.ground_tests.proofs.orders.batches_go_in_one_by_one.Goals as goal
 
 pub loop-index-preserved : goal.loop-index-preserved
 loop-index-preserved g c =
