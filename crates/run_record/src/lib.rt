@@ -4,6 +4,7 @@
 mod fields;
 mod line_fault;
 mod lines;
+mod lists;
 mod splitting;
 
 pub use fields::{
@@ -12,4 +13,5 @@ pub use fields::{
 };
 pub use line_fault::LineFault;
 pub use lines::{fault_of_bytes, is_skipped};
+pub use lists::{ListEnd, firsts_at, needs_at, numbers_at, weight_at, weights_at};
 pub use splitting::{next_token, split_first};

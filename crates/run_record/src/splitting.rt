@@ -3,7 +3,7 @@ ghost use Rattle.std.specs.Prelude.{◌≡◌, ◌≢◌, ℕ, ◌∷◌, [], �
 ghost use Rattle.run_record.specs.Splitting.{pieces_of, tokens};
 
 /// The first place where the byte stands, or the length where it doesn't.
-fn place_of(bytes: &[u8], wanted: u8) -> usize
+pub(crate) fn place_of(bytes: &[u8], wanted: u8) -> usize
     ensures within { result ≤ length bytes.now }
     ensures before { (k : ℕ) → k < result → slice_index bytes.now k ≢ wanted }
     ensures found { result < length bytes.now → slice_index bytes.now result ≡ wanted }
