@@ -1,0 +1,4 @@
+pub mod Splitting
+pub mod Fields
+pub mod Lists
+pub mod Lines

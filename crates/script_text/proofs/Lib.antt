@@ -1,0 +1,6 @@
+pub mod Played
+pub mod Counts
+pub mod Lines
+pub mod SetupGrowth
+pub mod RangesKept
+pub mod ScriptRun
