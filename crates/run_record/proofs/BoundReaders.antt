@@ -1,5 +1,5 @@
 -- The setup of a record that is read stands where it was read, and one that stands there is read.
-use Rattle.std.proofs.Common.{◌≡◌, ℕ, zero, suc, ◌+◌, ◌*◌, ◌/◌, ◌^◌, ◌<◌, ◌≤◌, ◌==◌, Bool, true, false, not, cond, ltb, List, [], ◌∷◌, ◌++◌, length, get_or, take, drop, sum, Result, Ok, Err, refl, sym, ap, subst, ◌∙◌, arith}
+use Rattle.std.proofs.Common.{◌≡◌, ℕ, zero, suc, ◌+◌, ◌*◌, ◌/◌, ◌^◌, ◌<◌, ◌≤◌, ◌==◌, Bool, true, false, not, cond, ltb, List, [], ◌∷◌, ◌++◌, length, get_or, take, drop, sum, Result, Ok, Err, inl, inr, refl, sym, ap, subst, ◌∙◌, arith}
 use Rattle.std.specs.Prelude.{nat_lt}
 use Rattle.std.specs.Int.{w32, from_be_bytes, to_be_bytes}
 use Rattle.std.specs.List.{flat_map}
@@ -21,8 +21,7 @@ use Rattle.run_record.specs.declared.parts.Bound.{Bound}
 use Rattle.run_record.specs.declared.parts.Counts.{Counts}
 use Rattle.run_record.specs.RecordBytes.{bound_bytes, setup_bytes}
 use Rattle.run_record.specs.EntriesAt.{AreCounts, mark_at, counts_at, loan_bound, loans_at, bound_fields_at}
-use Rattle.run_record.specs.RecordAt.{Part, part_of, keeping, bound_at, bounds_at, setup_from, setup_at}
-use Rattle.run_record.specs.RecordAt as whole
+use Rattle.run_record.specs.RecordAt.{Part, then_part, part_of, bound_at, bounds_at, setup_from, setup_at}
 use Rattle.run_record.proofs.FieldReaders.{and_then_if}
 use Rattle.run_record.proofs.OkParts.{ok_of, ok_bind, same_reader, kept_reader, part_reader}
 use Rattle.run_record.proofs.SetupRows.{bound_text, bounds_of, spelled_bounds, AreLoans, IsBound, AreBounds, bounds_back, bounds_are_setup, counts_of, setup_bounds, length-bounds_of, setup_back, setup_counts}
@@ -191,7 +190,7 @@ passes_not alpha total le = grind (arith, nat_tests)
 bound_reader : (replicas owner : ℕ) → Reader (BoundText replicas owner) (λ bytes place. ok_of (bound_at replicas owner bytes place))
 unfolding bound_at
 bound_reader replicas owner =
-    said (kept_reader (λ (b : Bound). not (nat_lt b.alpha (sum b.loans))) (λ bytes place. fault.Bytes place kind.LoansOver) {read = λ bytes place. part_of (length bytes) (bound_fields_at replicas owner bytes place)} (part_reader (fields_reader replicas owner))) to from
+    said (kept_reader (λ (b : Bound). not (nat_lt b.alpha (sum b.loans))) (λ bytes place. fault.Bytes place kind.LoansOver) (λ bytes place. part_of (length bytes) (bound_fields_at replicas owner bytes place)) (part_reader (fields_reader replicas owner))) to from
   where
     to : (bound : Bound) (text : List ℕ)
         → BoundFields replicas owner bound text × (not (nat_lt bound.alpha (sum bound.loans)) ≡ true)
@@ -203,11 +202,22 @@ bound_reader replicas owner =
         → BoundFields replicas owner bound text × (not (nat_lt bound.alpha (sum bound.loans)) ≡ true)
     from bound text s = ((s.0.alpha, s.0.long, s.0.loans, s.1), passes_not bound.alpha (sum bound.loans) s.0.total)
 
-abbrev BoundsText : ℕ → ℕ → ℕ → ℕ → List Bound → List ℕ → Type 0
+abbrev pub BoundsText : ℕ → ℕ → ℕ → ℕ → List Bound → List ℕ → Type 0
 BoundsText replicas conits count row bounds text =
     (length bounds ≡ count) × AreBounds replicas conits row bounds × (text ≡ flat_map bound_text bounds)
 
-bounds_reader : (replicas conits count row : ℕ) → Reader (BoundsText replicas conits count row) (λ bytes place. ok_of (bounds_at replicas conits count row bytes place))
+-- one more in front of what is read
+abbrev before : Bound → Field (List Bound) → Field (List Bound)
+before bound read = read >>= λ others. Ok (bound ∷ others.0, others.1)
+
+abbrev part_before : Bound → Part (List Bound) → Part (List Bound)
+part_before bound read = then_part read (λ others. Ok (bound ∷ others.0, others.1))
+
+before_part : (bound : Bound) (read : Part (List Bound)) → ok_of (part_before bound read) ≡ before bound (ok_of read)
+before_part bound (Ok others) = refl
+before_part bound (Err f) = refl
+
+pub bounds_reader : (replicas conits count row : ℕ) → Reader (BoundsText replicas conits count row) (λ bytes place. ok_of (bounds_at replicas conits count row bytes place))
 unfolding bounds_at
 bounds_reader replicas conits zero row = said (given []) to from
   where
@@ -219,15 +229,15 @@ bounds_reader replicas conits zero row = said (given []) to from
     from (x ∷ xs) text s = absurd (omega (arith, s.0))
 bounds_reader replicas conits (suc count) row =
     let more : Reader (Then (BoundText replicas (row / conits)) (λ b. Made (BoundsText replicas conits count (suc row)) (λ bs. b ∷ bs)))
-    (λ bytes place. ok_of (bound_at replicas (row / conits) bytes place) >>= λ bound. ok_of (bounds_at replicas conits count (suc row) bytes bound.1) >>= λ others. Ok (bound.0 ∷ others.0, others.1)) =
+    (λ bytes place. ok_of (bound_at replicas (row / conits) bytes place) >>= λ bound. before bound.0 (ok_of (bounds_at replicas conits count (suc row) bytes bound.1))) =
     and_then (bound_reader replicas (row / conits)) (λ b. making (bounds_reader replicas conits count (suc row)) (λ bs. b ∷ bs)) in
     said (same_reader more
     (λ bytes place. ok_bind (bound_at replicas (row / conits) bytes place) _ ∙ after bytes (ok_of (bound_at replicas (row / conits) bytes place)))) to from
   where
     after : (bytes : List ℕ) (first : Field Bound)
-        → (first >>= λ bound. ok_of (whole.then_part (bounds_at replicas conits count (suc row) bytes bound.1) (λ others. Ok (bound.0 ∷ others.0, others.1))))
-        ≡ (first >>= λ bound. ok_of (bounds_at replicas conits count (suc row) bytes bound.1) >>= λ others. Ok (bound.0 ∷ others.0, others.1))
-    after bytes (Ok bound) = ok_bind (bounds_at replicas conits count (suc row) bytes bound.1) _
+        → (first >>= λ bound. ok_of (part_before bound.0 (bounds_at replicas conits count (suc row) bytes bound.1)))
+        ≡ (first >>= λ bound. before bound.0 (ok_of (bounds_at replicas conits count (suc row) bytes bound.1)))
+    after bytes (Ok bound) = before_part bound.0 (bounds_at replicas conits count (suc row) bytes bound.1)
     after bytes (Err f) = refl
 
     to : (bounds : List Bound) (text : List ℕ)
@@ -260,19 +270,33 @@ setup_spelled counts bounds good many are =
     let rows = spelled_bounds s ∙ ap (flat_map bound_text) (bounds_back counts bounds good many are) in
     ap (λ text. counts_bytes counts ++ text) (sym rows)
 
+-- the setup of the bounds that are read
+abbrev made : Counts → Field (List Bound) → Field Setup
+made counts read = read >>= λ bounds. Ok (setup_from counts bounds.0, bounds.1)
+
+abbrev part_made : Counts → Part (List Bound) → Part Setup
+part_made counts read = then_part read (λ bounds. Ok (setup_from counts bounds.0, bounds.1))
+
+made_part : (counts : Counts) (read : Part (List Bound)) → ok_of (part_made counts read) ≡ made counts (ok_of read)
+made_part counts (Ok bounds) = refl
+made_part counts (Err f) = refl
+
+abbrev bounds_behind : Counts → List ℕ → ℕ → Part (List Bound)
+bounds_behind counts = bounds_at counts.replicas counts.conits (counts.replicas * counts.conits) 0
+
 pub setup_reader : Reader (SpelledAs IsSetup setup_bytes) (λ bytes place. ok_of (setup_at bytes place))
-unfolding setup_at counts_of
+unfolding setup_at
 setup_reader =
     let parts : Reader SetupParts
-    (λ bytes place. ok_of (part_of (length bytes) (counts_at bytes place)) >>= λ counts. ok_of (bounds_at counts.0.replicas counts.0.conits (counts.0.replicas * counts.0.conits) 0 bytes counts.1) >>= λ bounds. Ok (setup_from counts.0 bounds.0, bounds.1)) =
+    (λ bytes place. ok_of (part_of (length bytes) (counts_at bytes place)) >>= λ counts. made counts.0 (ok_of (bounds_behind counts.0 bytes counts.1))) =
     and_then (part_reader counts_reader) (λ counts. making (bounds_reader counts.replicas counts.conits (counts.replicas * counts.conits) 0) (setup_from counts)) in
     said (same_reader parts
     (λ bytes place. ok_bind (part_of (length bytes) (counts_at bytes place)) _ ∙ after bytes (ok_of (part_of (length bytes) (counts_at bytes place))))) to from
   where
     after : (bytes : List ℕ) (first : Field Counts)
-        → (first >>= λ counts. ok_of (whole.then_part (bounds_at counts.0.replicas counts.0.conits (counts.0.replicas * counts.0.conits) 0 bytes counts.1) (λ bounds. Ok (setup_from counts.0 bounds.0, bounds.1))))
-        ≡ (first >>= λ counts. ok_of (bounds_at counts.0.replicas counts.0.conits (counts.0.replicas * counts.0.conits) 0 bytes counts.1) >>= λ bounds. Ok (setup_from counts.0 bounds.0, bounds.1))
-    after bytes (Ok counts) = ok_bind (bounds_at counts.0.replicas counts.0.conits (counts.0.replicas * counts.0.conits) 0 bytes counts.1) _
+        → (first >>= λ counts. ok_of (part_made counts.0 (bounds_behind counts.0 bytes counts.1)))
+        ≡ (first >>= λ counts. made counts.0 (ok_of (bounds_behind counts.0 bytes counts.1)))
+    after bytes (Ok counts) = made_part counts.0 (bounds_behind counts.0 bytes counts.1)
     after bytes (Err f) = refl
 
     to : (s : Setup) (text : List ℕ) → SetupParts s text → SpelledAs IsSetup setup_bytes s text
@@ -284,7 +308,7 @@ setup_reader =
 
     from : (s : Setup) (text : List ℕ) → SpelledAs IsSetup setup_bytes s text → SetupParts s text
     from s text p =
-        let counts = counts_of s p.0 in
+        let counts = counts_of s in
         let bounds = bounds_of s in
         let spells : text ≡ counts_bytes counts ++ flat_map bound_text bounds = p.1 ∙ ap (λ rows. counts_bytes counts ++ rows) (spelled_bounds s) in (
           counts,

@@ -1,5 +1,6 @@
 -- Parts of a record, as readers see them: what matters is what was read, whichever the fault.
 use Rattle.std.proofs.Common.{◌≡◌, ℕ, ◌+◌, ◌≤◌, Bool, true, false, cond, List, length, Result, Ok, Err, refl, sym, ap, subst, ◌∙◌, arith}
+use Rattle.std.specs.Result.{IfOk}
 use Rattle.run_model.specs.declared.fields.FieldFault.{FieldFault}
 use Rattle.run_model.specs.declared.fields.FieldFault.TheVariants as field
 use Rattle.run_model.specs.Bytes.{◌>>=◌, Field}
@@ -12,6 +13,13 @@ use Rattle.run_record.specs.RecordAt as whole
 abbrev pub ok_of : {A : Type 0} → Result A RecordFault → Result A FieldFault
 ok_of (Ok x) = Ok x
 ok_of (Err fault) = Err field.Short
+
+-- a good one
+abbrev pub good : {A : Type 0} → A → Result A RecordFault
+good x = Ok x
+
+good_is : {A : Type 0} (x y : A) → good x ≡ good y → x ≡ y
+good_is x y e = cc
 
 pub ok_bind : {A B : Type 0} (read : Result A RecordFault) (next : A → Result B RecordFault)
     → ok_of (whole.then_part read next) ≡ (ok_of read >>= λ x. ok_of (next x))
@@ -65,10 +73,10 @@ keeps : {A : Type 0} (rule : A → Bool) (fault : RecordFault) (read : Part A) (
 keeps rule fault read x next e good = rw (is_ok read (x, next) e, good) refl
 
 -- what keeps a rule is read
-pub kept_reader : {A : Type 0} {Spells : A → List ℕ → Type 0} (rule : A → Bool) (fault : List ℕ → ℕ → RecordFault) {read : List ℕ → ℕ → Part A}
+pub kept_reader : {A : Type 0} {Spells : A → List ℕ → Type 0} (rule : A → Bool) (fault : List ℕ → ℕ → RecordFault) (read : List ℕ → ℕ → Part A)
     → Reader Spells (λ bytes place. ok_of (read bytes place))
     → Reader (λ x text. Spells x text × (rule x ≡ true)) (λ bytes place. ok_of (keeping rule (fault bytes place) (read bytes place)))
-kept_reader rule fault {read = read} reader = record {
+kept_reader rule fault read reader = record {
   taken = λ bytes place x next fits e.
       let k = kept rule (fault bytes place) (read bytes place) x next e in
       let t = reader.taken bytes place x next fits k.0 in
@@ -76,3 +84,11 @@ kept_reader rule fault {read = read} reader = record {
   again = λ bytes place x text fits within s stands.
       keeps rule (fault bytes place) (read bytes place) x (place + length text) (reader.again bytes place x text fits within s.0 stands) s.1;
 }
+
+-- what holds of all that was read holds of what was read in a part
+pub part_keeps : {A : Type 0} (P : A × ℕ → Type 0) (len : ℕ) (read : Field A) (x : A × ℕ)
+    → IfOk read P
+    → part_of len read ≡ good x
+    → P x
+part_keeps P len (Ok y) x holds e = subst P (good_is y x e) holds
+part_keeps P len (Err fault) x holds e = absurd cc

@@ -18,8 +18,7 @@ use Rattle.run_record.specs.declared.short.Short.{Short}
 use Rattle.run_record.specs.Records.{Held, IsHeld, IsShortOf}
 use Rattle.run_record.specs.RecordBytes.{setup_bytes, short_bytes, record_bytes}
 use Rattle.run_record.specs.EntriesAt.{shorts_at}
-use Rattle.run_record.specs.RecordAt.{Part, Tells, part_of, setup_at, count_at, body_at, record_at}
-use Rattle.run_record.specs.RecordAt as whole
+use Rattle.run_record.specs.RecordAt.{Part, Tells, then_part, part_of, setup_at, count_at, body_at, record_at}
 use Rattle.run_record.proofs.FieldReaders.{and_then_if}
 use Rattle.run_record.proofs.EntryReaders.{AreEntries, entries_reader}
 use Rattle.run_record.proofs.OkParts.{ok_of, ok_bind, is_ok, same_reader, kept_reader, part_reader}
@@ -36,7 +35,8 @@ entries_long (x ∷ xs) =
     let rest = entries_long xs in
     let both : length (short_bytes x ++ flat_map short_bytes xs) ≡ length (short_bytes x) + length (flat_map short_bytes xs) = length-append (short_bytes x) (flat_map short_bytes xs) in
     let here : 1 ≤ length (short_bytes x) = omega arith in
-    rw flat_map-cons (omega (arith, rest, both, here))
+    let same : length (flat_map short_bytes (x ∷ xs)) ≡ length (short_bytes x ++ flat_map short_bytes xs) = refl in
+    omega (arith, rest, both, here, same)
 
 all_entries_reader : (setup : Setup) → setup.replicas ≤ 256 → Reader (AllEntries setup) (λ bytes place. shorts_at setup.replicas setup.conits (length bytes) bytes place)
 all_entries_reader setup few = record {
@@ -49,6 +49,16 @@ all_entries_reader setup few = record {
       (entries_reader setup few (length bytes)).again bytes place x text fits within (s.0, omega (arith, inside, long, entries_long x), s.1) stands;
 }
 
+-- entries that were read are in range
+pub entries_good : (setup : Setup) (bytes : List ℕ) (place : ℕ) (shorts : List Short) (next : ℕ)
+    → setup.replicas ≤ 256
+    → AreBytes bytes
+    → part_of (length bytes) (shorts_at setup.replicas setup.conits (length bytes) bytes place) ≡ Ok (shorts, next)
+    → All (IsShortOf setup) shorts
+entries_good setup bytes place shorts next few fits e =
+    let t = (part_reader (all_entries_reader setup few)).taken bytes place shorts next fits (ap ok_of e) in
+    t.1.0
+
 -- ---- the count
 
 abbrev IsCount : List Short → ℕ → List ℕ → Type 0
@@ -57,7 +67,7 @@ IsCount shorts count text = IsNumber 0 (2 ^ 64) count text × ((count == length 
 count_reader : (shorts : List Short) → Reader (IsCount shorts) (λ bytes place. ok_of (count_at shorts bytes place))
 unfolding count_at
 count_reader shorts =
-    kept_reader (λ count. count == length shorts) (λ bytes place. fault.Bytes place kind.WrongCount) {read = λ bytes place. part_of (length bytes) (any_number_at bytes place)} (part_reader any_number)
+    kept_reader (λ count. count == length shorts) (λ bytes place. fault.Bytes place kind.WrongCount) (λ bytes place. part_of (length bytes) (any_number_at bytes place)) (part_reader any_number)
 
 -- ---- the whole but for what follows
 
@@ -75,33 +85,42 @@ CanBeSpelled held = IsHeld held × (length held.entries < 2 ^ 64)
 few_replicas : (setup : Setup) → IsSetup setup → setup.replicas ≤ 256
 few_replicas setup is = omega (arith, (HasCounts-from_IsSetup setup is).replicas_high)
 
-abbrev after_entries : List ℕ → Setup → List Short × ℕ → Field Held
-after_entries bytes setup entries =
-    ok_of (count_at entries.0 bytes entries.1) >>= λ count. Ok (record { setup = setup; entries = entries.0 }, count.1)
+-- the record of what was read, once its count is read
+abbrev counted_as : Setup → List Short → Field ℕ → Field Held
+counted_as setup entries read = read >>= λ count. Ok (record { setup = setup; entries = entries }, count.1)
 
-abbrev after_setup : List ℕ → Setup × ℕ → Field Held
-after_setup bytes setup =
-    ok_of (part_of (length bytes) (shorts_at setup.0.replicas setup.0.conits (length bytes) bytes setup.1)) >>= λ entries. after_entries bytes setup.0 entries
+abbrev part_counted : Setup → List Short → Part ℕ → Part Held
+part_counted setup entries read = then_part read (λ count. Ok (record { setup = setup; entries = entries }, count.1))
+
+counted_part : (setup : Setup) (entries : List Short) (read : Part ℕ) → ok_of (part_counted setup entries read) ≡ counted_as setup entries (ok_of read)
+counted_part setup entries (Ok count) = refl
+counted_part setup entries (Err f) = refl
+
+-- once its entries are read
+abbrev after_entries : List ℕ → Setup → Field (List Short) → Field Held
+after_entries bytes setup read = read >>= λ entries. counted_as setup entries.0 (ok_of (count_at entries.0 bytes entries.1))
+
+abbrev part_entries : List ℕ → Setup → Part (List Short) → Part Held
+part_entries bytes setup read = then_part read (λ entries. part_counted setup entries.0 (count_at entries.0 bytes entries.1))
+
+entries_part : (bytes : List ℕ) (setup : Setup) (read : Part (List Short)) → ok_of (part_entries bytes setup read) ≡ after_entries bytes setup (ok_of read)
+entries_part bytes setup (Ok entries) = counted_part setup entries.0 (count_at entries.0 bytes entries.1)
+entries_part bytes setup (Err f) = refl
+
+abbrev entries_behind : List ℕ → Setup × ℕ → Part (List Short)
+entries_behind bytes setup = part_of (length bytes) (shorts_at setup.0.replicas setup.0.conits (length bytes) bytes setup.1)
 
 pub body_reader : Reader (SpelledAs CanBeSpelled record_bytes) (λ bytes place. ok_of (body_at bytes place))
 unfolding body_at make_held
 body_reader =
-    let parts : Reader BodyParts (λ bytes place. ok_of (setup_at bytes place) >>= λ setup. after_setup bytes setup) =
+    let parts : Reader BodyParts (λ bytes place. ok_of (setup_at bytes place) >>= λ setup. after_entries bytes setup.0 (ok_of (entries_behind bytes setup))) =
     and_then_if setup_reader (λ setup text is. and_then (part_reader (all_entries_reader setup (few_replicas setup is.0))) (λ entries. making (count_reader entries) (λ count. make_held setup entries))) in
     said (same_reader parts (λ bytes place. ok_bind (setup_at bytes place) _ ∙ past_setup bytes (ok_of (setup_at bytes place)))) to from
   where
-    past_entries : (bytes : List ℕ) (setup : Setup) (read : Field (List Short))
-        → (read >>= λ entries. ok_of (whole.then_part (count_at entries.0 bytes entries.1) (λ count. Ok (record { setup = setup; entries = entries.0 }, count.1))))
-        ≡ (read >>= λ entries. after_entries bytes setup entries)
-    past_entries bytes setup (Ok entries) = ok_bind (count_at entries.0 bytes entries.1) _
-    past_entries bytes setup (Err f) = refl
-
     past_setup : (bytes : List ℕ) (read : Field Setup)
-        → (read >>= λ setup. ok_of (whole.then_part (part_of (length bytes) (shorts_at setup.0.replicas setup.0.conits (length bytes) bytes setup.1)) (λ entries. whole.then_part (count_at entries.0 bytes entries.1) (λ count. Ok (record { setup = setup.0; entries = entries.0 }, count.1)))))
-        ≡ (read >>= λ setup. after_setup bytes setup)
-    past_setup bytes (Ok setup) =
-        let entries = part_of (length bytes) (shorts_at setup.0.replicas setup.0.conits (length bytes) bytes setup.1) in
-        ok_bind entries _ ∙ past_entries bytes setup.0 (ok_of entries)
+        → (read >>= λ setup. ok_of (part_entries bytes setup.0 (entries_behind bytes setup)))
+        ≡ (read >>= λ setup. after_entries bytes setup.0 (ok_of (entries_behind bytes setup)))
+    past_setup bytes (Ok setup) = entries_part bytes setup.0 (entries_behind bytes setup)
     past_setup bytes (Err f) = refl
 
     regroup : (a b c : List ℕ) → a ++ ((b ++ 255 ∷ []) ++ c) ≡ a ++ (b ++ 255 ∷ c)
@@ -143,11 +162,11 @@ all_there : (text bytes : List ℕ) → StandsAt text bytes 0 → length bytes �
 all_there text bytes stands most = sym (take_all (length text) bytes most) ∙ stands
 
 -- a good one
-abbrev good_one : {A : Type 0} → A → Result A RecordFault
-good_one x = Ok x
+abbrev good_value : {A : Type 0} → A → Result A RecordFault
+good_value x = Ok x
 
 ends_there : {A : Type 0} (past : Bool) (x y : A) (f : RecordFault)
-    → cond past (Err f) (Ok x) ≡ good_one y
+    → cond past (Err f) (Ok x) ≡ good_value y
     → (past ≡ false) × (x ≡ y)
 ends_there true x y f e = absurd cc
 ends_there false x y f e = (refl, cc)
@@ -161,7 +180,7 @@ whole_taken bytes held fits e = from_body (body_at bytes 0) refl e
   where
     from_body : (read : Part Held)
         → body_at bytes 0 ≡ read
-        → whole.then_part read (λ body. cond (nat_lt body.1 (length bytes)) (Err (fault.Bytes body.1 kind.AfterEnd)) (Ok body.0)) ≡ Ok held
+        → then_part read (λ body. cond (nat_lt body.1 (length bytes)) (Err (fault.Bytes body.1 kind.AfterEnd)) (Ok body.0)) ≡ Ok held
         → CanBeSpelled held × (bytes ≡ record_bytes held)
     from_body (Err f) was e = absurd cc
     from_body (Ok body) was e =
@@ -217,7 +236,7 @@ spelled_is_read bytes result fits long told held good spells enough =
     let again = whole_again bytes held fits (good, omega (arith, counted bytes held spells, long)) spells in
     told_is result told again enough
   where
-    never : (read : Result Held RecordFault) (f : RecordFault) → read ≡ Err f → read ≡ good_one held → ⊥
+    never : (read : Result Held RecordFault) (f : RecordFault) → read ≡ Err f → read ≡ good_value held → ⊥
     never read f p q = cc
 
     told_is : (result : Result Held RecordFault)

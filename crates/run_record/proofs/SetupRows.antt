@@ -52,9 +52,13 @@ pieces_join ys n zero =
     let none : 0 * n ≡ 0 = omega arith in
     rw none refl
 pieces_join ys n (suc count) =
-    let next : suc count ≡ count + 1 = omega arith in
-    let more : (count + 1) * n ≡ count * n + n = omega arith in
-    rw (next, more, take-add) (flat_map_range_more (λ k. take n (drop (k * n) ys)) count ∙ ap (λ front. front ++ take n (drop (count * n) ys)) (pieces_join ys n count))
+    let next : count + 1 ≡ suc count = omega arith in
+    let more : count * n + n ≡ (count + 1) * n = omega arith in
+    let piece : ℕ → List ℕ = λ k. take n (drop (k * n) ys) in
+    let one : flat_map piece (range_with_len 0 (count + 1)) ≡ take ((count + 1) * n) ys =
+    flat_map_range_more piece count ∙ ap (λ front. front ++ take n (drop (count * n) ys)) (pieces_join ys n count)
+    ∙ sym (take-add (count * n) n ys) ∙ ap (λ k. take k ys) more in
+    subst (λ c. flat_map piece (range_with_len 0 c) ≡ take (c * n) ys) next one
 
 -- ---- the bounds of a setup
 
@@ -143,8 +147,9 @@ pub loans_fit : (owner holder : ℕ) (loans : List ℕ)
     → AreLoans owner holder loans
 loans_fit owner holder [] none small = tt
 loans_fit owner holder (x ∷ xs) none small =
-    let here : x ≤ ALPHA_MAX = omega arith in
-    let rest : sum xs ≤ ALPHA_MAX = omega arith in
+    let both : sum (x ∷ xs) ≡ x + sum xs = refl in
+    let here : x ≤ ALPHA_MAX = omega (arith, both, small) in
+    let rest : sum xs ≤ ALPHA_MAX = omega (arith, both, small) in
     (loan_fits owner holder x (λ same. none 0 (omega (arith, same))) here, loans_fit owner (suc holder) xs (λ k at. none (suc k) (omega (arith, at))) rest)
 
 -- ---- from bounds to their setup
@@ -248,12 +253,12 @@ module _ (counts : Counts) (bounds : List Bound) (good : AreCounts counts) (many
 
 -- ---- from a setup to its bounds
 
+abbrev pub counts_of : Setup → Counts
+counts_of s = record { replicas = s.replicas; conits = s.conits }
+
 module _ (s : Setup) (is : IsSetup s) where
   has : HasCounts s
   has = HasCounts-from_IsSetup s is
-
-  pub counts_of : Counts
-  counts_of = record { replicas = s.replicas; conits = s.conits }
 
   row_bound : (place : ℕ) → place < s.replicas * s.conits → IsBound s.replicas (place / s.conits) (at_row s place)
   row_bound place lt =
@@ -302,10 +307,8 @@ module _ (s : Setup) (is : IsSetup s) where
       ∙ pieces_join s.loans s.replicas (s.replicas * s.conits)
       ∙ take_all (s.replicas * s.conits * s.replicas) s.loans (omega (arith, has.loans))
 
-  pub setup_back : setup_from counts_of (bounds_of s) ≡ s
-  unfolding counts_of
+  pub setup_back : setup_from (counts_of s) (bounds_of s) ≡ s
   setup_back = rw (alphas_back, loans_back) refl
 
-  pub setup_counts : AreCounts counts_of
-  unfolding counts_of
+  pub setup_counts : AreCounts (counts_of s)
   setup_counts = (has.replicas_low, has.replicas_high, has.conits_low, has.conits_high)
