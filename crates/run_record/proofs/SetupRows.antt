@@ -8,6 +8,7 @@ use Rattle.std.proofs.lemmas.List.{take_at, drop_at, drop-drop, ext_get_or, get_
 use Rattle.std.proofs.lemmas.List.Concat.{flat_map-cons}
 use Rattle.std.proofs.lemmas.List.Folds.{flat_map-map}
 use Rattle.std.proofs.lemmas.List.FromFn.{get_or-map-range_with_len, length-map-range_with_len}
+use Rattle.std.proofs.lemmas.List.Sums.{sum_by-cons}
 use Rattle.std.proofs.lemmas.Nat.{div-add-mod', div_below}
 use Rattle.std.proofs.Math.Seq.{take-add}
 use Rattle.tact_base.specs.declared.limits.TheConstants.{ALPHA_MAX, CONITS_MAX, REPLICAS_MAX, REPLICAS_MIN}
@@ -147,7 +148,7 @@ pub loans_fit : (owner holder : ℕ) (loans : List ℕ)
     → AreLoans owner holder loans
 loans_fit owner holder [] none small = tt
 loans_fit owner holder (x ∷ xs) none small =
-    let both : sum (x ∷ xs) ≡ x + sum xs = refl in
+    let both : sum (x ∷ xs) ≡ x + sum xs = sum_by-cons (λ y. y) x xs in
     let here : x ≤ ALPHA_MAX = omega (arith, both, small) in
     let rest : sum xs ≤ ALPHA_MAX = omega (arith, both, small) in
     (loan_fits owner holder x (λ same. none 0 (omega (arith, same))) here, loans_fit owner (suc holder) xs (λ k at. none (suc k) (omega (arith, at))) rest)
