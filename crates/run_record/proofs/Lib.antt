@@ -1,3 +1,5 @@
+pub mod SplitLemmas
+pub mod FieldLemmas
 pub mod FieldReaders
 pub mod ActReaders
 pub mod EntryReaders

@@ -1,3 +1,6 @@
+pub mod Splitting
+pub mod Fields
+pub mod Lines
 pub mod Records
 pub mod RecordBytes
 pub mod RecordText

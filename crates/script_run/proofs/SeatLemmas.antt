@@ -10,8 +10,7 @@ use Rattle.tact_base.specs.declared.write.Cover.{Cover}
 use Rattle.tact_base.specs.declared.write.Op.{Op}
 use Rattle.tact_base.specs.declared.write.Write.{Write}
 use Rattle.run_model.specs.Histories.{sent_in, sent_by_act, is_call_of, calls_in, greatest}
-use Rattle.run_model.specs.OwnWrites.{own}
-use Rattle.run_model.specs.Taking.{OriginState, origin_state, after_taking, told_have, log_of, clock}
+use Rattle.run_model.specs.Taking.{OriginState, origin_state, after_taking, told_have, log_of}
 use Rattle.run_model.specs.declared.call.Request.TheVariants as request
 use Rattle.run_model.specs.declared.call.Reply.TheVariants as reply
 use Rattle.run_model.specs.declared.entry.Act.TheVariants as act

@@ -1,7 +1,7 @@
 -- A text that is read line by line.
 use Rattle.std.proofs.Common.{◌≡◌, ℕ, ◌+◌, List, ◌∷◌, ap}
 use Rattle.run_model.specs.declared.script_line.Line.{Line}
-use Rattle.script_run.specs.Splitting.{pieces_of, raw_lines}
+use Rattle.run_record.specs.Splitting.{pieces_of, raw_lines}
 use Rattle.script_run.specs.Scripts.{lines_after, goes_on, read_from}
 
 -- what is read of a text is what its first line makes, and then the others

@@ -12,7 +12,7 @@ use Rattle.run_model.specs.declared.status.LineKind.TheVariants.{NoStart, Second
 use Rattle.script_run.specs.declared.word.Word.{Word}
 use Rattle.script_run.specs.declared.word.Word.TheVariants as word
 use Rattle.script_run.specs.Words.{word_of}
-use Rattle.script_run.specs.Fields.{◌>>=◌, Tokens, token_at, count_at, number_at, replica_at, other_replica_at, client_at, op_at, end_at}
+use Rattle.run_record.specs.Fields.{◌>>=◌, Tokens, token_at, count_at, number_at, replica_at, other_replica_at, client_at, op_at, end_at}
 
 -- one alpha for every owner and conit
 abbrev pub opening_alphas : ℕ → ℕ → ℕ → List ℕ

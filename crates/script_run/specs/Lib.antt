@@ -1,6 +1,4 @@
-pub mod Splitting
 pub mod Words
-pub mod Fields
 pub mod Forms
 pub mod Scripts
 pub mod Seats

@@ -1,39 +1,23 @@
 -- A whole script, line by line: its lines, or the first fault and its line.
-use Rattle.std.specs.Prelude.{◌≡◌, ℕ, ◌+◌, ◌==◌, Bool, true, false, ◌||◌, nat_lt, List, [], ◌∷◌, ◌++◌, length, Option, Some, None, Result, Ok, Err, if◌then◌else◌}
-use Rattle.std.specs.List.{list_any}
+use Rattle.std.specs.Prelude.{◌≡◌, ℕ, ◌+◌, true, nat_lt, List, [], ◌∷◌, ◌++◌, Option, Some, None, Result, Ok, Err, if◌then◌else◌}
 use Rattle.run_model.specs.declared.script_line.Line.{Line}
 use Rattle.run_model.specs.declared.status.LineKind.{LineKind}
-use Rattle.run_model.specs.declared.status.LineKind.TheVariants.{TooManyLines, LongLine, BadByte, NoStart}
-use Rattle.tact_base.specs.declared.limits.TheConstants.{SCRIPT_LINES, LINE_MAX}
+use Rattle.run_model.specs.declared.status.LineKind.TheVariants.{TooManyLines, NoStart}
+use Rattle.tact_base.specs.declared.limits.TheConstants.{SCRIPT_LINES}
 use Rattle.script_run.specs.declared.fault.ScriptFault.{ScriptFault}
 use Rattle.script_run.specs.declared.fault.ScriptFault.TheVariants as faults
-use Rattle.script_run.specs.Splitting.{raw_lines, tokens}
-use Rattle.script_run.specs.Fields.{◌>>=◌, Tokens}
+use Rattle.run_record.specs.Splitting.{raw_lines, tokens}
+use Rattle.run_record.specs.Fields.{◌>>=◌, Tokens}
+use Rattle.run_record.specs.Lines.{fault_of_bytes, is_skipped}
 use Rattle.script_run.specs.Forms.{first_at, later_at, of_whole, is_sent, sent_by, setup_of, opening, NamesOnly}
 use Rattle.tact_base.specs.Setup.{IsSetup}
 use Rattle.run_model.specs.declared.script_line.Line.TheVariants as line
 use Rattle.script_run.specs.declared.reader.Reader.{Reader}
 
--- bytes from 32 to 126 are the good ones
-abbrev pub is_bad_byte : ℕ → Bool
-is_bad_byte byte = nat_lt byte 32 || nat_lt 126 byte
-
 -- what is judged of every line, whatever it says: its number, its length, its bytes
 unfoldable pub fault_of : ℕ → List ℕ → Option LineKind
 fault_of number raw =
-    if nat_lt SCRIPT_LINES number then Some TooManyLines
-    else if nat_lt LINE_MAX (length raw) then Some LongLine
-    else if list_any is_bad_byte raw then Some BadByte
-    else None
-
--- a line without tokens is skipped, and one whose first token begins with `#`
-abbrev pub is_comment : List ℕ → Bool
-is_comment [] = false
-is_comment (byte ∷ bytes) = byte == 35
-
-abbrev pub is_skipped : Tokens → Bool
-is_skipped [] = true
-is_skipped (token ∷ rest) = is_comment token
+    if nat_lt SCRIPT_LINES number then Some TooManyLines else fault_of_bytes raw
 
 -- a later line that isn't skipped, where there are so many replicas and these messages were sent
 unfoldable pub later_line : ℕ → List (List ℕ) → Tokens → Result Line LineKind

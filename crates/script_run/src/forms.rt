@@ -5,13 +5,14 @@ ghost use Rattle.tact_base.specs.declared.limits.TheConstants.{CONITS_MAX, REPLI
 ghost use Rattle.tact_base.specs.Setup.{IsSetup};
 ghost use Rattle.script_run.specs.Scripts.{IsScript};
 ghost use Rattle.run_model.specs.declared.status.LineKind.TheVariants.{LoansOver};
-ghost use Rattle.script_run.specs.Splitting.{tokens};
-ghost use Rattle.script_run.specs.Fields.{Gives};
+ghost use Rattle.run_record.specs.Splitting.{tokens};
+ghost use Rattle.run_record.specs.Fields.{Gives};
 ghost use Rattle.script_run.specs.Forms.{opening, opening_row, opening_loans, is_over, setup_of, start_at, write_at, send_at, take_at, show_at, NamesOnly};
 
-use crate::fault::LineFault;
-use crate::fields::{client_at, count_at, end_at, number_at, op_at, other_replica_at, replica_at};
 use run_model::{Config, ConfigFault, Line, LineKind};
+use run_record::{
+    LineFault, client_at, count_at, end_at, number_at, op_at, other_replica_at, replica_at,
+};
 use std::alloc::Global;
 use tact_base::{
     ALPHA_MAX, AMOUNT_MAX, CONITS_MAX, NoMemory, Numbers, REPLICAS_MAX, REPLICAS_MIN, Weights,

@@ -2,7 +2,6 @@
 #![tactic(auto)]
 
 mod fault;
-mod fields;
 mod forms;
 mod playing;
 mod reader;
@@ -12,7 +11,6 @@ mod seat_sending;
 mod seat_taking;
 mod sent;
 mod show;
-mod splitting;
 mod top;
 mod word;
 mod world;

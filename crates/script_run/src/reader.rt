@@ -1,24 +1,23 @@
 //! The reader of a script, line by line.
 ghost use Rattle.std.specs.Prelude.{◌≡◌, ◌+◌, ◌<◌, ◌≤◌, ℕ, List, [], ◌∷◌, ◌++◌, OnOk, IfOk, IfErr, IfNone, IfSome, Result, Ok, Err, Option, Some, None, length};
 ghost use Rattle.run_model.specs.declared.status.LineKind.{LineKind};
-ghost use Rattle.std.specs.List.{list_any};
 ghost use Rattle.std.specs.Option.{option_map};
 ghost use Rattle.tact_base.specs.declared.limits.TheConstants.{SCRIPT_LINES};
 ghost use Rattle.run_model.specs.declared.script_line.Line.{Line};
-ghost use Rattle.script_run.specs.Splitting.{tokens, raw_lines};
-ghost use Rattle.script_run.specs.Fields.{Gives, Fails};
+ghost use Rattle.run_record.specs.Splitting.{tokens, raw_lines};
+ghost use Rattle.run_record.specs.Fields.{Gives, Fails};
+ghost use Rattle.run_record.specs.Lines.{fault_of_bytes, is_skipped};
 ghost use Rattle.script_run.specs.Forms.{first_at, later_at, of_whole, sent_after, sent_by, setup_of, NamesOnly};
-ghost use Rattle.script_run.specs.Scripts.{is_bad_byte, is_comment, fault_of, is_skipped, later_line, line_after, with_line, lines_after, begun_by, read_from, goes_on, script_of, IsAddressed, FitsAfter, IsReading, IsScript, Reads};
+ghost use Rattle.script_run.specs.Scripts.{fault_of, later_line, line_after, with_line, lines_after, begun_by, read_from, goes_on, script_of, IsAddressed, FitsAfter, IsReading, IsScript, Reads};
 
-use crate::fault::{LineFault, ScriptFault};
-use crate::fields::token_at;
+use crate::fault::ScriptFault;
 use crate::forms::{send_at, show_at, start_at, take_at, write_at};
 use crate::sent::Sent;
-use crate::splitting::{next_token, split_first};
 use crate::word::{Word, word_of};
 use run_model::{Config, Line, LineKind};
+use run_record::{LineFault, fault_of_bytes, is_skipped, split_first, token_at};
 use std::alloc::Global;
-use tact_base::{Items, LINE_MAX, NoMemory, SCRIPT_LINES};
+use tact_base::{Items, NoMemory, SCRIPT_LINES};
 
 /// The lines of a script so far, the setup that the first made, and the messages that they sent.
 #[derive(Drop)]
@@ -36,37 +35,8 @@ fn fault_of(number: u64, raw: &[u8]) -> Option<LineKind>
 {
     if number > SCRIPT_LINES {
         Some(LineKind::TooManyLines)
-    } else if raw.len() > LINE_MAX {
-        Some(LineKind::LongLine)
-    } else if has_bad_byte(raw) {
-        Some(LineKind::BadByte)
     } else {
-        None
-    }
-}
-
-fn has_bad_byte(raw: &[u8]) -> bool
-    ensures { result ≡ list_any is_bad_byte raw.now }
-{
-    raw.iter().any(|byte| *byte < 32 || *byte > 126)
-}
-
-// Whether the line has no token, or its first begins with `#`.
-fn is_skipped(raw: &[u8]) -> bool
-    ensures { result ≡ is_skipped (tokens raw.now) }
-{
-    match next_token(raw) {
-        None => true,
-        Some((token, _)) => is_comment(token),
-    }
-}
-
-fn is_comment(token: &[u8]) -> bool
-    ensures { result ≡ is_comment token.now }
-{
-    match token {
-        [first, ..] => *first == b'#',
-        [] => false,
+        fault_of_bytes(raw)
     }
 }
 

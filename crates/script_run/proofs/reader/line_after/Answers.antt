@@ -1,8 +1,8 @@
 use Rattle.std.proofs.Common.{ap, sym, ◌∙◌, subst, length}
 use Rattle.std.proofs.lemmas.Result.{IfOk-weaker}
 use Rattle.tact_base.specs.Setup.{Setup}
-use Rattle.script_run.specs.Splitting.{tokens}
-use Rattle.script_run.specs.Fields.{Gives}
+use Rattle.run_record.specs.Splitting.{tokens}
+use Rattle.run_record.specs.Fields.{Gives}
 use Rattle.script_run.specs.Forms.{NamesOnly}
 use Rattle.script_run.specs.Scripts.{IsAddressed}
 use Rattle.script_run.proofs.ScriptLemmas.{length-sent_by, line_after_is}

@@ -1,6 +1,6 @@
 use Rattle.std.proofs.Common.{◌+◌, ◌≡◌, ◌<◌, ◌≤◌, [], length}
 use Rattle.tact_base.specs.declared.limits.TheConstants.{SCRIPT_LINES}
-use Rattle.script_run.specs.Splitting.{raw_lines}
+use Rattle.run_record.specs.Splitting.{raw_lines}
 use Rattle.script_run.specs.Scripts.{read_from, script_of}
 use Rattle.script_run.proofs.reader.read_first.Given as goal
 

@@ -1,8 +1,8 @@
 use Rattle.std.proofs.Common.{◌≤◌, arith}
 use Rattle.std.specs.Prelude.{unsigned_abs}
 use Rattle.std.proofs.lemmas.Int.{to_z-of_z}
-use Rattle.script_run.proofs.FieldLemmas.{whole_signed-most}
-use Rattle.script_run.proofs.fields.signed_of.Goals as goal
+use Rattle.run_record.proofs.FieldLemmas.{whole_signed-most}
+use Rattle.run_record.proofs.fields.signed_of.Goals as goal
 
 pub returns-in-Ok-clause-within : goal.returns-in-Ok-clause-within
 returns-in-Ok-clause-within c =

@@ -1,7 +1,7 @@
 use Rattle.std.proofs.Common.{arith, ◌+◌}
 use Rattle.std.proofs.lemmas.List.{take_rest, take_all, drop_all}
-use Rattle.script_run.proofs.SplitLemmas.{first_piece}
-use Rattle.script_run.proofs.splitting.split_first.Goals as goal
+use Rattle.run_record.proofs.SplitLemmas.{first_piece}
+use Rattle.run_record.proofs.splitting.split_first.Goals as goal
 
 pub returns-then-place-bytes-clause-pieces : goal.returns-then-place-bytes-clause-pieces
 returns-then-place-bytes-clause-pieces c some =

@@ -9,8 +9,8 @@ use Rattle.tact_base.specs.declared.write.Op.{Op}
 use Rattle.tact_base.specs.declared.write.Op.TheVariants.{Put, Add, Shift}
 use Rattle.run_model.specs.declared.status.LineKind.{LineKind}
 use Rattle.run_model.specs.declared.status.LineKind.TheVariants.{Missing, UnknownWord, NotNumber, OutOfRange, SameReplica}
-use Rattle.script_run.specs.declared.fault.LineFault.{LineFault}
-use Rattle.script_run.specs.declared.fault.LineFault.TheVariants as faults
+use Rattle.run_record.specs.declared.line_fault.LineFault.{LineFault}
+use Rattle.run_record.specs.declared.line_fault.LineFault.TheVariants as faults
 
 infixl 10 ◌>>=◌
 abbrev pub ◌>>=◌ : {A B : Type 0} → Result A LineKind → (A → Result B LineKind) → Result B LineKind

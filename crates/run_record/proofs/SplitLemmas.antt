@@ -1,7 +1,7 @@
 -- A text's first piece, and the pieces after it.
 use Rattle.std.proofs.Common.{◌≡◌, ◌≢◌, ℕ, zero, suc, ◌+◌, ◌<◌, ◌≤◌, true, false, eqb, List, [], ◌∷◌, length, get_or, take, drop, refl, ap, arith, eq-eqb}
 use Rattle.std.proofs.lemmas.Bool.Decides.{nat_tests}
-use Rattle.script_run.specs.Splitting.{with_front, pieces_of, tokens}
+use Rattle.run_record.specs.Splitting.{with_front, pieces_of, tokens}
 
 eqb_no : (a b : ℕ) → a ≢ b → eqb a b ≡ false
 eqb_no a b h = grind (arith, nat_tests)

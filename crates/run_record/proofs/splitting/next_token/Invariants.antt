@@ -1,6 +1,6 @@
 use Rattle.std.proofs.Common.{◌≡◌, length}
-use Rattle.script_run.specs.Splitting.{tokens}
-use Rattle.script_run.proofs.splitting.next_token.Given as goal
+use Rattle.run_record.specs.Splitting.{tokens}
+use Rattle.run_record.proofs.splitting.next_token.Given as goal
 
 abbrev pub invariant-loop-rest : goal.invariant-loop-rest
 invariant-loop-rest l = tokens l.rest ≡ tokens l.line

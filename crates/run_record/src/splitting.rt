@@ -1,6 +1,6 @@
 //! A text in lines, and a line in tokens.
 ghost use Rattle.std.specs.Prelude.{◌≡◌, ◌≢◌, ℕ, ◌∷◌, [], ◌<◌, ◌≤◌, length, slice_index, MatchOption};
-ghost use Rattle.script_run.specs.Splitting.{pieces_of, tokens};
+ghost use Rattle.run_record.specs.Splitting.{pieces_of, tokens};
 
 /// The first place where the byte stands, or the length where it doesn't.
 fn place_of(bytes: &[u8], wanted: u8) -> usize
@@ -17,7 +17,7 @@ fn place_of(bytes: &[u8], wanted: u8) -> usize
 }
 
 /// What stands before the first separator, and what stands after it: all and nothing where there is none.
-pub(crate) fn split_first(bytes: &[u8], separator: u8) -> (&[u8], &[u8])
+pub fn split_first(bytes: &[u8], separator: u8) -> (&[u8], &[u8])
     ensures pieces { 0 < length bytes.now → pieces_of separator bytes.now ≡ result.0.now ∷ pieces_of separator result.1.now }
     ensures shorter { 0 < length bytes.now → length result.1.now < length bytes.now }
 {
@@ -30,7 +30,7 @@ pub(crate) fn split_first(bytes: &[u8], separator: u8) -> (&[u8], &[u8])
 }
 
 /// The next token of a line, and what stands after it.
-pub(crate) fn next_token(line: &[u8]) -> Option<(&[u8], &[u8])>
+pub fn next_token(line: &[u8]) -> Option<(&[u8], &[u8])>
     ensures { MatchOption result (tokens line.now ≡ []) (λ next. tokens line.now ≡ next.0.now ∷ tokens next.1.now) }
 {
     let mut rest = line;

@@ -1,7 +1,7 @@
 use Rattle.std.proofs.Common.{◌<◌, ◌≡◌, length, arith, sym, ◌∙◌}
 use Rattle.std.proofs.lemmas.Bool.Decides.{nat_tests}
-use Rattle.script_run.proofs.SplitLemmas.{tokens_empty, tokens_some, tokens_none}
-use Rattle.script_run.proofs.splitting.next_token.Goals as goal
+use Rattle.run_record.proofs.SplitLemmas.{tokens_empty, tokens_some, tokens_none}
+use Rattle.run_record.proofs.splitting.next_token.Goals as goal
 
 pub returns-then-not-is_empty : goal.returns-then-not-is_empty
 returns-then-not-is_empty c =

@@ -1,5 +1,5 @@
 use Rattle.std.proofs.Common.{◌≡◌, ℕ, ◌<◌, get_or}
-use Rattle.script_run.proofs.splitting.place_of.Given as goal
+use Rattle.run_record.proofs.splitting.place_of.Given as goal
 
 abbrev pub invariant-loop-place : goal.invariant-loop-place
 invariant-loop-place l = (k : ℕ) → k < l.place → get_or l.bytes k 0 ≡ l.wanted → ⊥

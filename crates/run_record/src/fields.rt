@@ -4,16 +4,17 @@ ghost use Rattle.std.specs.Prelude.{◌≡◌, ◌≢◌, ◌-◌, ◌<◌, ◌�
 ghost use Rattle.tact_base.specs.Numbers.{whole_number, whole_signed};
 ghost use Rattle.tact_base.specs.declared.limits.TheConstants.{CLIENTS};
 ghost use Rattle.run_model.specs.Ranges.{IsOpInRange};
-ghost use Rattle.script_run.specs.Splitting.{tokens};
-ghost use Rattle.script_run.specs.Fields.{Gives, token_at, in_line, number_at, count_at, signed_at, replica_at, other_replica_at, client_at, put_at, add_at, shift_at, op_at, end_at};
+ghost use Rattle.run_record.specs.Splitting.{tokens};
+ghost use Rattle.run_record.specs.Fields.{Gives, token_at, in_line, number_at, count_at, signed_at, replica_at, other_replica_at, client_at, put_at, add_at, shift_at, op_at, end_at};
 
-use crate::fault::LineFault;
+use crate::line_fault::LineFault;
 use crate::splitting::next_token;
 use run_model::LineKind;
 use tact_base::{CLIENTS, KEY_MAX, Op, TokenFault, VALUE_MAX, whole_number, whole_signed};
 
+/// The next token. `Missing` where the line ends.
 #[tactic(auto, unfolding(crate::specs::Fields::token_at))]
-pub(crate) fn token_at(rest: &[u8]) -> Result<(&[u8], &[u8]), LineFault>
+pub fn token_at(rest: &[u8]) -> Result<(&[u8], &[u8]), LineFault>
     ensures { Gives (λ x. (x.0.now, tokens x.1.now)) result (token_at (tokens rest.now)) }
 {
     match next_token(rest) {
@@ -45,8 +46,9 @@ fn signed_of(token: &[u8], size: u64) -> Result<i64, LineFault>
     }
 }
 
+/// A number of at most `most`.
 #[tactic(auto, unfolding(crate::specs::Fields::number_at))]
-pub(crate) fn number_at(rest: &[u8], most: u64) -> Result<(u64, &[u8]), LineFault>
+pub fn number_at(rest: &[u8], most: u64) -> Result<(u64, &[u8]), LineFault>
     ensures within { IfOk result (λ x. x.0 ≤ most) }
     ensures number { Gives (λ x. (x.0, tokens x.1.now)) result (number_at most (tokens rest.now)) }
 {
@@ -55,8 +57,9 @@ pub(crate) fn number_at(rest: &[u8], most: u64) -> Result<(u64, &[u8]), LineFaul
     Ok((number, rest))
 }
 
+/// A number from `least` to `most`.
 #[tactic(auto, unfolding(crate::specs::Fields::count_at))]
-pub(crate) fn count_at(rest: &[u8], least: u32, most: u32) -> Result<(u32, &[u8]), LineFault>
+pub fn count_at(rest: &[u8], least: u32, most: u32) -> Result<(u32, &[u8]), LineFault>
     ensures within { IfOk result (λ x. (least ≤ x.0) × (x.0 ≤ most)) }
     ensures count { Gives (λ x. (x.0, tokens x.1.now)) result (count_at least most (tokens rest.now)) }
 {
@@ -68,8 +71,9 @@ pub(crate) fn count_at(rest: &[u8], least: u32, most: u32) -> Result<(u32, &[u8]
     Ok((number, rest))
 }
 
+/// A number from `-size` to `size`.
 #[tactic(auto, unfolding(crate::specs::Fields::signed_at))]
-fn signed_at(rest: &[u8], size: u64) -> Result<(i64, &[u8]), LineFault>
+pub fn signed_at(rest: &[u8], size: u64) -> Result<(i64, &[u8]), LineFault>
     requires { size < 2 ^ 63 }
     ensures within { IfOk result (λ x. unsigned_abs x.0 ≤ size) }
     ensures number { Gives (λ x. (x.0, tokens x.1.now)) result (signed_at size (tokens rest.now)) }
@@ -79,7 +83,8 @@ fn signed_at(rest: &[u8], size: u64) -> Result<(i64, &[u8]), LineFault>
     Ok((number, rest))
 }
 
-pub(crate) fn replica_at(rest: &[u8], replicas: u32) -> Result<(u32, &[u8]), LineFault>
+/// One of the replicas below `replicas`.
+pub fn replica_at(rest: &[u8], replicas: u32) -> Result<(u32, &[u8]), LineFault>
     requires { 0 < replicas }
     ensures within { IfOk result (λ x. x.0 < replicas) }
     ensures replica { Gives (λ x. (x.0, tokens x.1.now)) result (replica_at replicas (tokens rest.now)) }
@@ -88,12 +93,9 @@ pub(crate) fn replica_at(rest: &[u8], replicas: u32) -> Result<(u32, &[u8]), Lin
     Ok((number as u32, rest))
 }
 
+/// One of the replicas below `replicas` that isn't `first`: `SameReplica` where it is.
 #[tactic(auto, unfolding(crate::specs::Fields::other_replica_at))]
-pub(crate) fn other_replica_at(
-    rest: &[u8],
-    replicas: u32,
-    first: u32,
-) -> Result<(u32, &[u8]), LineFault>
+pub fn other_replica_at(rest: &[u8], replicas: u32, first: u32) -> Result<(u32, &[u8]), LineFault>
     requires { 0 < replicas }
     ensures within { IfOk result (λ x. x.0 < replicas) }
     ensures other { IfOk result (λ x. x.0 ≢ first) }
@@ -106,7 +108,8 @@ pub(crate) fn other_replica_at(
     Ok((second, rest))
 }
 
-pub(crate) fn client_at(rest: &[u8]) -> Result<(u32, &[u8]), LineFault>
+/// One of a replica's clients.
+pub fn client_at(rest: &[u8]) -> Result<(u32, &[u8]), LineFault>
     ensures within { IfOk result (λ x. x.0 < CLIENTS) }
     ensures client { Gives (λ x. (x.0, tokens x.1.now)) result (client_at (tokens rest.now)) }
 {
@@ -145,8 +148,9 @@ fn shift_at(rest: &[u8]) -> Result<(Op, &[u8]), LineFault>
     Ok((Op::Shift { from, to, amount }, rest))
 }
 
+/// `put KEY VALUE`, `add KEY DELTA` or `shift KEY KEY AMOUNT`. `UnknownWord` at any other word.
 #[tactic(auto, unfolding(crate::specs::Fields::op_at))]
-pub(crate) fn op_at(rest: &[u8]) -> Result<(Op, &[u8]), LineFault>
+pub fn op_at(rest: &[u8]) -> Result<(Op, &[u8]), LineFault>
     ensures within { IfOk result (λ x. IsOpInRange x.0) }
     ensures op { Gives (λ x. (x.0, tokens x.1.now)) result (op_at (tokens rest.now)) }
 {
@@ -162,8 +166,9 @@ pub(crate) fn op_at(rest: &[u8]) -> Result<(Op, &[u8]), LineFault>
     }
 }
 
+/// No token follows. One that does is a fault of this kind.
 #[tactic(auto, unfolding(crate::specs::Fields::end_at))]
-pub(crate) fn end_at(rest: &[u8], kind: LineKind) -> Result<(), LineFault>
+pub fn end_at(rest: &[u8], kind: LineKind) -> Result<(), LineFault>
     ensures { Gives (λ _. tt) result (end_at kind (tokens rest.now)) }
 {
     match next_token(rest) {
