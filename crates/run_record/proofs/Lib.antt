@@ -4,3 +4,11 @@ pub mod ListLoop
 pub mod PartLemmas
 pub mod Rising
 pub mod ItemLemmas
+pub mod FieldReaders
+pub mod ActReaders
+pub mod EntryReaders
+pub mod OkParts
+pub mod SetupRows
+pub mod BoundReaders
+pub mod RecordReader
+pub mod Loops

@@ -2,3 +2,9 @@ pub mod Splitting
 pub mod Fields
 pub mod Lists
 pub mod Lines
+pub mod Records
+pub mod RecordBytes
+pub mod RecordText
+pub mod EntriesAt
+pub mod RecordAt
+pub mod PartFaults

@@ -1,17 +1,33 @@
-//! Lines, tokens and fields: the ground of each reader of lines, of scripts as of records.
+//! Records of runs, as bytes and as text; and lines, tokens and fields, the ground of each reader of lines, of
+//! scripts as of records.
 #![tactic(auto)]
 
+mod fault;
 mod fields;
+mod get_acts;
+mod get_record;
+mod get_setup;
+mod held;
 mod line_fault;
 mod lines;
 mod lists;
+mod parts;
+mod printing;
+mod put_bytes;
+mod short;
 mod splitting;
 
+pub use fault::RecordFault;
 pub use fields::{
     client_at, count_at, end_at, number_at, op_at, other_replica_at, replica_at, signed_at,
     token_at,
 };
+pub use get_record::parse_bytes;
+pub use held::Record;
 pub use line_fault::LineFault;
 pub use lines::{fault_of_bytes, is_skipped};
 pub use lists::{ListEnd, firsts_at, needs_at, numbers_at, weight_at, weights_at};
+pub use printing::{print, text_of};
+pub use put_bytes::bytes_of;
+pub use short::{Short, ShortAct, Shorts};
 pub use splitting::{next_token, split_first};

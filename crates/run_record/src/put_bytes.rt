@@ -1,0 +1,183 @@
+//! Records as bytes, appended field by field. Where one of the private calls fails, the bytes still begin with
+//! what they were.
+
+ghost use Rattle.std.specs.Prelude.{◌≡◌, ◌<◌, ◌++◌, ◌∷◌, All, OnOk, OnErr, length};
+ghost use Rattle.std.specs.List.{flat_map};
+ghost use Rattle.tact_base.specs.Setup.{owners_and_conits};
+ghost use Rattle.run_model.specs.Bytes.{number_bytes};
+ghost use Rattle.run_model.specs.Text.{BeginsWith};
+ghost use Rattle.run_record.specs.Records.{IsShortOf, IsActOf, IsHeld};
+ghost use Rattle.run_record.specs.RecordBytes.{act_bytes, act_tag, bound_bytes, record_bytes, setup_bytes, short_bytes};
+
+use crate::{Record, Short, ShortAct};
+use run_model::{
+    Config, all_or_nothing, append_byte, append_number, append_numbers, put_reply, put_request,
+};
+use tact_base::{Bytes, NoMemory};
+
+/// Appends a record as bytes: the text TACT, the version 1 and the counts of replicas and conits in one byte
+/// each; for each owner and conit the alpha and the loans by holder, in eight bytes each, the highest first; the
+/// entries; the byte 0xFF and the number of entries in eight bytes. An entry is its tag in one byte, 1 for a
+/// call, 2 for a send, 3 for a take, 4 for a lend, 5 for a back and 6 for a restart, its replica in one, its
+/// moment in eight, and its fields: clients, replicas and conits in one byte each, other numbers in eight.
+/// `NoMemory` leaves `out` as it was.
+pub fn bytes_of(held: &Record, out: &mut Bytes) -> Result<(), NoMemory>
+    ensures ok { OnOk result (out.new ≡ out.old ++ record_bytes held.now) }
+    ensures err { OnErr result (out.new ≡ out.old) }
+{
+    let start = out.len();
+    let done = append_record(held, out);
+    all_or_nothing(done, start, out)
+}
+
+#[tactic(auto, using(run_model::proofs::TextLemmas::begins_grown, run_model::proofs::TextLemmas::always_err))]
+fn append_record(held: &Record, out: &mut Bytes) -> Result<(), NoMemory>
+    ensures ok { OnOk result (out.new ≡ out.old ++ record_bytes held.now) }
+    ensures err { OnErr result (BeginsWith out.old out.new) }
+{
+    let entries = held.entries();
+    append_setup(held.config(), out)?;
+    append_shorts(entries, held.config(), out)?;
+    append_byte(0xFF, out)?;
+    append_number(entries.len() as u64, out)
+}
+
+#[tactic(auto, using(run_model::proofs::TextLemmas::begins_grown, run_model::proofs::TextLemmas::always_err))]
+fn append_setup(config: &Config, out: &mut Bytes) -> Result<(), NoMemory>
+    ensures ok { OnOk result (out.new ≡ out.old ++ setup_bytes config.now) }
+    ensures err { OnErr result (BeginsWith out.old out.new) }
+{
+    let replicas = config.replicas() as u8;
+    let conits = config.conits() as u8;
+    out.append(&[0x54, 0x41, 0x43, 0x54, 1, replicas, conits])?;
+    append_bounds(config, out)
+}
+
+// Each owner with each conit.
+#[tactic(auto, using(run_model::proofs::TextLemmas::begins_grown, run_model::proofs::TextLemmas::always_err))]
+fn append_bounds(config: &Config, out: &mut Bytes) -> Result<(), NoMemory>
+    ensures ok { OnOk result
+        (out.new ≡ out.old ++ flat_map (bound_bytes config.now) (owners_and_conits config.now)) }
+    ensures err { OnErr result (BeginsWith out.old out.new) }
+{
+    let replicas = config.replicas();
+    let conits = config.conits();
+    for place in 0..replicas * conits {
+        append_bound(config, place / conits, place % conits, out)?;
+    }
+    Ok(())
+}
+
+#[tactic(auto, using(run_model::proofs::TextLemmas::begins_grown, run_model::proofs::TextLemmas::always_err))]
+fn append_bound(config: &Config, owner: u32, conit: u32, out: &mut Bytes) -> Result<(), NoMemory>
+    requires owner_in { owner < config.now.replicas }
+    requires conit_in { conit < config.now.conits }
+    ensures ok { OnOk result (out.new ≡ out.old ++ bound_bytes config.now (owner, conit)) }
+    ensures err { OnErr result (BeginsWith out.old out.new) }
+{
+    append_number(config.alpha(owner, conit), out)?;
+    append_numbers(config.loans(owner, conit), out)
+}
+
+#[tactic(auto, using(run_model::proofs::TextLemmas::begins_grown, run_model::proofs::TextLemmas::always_err))]
+fn append_shorts(entries: &[Short], config: &Config, out: &mut Bytes) -> Result<(), NoMemory>
+    requires { All (IsShortOf config.now) entries.now }
+    ensures ok { OnOk result (out.new ≡ out.old ++ flat_map short_bytes entries.now) }
+    ensures err { OnErr result (BeginsWith out.old out.new) }
+{
+    for short in entries {
+        append_short(short, config, out)?;
+    }
+    Ok(())
+}
+
+#[tactic(auto, using(run_model::proofs::TextLemmas::begins_grown, run_model::proofs::TextLemmas::always_err))]
+fn append_short(short: &Short, config: &Config, out: &mut Bytes) -> Result<(), NoMemory>
+    requires { IsShortOf config.now short.now }
+    ensures ok { OnOk result (out.new ≡ out.old ++ short_bytes short.now) }
+    ensures err { OnErr result (BeginsWith out.old out.new) }
+{
+    let _replicas = config.replicas();
+    append_byte(tag_of(&short.act), out)?;
+    append_byte(short.replica, out)?;
+    append_number(short.moment, out)?;
+    append_act(&short.act, config, short.replica, out)
+}
+
+fn tag_of(act: &ShortAct) -> u32
+    ensures tag { result ≡ act_tag act.now }
+    ensures small { result < 7 }
+{
+    match act {
+        ShortAct::Call { .. } => 1,
+        ShortAct::Send { .. } => 2,
+        ShortAct::Take { .. } => 3,
+        ShortAct::Lend { .. } => 4,
+        ShortAct::Back { .. } => 5,
+        ShortAct::Restart => 6,
+    }
+}
+
+// The fields of an act of a replica.
+#[tactic(auto, using(run_model::proofs::TextLemmas::begins_grown, run_model::proofs::TextLemmas::always_err))]
+fn append_act(
+    act: &ShortAct,
+    config: &Config,
+    replica: u32,
+    out: &mut Bytes,
+) -> Result<(), NoMemory>
+    requires { IsActOf config.now replica act.now }
+    ensures ok { OnOk result (out.new ≡ out.old ++ act_bytes act.now) }
+    ensures err { OnErr result (BeginsWith out.old out.new) }
+{
+    let _replicas = config.replicas();
+    let _conits = config.conits();
+    match act {
+        ShortAct::Call {
+            client,
+            number,
+            request,
+            reply,
+        } => {
+            append_named(*client, *number, out)?;
+            put_request(request, out)?;
+            put_reply(reply, out)
+        }
+        ShortAct::Send { to, number, firsts } => {
+            append_named(*to, *number, out)?;
+            append_numbers(firsts.items(), out)
+        }
+        ShortAct::Take { from, number } => append_named(*from, *number, out),
+        ShortAct::Lend { to, conit, amount } => append_loan(*to, *conit, *amount, out),
+        ShortAct::Back {
+            owner,
+            conit,
+            amount,
+        } => append_loan(*owner, *conit, *amount, out),
+        ShortAct::Restart => Ok(()),
+    }
+}
+
+// A client or a replica, and a number.
+#[tactic(auto, using(run_model::proofs::TextLemmas::begins_grown, run_model::proofs::TextLemmas::always_err))]
+fn append_named(named: u32, number: u64, out: &mut Bytes) -> Result<(), NoMemory>
+    requires { named < 256 }
+    ensures ok { OnOk result (out.new ≡ out.old ++ named ∷ number_bytes number) }
+    ensures err { OnErr result (BeginsWith out.old out.new) }
+{
+    append_byte(named, out)?;
+    append_number(number, out)
+}
+
+// A replica, a conit and an amount.
+#[tactic(auto, using(run_model::proofs::TextLemmas::begins_grown, run_model::proofs::TextLemmas::always_err))]
+fn append_loan(replica: u32, conit: u32, amount: u64, out: &mut Bytes) -> Result<(), NoMemory>
+    requires replica { replica < 256 }
+    requires conit { conit < 256 }
+    ensures ok { OnOk result (out.new ≡ out.old ++ replica ∷ conit ∷ number_bytes amount) }
+    ensures err { OnErr result (BeginsWith out.old out.new) }
+{
+    append_byte(replica, out)?;
+    append_byte(conit, out)?;
+    append_number(amount, out)
+}
