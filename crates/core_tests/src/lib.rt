@@ -25,6 +25,8 @@ mod numbers;
 #[cfg(test)]
 mod orders;
 #[cfg(test)]
+mod reading;
+#[cfg(test)]
 mod replica;
 #[cfg(test)]
 mod setups;
