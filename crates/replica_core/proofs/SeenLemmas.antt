@@ -1,9 +1,8 @@
 -- What is kept of all that is seen, as writes are put in and committed: their sums, and the readers of these.
-use Rattle.std.proofs.Common.{◌≡◌, ℕ, ◌+◌, ◌-◌, ◌<◌, ◌≤◌, ℤ, pos, ◌-ℤ◌, nat_lt, true, List, [], ◌++◌, All, length, drop, map, filter, sum_by, IsPermutation, refl, sym, ap, ap₂, ◌∙◌, subst, arith}
+use Rattle.std.proofs.Common.{◌≡◌, ℕ, ◌+◌, ◌-◌, ◌<◌, ◌≤◌, ℤ, pos, ◌-ℤ◌, nat_le, List, [], ◌∷◌, ◌++◌, All, length, get_or, take, drop, map, filter, sum_by, IsPermutation, refl, sym, ap, ap₂, ◌∙◌, subst, arith}
 use Rattle.std.specs.List.Sorted.{IsSorted}
-use Rattle.std.proofs.lemmas.Bool.{lt-ltb}
-use Rattle.std.proofs.lemmas.List.{append-nil, length-append, length-map, map-append}
-use Rattle.std.proofs.lemmas.List.Elements.{All-nil}
+use Rattle.std.proofs.lemmas.List.{append_assoc, take_more, map-append}
+use Rattle.std.proofs.lemmas.List.Elements.{All-nil, All-drop, All-filter}
 use Rattle.std.proofs.lemmas.List.Sorted.{IsPermutation-map, All-permutation, length_permutation, sum_by-IsPermutation}
 use Rattle.std.proofs.lemmas.List.Sums.{sum_by-append}
 use Rattle.std.proofs.Math.Seq.{drop-append_seam}
@@ -69,6 +68,17 @@ HoldsAll-moved state xs ys moved of = record {
   order = AreSumsOf-moved state.order xs ys moved of.order;
 }
 
+-- with the weights of one more of some writes
+pub weights_of-more : (held : List (List Weight)) (writes : List Write) (k : ℕ) (write : Write)
+    → k < length writes
+    → write ≡ get_or writes k write
+    → (held ++ weights_of (take k writes)) ++ write.weights ∷ [] ≡ held ++ weights_of (take (k + 1) writes)
+weights_of-more held writes k write within is =
+    append_assoc held (weights_of (take k writes)) (write.weights ∷ [])
+    ∙ ap (λ (more : List (List Weight)). held ++ more)
+    (sym (map-append weights_in (take k writes) (write ∷ []))
+    ∙ ap weights_of (ap (λ (w : Write). take k writes ++ w ∷ []) is ∙ sym (take_more writes k write within)))
+
 -- as writes past a point are put in
 pub HasSums-admitted : (seen writes more : List Write) (point : ℕ) (before after : RunningState) (settled : SumsState)
     → more ≡ in_order (seen ++ writes)
@@ -103,6 +113,14 @@ HasSums-committed seen sorted point later all before after rises added has =
           subst (λ (ws : List Write). AreSumsOf after (weights_of ws)) parts
           (subst (AreSumsOf after) (sym (map-append weights_in early (drop (length early) (committed_to later seen)))) (added (weights_of early) has.settled));
     }
+
+-- those that are committed weigh on the same conits
+pub AreOnConits-committed : (conits : ℕ) (seen : List Write) (point k : ℕ)
+    → AreOnConits conits seen
+    → AreOnConits conits (drop k (committed_to point seen))
+AreOnConits-committed conits seen point k on_conits =
+    let P = λ (write : Write). All (λ (weight : Weight). weight.conit < conits) write.weights in
+    All-drop P k (committed_to point seen) (All-filter (λ write. nat_le write.stamp point) P seen on_conits)
 
 -- what is read of the sums
 pub value-is : (seen : List Write) (conit : ℕ) → net_of (weights_of seen) conit ≡ net_sum seen conit

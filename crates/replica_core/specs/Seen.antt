@@ -35,21 +35,21 @@ pub record HasImage (seen : List Write) (point : ℕ) (image : ImageState) : Typ
   pub ops : image.ops ≡ ops_of (tentative_past point seen)
 
 -- Sums are those of all writes, and those of the order weights of the ones that are committed.
-pub record HasSums (seen : List Write) (point : ℕ) (all : RunningState) (settled : SumsState) : Type 0 where
-  pub all : HoldsAll all (weights_of seen)
-  pub settled : AreSumsOf settled (weights_of (committed_to point seen))
+pub record HasSums (seen : List Write) (point : ℕ) (sums : RunningState) (totals : SumsState) : Type 0 where
+  pub all : HoldsAll sums (weights_of seen)
+  pub settled : AreSumsOf totals (weights_of (committed_to point seen))
 
 -- What is kept of all that is seen: the writes are in order and not too many to be summed, on these conits, with their image and
 -- sums, and there is the room in the order and in the image.
-pub record KeepsSeen (seen : SeenState) (order_room : ℕ) (image : ImageState) (all : RunningState) (settled : SumsState) : Type 0 where
+pub record KeepsSeen (seen : SeenState) (order_room : ℕ) (kept : ImageState) (sums : RunningState) (totals : SumsState) : Type 0 where
   pub sorted : IsSorted write_cmp seen.writes
   pub few : length seen.writes ≤ SUMMED_WRITES
   pub on_conits : AreOnConits seen.conits seen.writes
-  pub has_image : HasImage seen.writes seen.point image
-  pub has_sums : HasSums seen.writes seen.point all settled
-  pub conits : length settled.sums ≡ seen.conits
+  pub has_image : HasImage seen.writes seen.point kept
+  pub has_sums : HasSums seen.writes seen.point sums totals
+  pub conits : length totals.sums ≡ seen.conits
   pub order : seen.room ≤ order_room
-  pub image : seen.room ≤ image.room
+  pub image : seen.room ≤ kept.room
 
 -- which write is the last of some, where there is one
 abbrev pub last_one : List Write → Option LastOne

@@ -111,7 +111,7 @@ impl Seen {
         let before = self.ordered.committed().len();
         let count = self.ordered.commit_to(stamp);
         self.image.commit(count);
-        settle_all(&mut self.settled, &self.ordered.committed()[before..]);
+        settle_all(&mut self.settled, committed_from(&self.ordered, before));
     }
 
     /// The last point. Takes no memory.
@@ -199,6 +199,14 @@ fn tentative_from(ordered: &Ordered, place: u64) -> &[Write]
 {
     let committed = ordered.committed().len() as u64;
     &ordered.tentative()[(place - committed) as usize..]
+}
+
+// The committed writes from a place on.
+fn committed_from(ordered: &Ordered, place: usize) -> &[Write]
+    requires { place ≤ length (committed_to ordered.now.point ordered.now.writes) }
+    ensures { result.now ≡ drop place (committed_to ordered.now.point ordered.now.writes) }
+{
+    &ordered.committed()[place..]
 }
 
 // Adds the weights of writes to the sums of those that are held.
