@@ -9,7 +9,7 @@ use Rattle.std.proofs.lemmas.List.Sums.{sum_by-le}
 use Rattle.std.proofs.lemmas.List.Elements.{All-cons, All-head, All-tail, All-weaker}
 use Rattle.std.proofs.lemmas.List.Sorted.{All-permutation, IsPermutation-sym}
 use Rattle.tact_base.proofs.CompareLemmas.{AreApart}
-use Rattle.tact_base.proofs.ListLemmas.{All-range, All-append_left, flat_map_agree}
+use Rattle.tact_base.proofs.ListLemmas.{All-range, All-one, All-append_left, flat_map_agree}
 use Rattle.tact_base.proofs.OrderLemmas.{IsPermutation-with_write, IsPermutation-in_order, in_order_middle, length-in_order}
 use Rattle.tact_base.specs.WriteOrder.{with_write, in_order}
 use Rattle.tact_base.specs.declared.conit_list.Weight.{Weight}
@@ -183,6 +183,21 @@ seen-few replicas logs seen ordered short =
       sum_by-le (λ origin. length (log origin)) HISTORY_MAX (range_with_len 0 replicas) (λ k d within. short _),
       length-range_with_len 0 replicas,
     )
+
+-- one own write is the next, where an entry may follow
+pub AreNext-own : (conits replica count : ℕ) (logs : List (List Write)) (write : Write)
+    → write.origin ≡ replica
+    → write.index ≡ length (get_or logs replica [])
+    → All (λ (weight : Weight). weight.conit < conits) write.weights
+    → AreFew replica count logs
+    → count < HISTORY_MAX
+    → AreNext conits replica (length (get_or logs replica [])) (write ∷ [])
+AreNext-own conits replica count logs write is next on_conits few room = record {
+  origins = All-one (λ (w : Write). w.origin ≡ replica) write is;
+  indices = ap (λ (n : ℕ). n ∷ []) next;
+  on_conits = All-one (λ (w : Write). All (λ (weight : Weight). weight.conit < conits) w.weights) write on_conits;
+  few = omega (arith, few.own, room);
+}
 
 -- as an own write is counted with its entry, and as another origin's log grows
 module _ (replica count : ℕ) (logs : List (List Write)) where

@@ -21,7 +21,7 @@ use Rattle.run_model.proofs.PrefixLemmas.{EachAfter-nil}
 use Rattle.run_model.proofs.Accepted.{log_of-same, log_of-other}
 use Rattle.run_model.proofs.SoundViews.{cover_of-same, cover_of-other}
 use Rattle.split_budget.specs.Budgets.{BudgetState, by_place, opening}
-use Rattle.replica_core.specs.States.{Core, IsKept, HasImage}
+use Rattle.replica_core.specs.States.{Core, IsKept}
 use Rattle.replica_core.specs.Stands.{Stands, WritesStand, BudgetsStand}
 use Rattle.replica_core.proofs.LentLemmas.{AreLentBy-opening}
 use Rattle.replica_core.proofs.StandsByPlace.{stamps_of}

@@ -17,8 +17,10 @@ use Rattle.tact_base.specs.declared.conit_list.Need.{Need}
 use Rattle.tact_base.specs.declared.write.Cover.{Cover}
 use Rattle.tact_base.specs.declared.write.Late.{Late}
 use Rattle.tact_base.specs.declared.write.Write.{Write}
-use Rattle.access_gate.specs.Verdicts.{refusal_of, refusal, admission}
+use Rattle.tact_base.specs.declared.limits.TheConstants.{ALPHA_MAX}
+use Rattle.access_gate.specs.Verdicts.{AreOuts, admission}
 use Rattle.access_gate.specs.declared.gate.Facts.{Facts}
+use Rattle.split_budget.specs.Budgets.{out, all_out}
 use Rattle.run_model.specs.Histories.{last_moment}
 use Rattle.run_model.specs.Order.{tentative, value, image}
 use Rattle.run_model.specs.Ranges.{IsNeedInRange}
@@ -41,7 +43,7 @@ use Rattle.replica_core.proofs.StandsByPlace.{stamps_of}
 position-stamps : (p : ℕ → Bool) (covers : List Cover)
     → position_or_len (λ (cover : Cover). p cover.stamp) covers ≡ position_or_len p (stamps_of covers)
 position-stamps p [] = refl
-position-stamps p (cover ∷ covers) = ap (λ (n : ℕ). cond (p cover.stamp) 0 (suc n)) (position-stamps p covers)
+position-stamps p (cover ∷ covers) = ap (λ (n : ℕ). cond (not (p cover.stamp)) (1 + n) 0) (position-stamps p covers)
 
 slowest-stamps : (xs ys : List Cover)
     → stamps_of xs ≡ stamps_of ys
@@ -58,6 +60,7 @@ module _ (f g : ℕ → Cover) (replica wanted : ℕ) (agree : (k : ℕ) → (k 
 
   found-agree : (start len : ℕ)
       → find is_late (enumerate_from start (map f (range_with_len start len))) ≡ find is_late (enumerate_from start (map g (range_with_len start len)))
+  unfolding is_late
   found-agree start zero = refl
   found-agree start (suc len) = go (cases_eq start replica) (found-agree (start + 1) len)
     where
@@ -102,6 +105,21 @@ waiting_as-one moment need facts = go (hindrance need facts.outs facts.tentative
     go (Some (lent holder out total)) is = rw is refl
     go (Some (unordered replica tentative)) is = rw is refl
     go (Some (stale late)) is = rw is refl
+
+-- what the replicas have of its bound: its own is 0, and all are within a limit, where the peers together are
+pub AreOuts-kept : (core : Core)
+    → HasBudgets core
+    → core.replica < core.setup.replicas
+    → (conit : ℕ)
+    → all_out core.budgets conit ≤ ALPHA_MAX
+    → AreOuts core.setup.replicas (map (out_at core conit) (range_with_len 0 core.setup.replicas))
+AreOuts-kept core budgets among conit few =
+    let size = length-map-range_with_len (out_at core conit) 0 core.setup.replicas in
+    let own : out_at core conit core.replica ≡ 0 = ap (λ (yes : Bool). cond yes 0 (out core.budgets core.replica conit)) (eq-eqb core.replica core.replica refl) in
+    let all : sum (map (out_at core conit) (replicas_of core.setup)) ≡ all_out core.budgets conit =
+    sum-outs (λ holder. out core.budgets holder conit) core.replica (replicas_of core.setup)
+    ∙ sym (ap₂ (λ (s : Setup) (r : ℕ). sum (map (λ peer. out core.budgets peer conit) (peers_of s r))) budgets.setup budgets.replica) in
+    (size, (core.replica, omega (arith, size, among), get_or-map_range (out_at core conit) core.setup.replicas core.replica 0 among ∙ own), omega (arith, all, few))
 
 module _ (part : List Entry) (core : Core) (stands : Stands part core) (budgets : HasBudgets core) (moment : ℕ) where
   abbrev setup : Setup

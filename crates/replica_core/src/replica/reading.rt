@@ -1,12 +1,13 @@
 //! Reads, and what they look at.
-ghost use Rattle.std.specs.Prelude.{◌≡◌, ◌<◌, ◌≤◌, [], ◌∷◌, All, length, map};
+ghost use Rattle.std.specs.Prelude.{◌≡◌, ◌≢◌, ◌<◌, ◌≤◌, [], ◌∷◌, All, length, map};
 ghost use Rattle.tact_base.specs.Sums.{net_sum};
-ghost use Rattle.tact_base.specs.declared.limits.TheConstants.{AMOUNT_MAX, LIST_MAX, MOMENT_MAX};
+ghost use Rattle.tact_base.specs.declared.limits.TheConstants.{ALPHA_MAX, AMOUNT_MAX, LIST_MAX, MOMENT_MAX};
 ghost use Rattle.access_gate.specs.Verdicts.{AreOuts};
+ghost use Rattle.split_budget.specs.Budgets.{all_out};
 ghost use Rattle.run_model.specs.Ranges.{AreNeedsInRange, IsNeedInRange};
 ghost use Rattle.run_model.specs.Replies.{first_some};
 ghost use Rattle.run_model.specs.declared.call.Request.TheVariants as request;
-ghost use Rattle.replica_core.specs.States.{IsKept, origins_of};
+ghost use Rattle.replica_core.specs.States.{origins_of};
 ghost use Rattle.replica_core.specs.Stands.{IsSameReplica};
 ghost use Rattle.replica_core.specs.Calling.{MayAsk, Answers};
 ghost use Rattle.replica_core.specs.Reading.{out_at, facts_of, need_refusal, read_reply, waiting_as};
@@ -33,8 +34,7 @@ impl Replica {
     // The reply to a read whose entry has this moment.
     fn read_at(&self, moment: u64, key: u64, needs: &[Need]) -> Reply
         requires { AreNeedsInRange self.now.core.setup needs.now }
-        ensures reply { result ≡ read_reply self.now.core moment key needs.now }
-        ensures kept { IsKept self.now.core }
+        ensures { result ≡ read_reply self.now.core moment key needs.now }
     {
         if let Some(refusal) = self.first_refusal(moment, needs) {
             return refusal;
@@ -103,7 +103,8 @@ impl Replica {
     fn out_at(&self, conit: u32, holder: u32) -> u64
         requires conit { conit < self.now.core.setup.conits }
         requires holder { holder < self.now.core.setup.replicas }
-        ensures { result ≡ out_at self.now.core conit holder }
+        ensures out { result ≡ out_at self.now.core conit holder }
+        ensures all { holder ≢ self.now.core.replica → all_out self.now.core.budgets conit ≤ ALPHA_MAX }
     {
         if holder == self.replica {
             0

@@ -16,37 +16,8 @@ use Rattle.replica_core.specs.Seen.{SeenState}
 use Rattle.replica_core.proofs.BudgetRoom.{MayCount-room}
 use Rattle.replica_core.proofs.DueEntries.{not_full}
 use Rattle.replica_core.proofs.LentLemmas.{AreLentBy-same, AreLentBy-later}
-use Rattle.replica_core.proofs.AdmitLemmas.{AreAdmitted, admitted_all, seen-few, AreFew-own}
+use Rattle.replica_core.proofs.AdmitLemmas.{AreAdmitted, admitted_all, seen-few, AreNext-own, AreFew-own}
 use Rattle.replica_core.proofs.replica.Replica.accept.Goals as goal
-
--- the one write that is admitted
-module _ (c : goal.After-self-2-1) where
-  abbrev write : Write
-  write = record { origin = c.self.inside.replica; index = c.count-index.result; stamp = c.self.inside.clock + 1; moment = c.max.result; weights = c.args.weights; op = c.args.op }
-
-  abbrev logs : List (List Write)
-  logs = c.self.inside.logs.logs
-
-  entries : c.self.inside.count < HISTORY_MAX
-  entries = omega (arith, (not_full c.args.self.now.core c.requires.free).0, ap (λ (s : ReplicaState). s.core.counts.count) c.self.view_is)
-
-  next : AreNext c.self.inside.config.conits c.self.inside.replica (length (get_or logs c.self.inside.replica [])) (write ∷ [])
-  next = record {
-    origins = All-one (λ (w : Write). w.origin ≡ c.self.inside.replica) write refl;
-    indices = ap (λ (n : ℕ). n ∷ []) c.count-index.ensures;
-    on_conits =
-        All-one (λ (w : Write). All (λ (weight : Weight). weight.conit < c.self.inside.config.conits) w.weights) write
-        (subst (λ (s : ReplicaState). All (λ (weight : Weight). weight.conit < s.core.setup.conits) c.args.weights) (sym c.self.view_is) c.requires.conits);
-    few = omega (arith, c.self.invariant.0.few.own, entries);
-  }
-
-  after : AreAdmitted c.self.inside.config.replicas (set logs c.self.inside.replica (get_or logs c.self.inside.replica [] ++ c.from_ref-one.result.now)) (with_writes c.from_ref-one.result.now c.self.inside.seen.writes)
-  after =
-      let kept = c.self.invariant.0.between in
-      let places = c.self.invariant.0.places in
-      subst (λ (ws : List Write). AreAdmitted c.self.inside.config.replicas (set logs c.self.inside.replica (get_or logs c.self.inside.replica [] ++ ws)) (with_writes ws c.self.inside.seen.writes)) (sym c.from_ref-one.ensures.value)
-      (admitted_all (write ∷ []) c.self.inside.config.conits c.self.inside.config.replicas logs c.self.inside.seen.writes c.self.inside.replica
-      (record { sized = places.logs_sized; ordered = kept.ordered; placed = kept.placed }) places.among next)
 
 pub admit-requires-clause-past : goal.admit-requires-clause-past
 admit-requires-clause-past c =
@@ -63,8 +34,14 @@ admit-requires-clause-rising c = subst (IsStrictlySortedBy write_cmp) (sym c.fro
 
 pub admit-requires-clause-next : goal.admit-requires-clause-next
 admit-requires-clause-next c =
+    let logs : List (List Write) = c.self.inside.logs.logs in
+    let write : Write = record { origin = c.self.inside.replica; index = c.count-index.result; stamp = c.self.inside.clock + 1; moment = c.max.result; weights = c.args.weights; op = c.args.op } in
+    let entries : c.self.inside.count < HISTORY_MAX = omega (arith, (not_full c.args.self.now.core c.requires.free).0, ap (λ (s : ReplicaState). s.core.counts.count) c.self.view_is) in
+    let next : AreNext c.self.inside.config.conits c.self.inside.replica (length (get_or logs c.self.inside.replica [])) (write ∷ []) =
+    AreNext-own c.self.inside.config.conits c.self.inside.replica c.self.inside.count logs write refl c.count-index.ensures
+    (subst (λ (s : ReplicaState). All (λ (weight : Weight). weight.conit < s.core.setup.conits) c.args.weights) (sym c.self.view_is) c.requires.conits) c.self.invariant.0.few entries in
     subst (λ (conits : ℕ). AreNext conits c.self.inside.replica (length (get_or c.self.inside.logs.logs c.self.inside.replica [])) c.from_ref-one.result.now) (sym c.self.invariant.2)
-    (subst (AreNext c.self.inside.config.conits c.self.inside.replica (length (get_or c.self.inside.logs.logs c.self.inside.replica []))) (sym c.from_ref-one.ensures.value) (next c))
+    (subst (AreNext c.self.inside.config.conits c.self.inside.replica (length (get_or c.self.inside.logs.logs c.self.inside.replica []))) (sym c.from_ref-one.ensures.value) next)
 
 pub admit-requires-clause-few : goal.admit-requires-clause-few
 admit-requires-clause-few c =
@@ -79,7 +56,16 @@ invariant_of-self c =
     let rooms = c.self.invariant.1 in
     let spare : 0 < c.self.inside.spare = omega (arith, c.requires.room, ap (λ (s : ReplicaState). s.spare) c.self.view_is) in
     let one : length c.from_ref-one.result.now ≡ 1 = c.from_ref-one.ensures.len in
-    let admitted = after c in (
+    let logs : List (List Write) = c.self.inside.logs.logs in
+    let write : Write = record { origin = c.self.inside.replica; index = c.count-index.result; stamp = c.self.inside.clock + 1; moment = c.max.result; weights = c.args.weights; op = c.args.op } in
+    let entries : c.self.inside.count < HISTORY_MAX = omega (arith, (not_full c.args.self.now.core c.requires.free).0, ap (λ (s : ReplicaState). s.core.counts.count) c.self.view_is) in
+    let next : AreNext c.self.inside.config.conits c.self.inside.replica (length (get_or logs c.self.inside.replica [])) (write ∷ []) =
+    AreNext-own c.self.inside.config.conits c.self.inside.replica c.self.inside.count logs write refl c.count-index.ensures
+    (subst (λ (s : ReplicaState). All (λ (weight : Weight). weight.conit < s.core.setup.conits) c.args.weights) (sym c.self.view_is) c.requires.conits) c.self.invariant.0.few entries in
+    let admitted =
+    subst (λ (ws : List Write). AreAdmitted c.self.inside.config.replicas (set logs c.self.inside.replica (get_or logs c.self.inside.replica [] ++ ws)) (with_writes ws c.self.inside.seen.writes)) (sym c.from_ref-one.ensures.value)
+    (admitted_all (write ∷ []) c.self.inside.config.conits c.self.inside.config.replicas logs c.self.inside.seen.writes c.self.inside.replica
+    (record { sized = places.logs_sized; ordered = kept.ordered; placed = kept.placed }) places.among next) in (
       record {
         setup = c.self.invariant.0.setup;
         places = record {
@@ -92,7 +78,7 @@ invariant_of-self c =
         budgets = record { setup = ap (λ b. b.setup) c.count.ensures.counted ∙ budgets.setup; replica = ap (λ b. b.replica) c.count.ensures.counted ∙ budgets.replica };
         between = rw (c.admit.ensures.logs, c.admit.ensures.seen)
             (record { ordered = admitted.ordered; placed = admitted.placed; own = omega (arith, kept.own); committed = kept.committed });
-        few = rw c.admit.ensures.logs (AreFew-own c.self.inside.replica c.self.inside.count c.self.inside.logs.logs c.from_ref-one.result.now (omega (arith, places.among, places.logs_sized)) (omega (arith, one)) (entries c) c.self.invariant.0.few);
+        few = rw c.admit.ensures.logs (AreFew-own c.self.inside.replica c.self.inside.count c.self.inside.logs.logs c.from_ref-one.result.now (omega (arith, places.among, places.logs_sized)) (omega (arith, one)) entries c.self.invariant.0.few);
         lent = AreLentBy-later c.self.inside.count (c.self.inside.count + 1) c.count.new.budgets.lent (omega arith) (AreLentBy-same c.self.inside.count (ap (λ b. b.lent) c.count.ensures.counted) c.self.invariant.0.lent);
       },
       record {

@@ -9,22 +9,18 @@ use Rattle.replica_core.specs.States.{ReplicaState, AreNext, log_at}
 use Rattle.replica_core.proofs.AdmitLemmas.{admitted_all, seen-few, AreFew-other}
 use Rattle.replica_core.proofs.replica.Replica.add_rising.Goals as goal
 
--- the writes that are added
-module _ (c : goal.After-self-2-1) where
-  abbrev logs : List (List Write)
-  logs = c.self.inside.logs.logs
-
-  next : AreNext c.self.inside.config.conits c.args.origin (length (get_or logs c.args.origin [])) c.args.writes.now
-  next = subst (λ (s : ReplicaState). AreNext s.core.setup.conits c.args.origin (length (log_at s.core c.args.origin)) c.args.writes.now) (sym c.self.view_is) c.requires.next
-
 pub admit-requires-clause-next : goal.admit-requires-clause-next
 admit-requires-clause-next c =
-    subst (λ (conits : ℕ). AreNext conits c.args.origin (length (get_or c.self.inside.logs.logs c.args.origin [])) c.args.writes.now) (sym c.self.invariant.2) (next c)
+    let next : AreNext c.self.inside.config.conits c.args.origin (length (get_or c.self.inside.logs.logs c.args.origin [])) c.args.writes.now =
+    subst (λ (s : ReplicaState). AreNext s.core.setup.conits c.args.origin (length (log_at s.core c.args.origin)) c.args.writes.now) (sym c.self.view_is) c.requires.next in
+    subst (λ (conits : ℕ). AreNext conits c.args.origin (length (get_or c.self.inside.logs.logs c.args.origin [])) c.args.writes.now) (sym c.self.invariant.2) next
 
 pub admit-requires-clause-few : goal.admit-requires-clause-few
 admit-requires-clause-few c =
+    let next : AreNext c.self.inside.config.conits c.args.origin (length (get_or c.self.inside.logs.logs c.args.origin [])) c.args.writes.now =
+    subst (λ (s : ReplicaState). AreNext s.core.setup.conits c.args.origin (length (log_at s.core c.args.origin)) c.args.writes.now) (sym c.self.view_is) c.requires.next in
     let kept = c.self.invariant.0 in
-    omega (arith, seen-few c.self.inside.config.replicas c.self.inside.logs.logs c.self.inside.seen.writes kept.between.ordered kept.few.each, (HasCounts-from_IsSetup c.self.inside.config kept.setup).replicas_high, (next c).few)
+    omega (arith, seen-few c.self.inside.config.replicas c.self.inside.logs.logs c.self.inside.seen.writes kept.between.ordered kept.few.each, (HasCounts-from_IsSetup c.self.inside.config kept.setup).replicas_high, next.few)
 
 pub invariant_of-self : goal.invariant_of-self
 invariant_of-self c =
@@ -38,7 +34,9 @@ invariant_of-self c =
     let among : origin < c.self.inside.config.replicas = omega (arith, c.requires.origin, ap (λ (s : ReplicaState). s.core.setup.replicas) c.self.view_is) in
     let replica_is = ap (λ (s : ReplicaState). s.core.replica) c.self.view_is in
     let other : origin ≡ c.self.inside.replica → ⊥ = λ same. c.requires.other (same ∙ replica_is) in
-    let admitted = admitted_all writes c.self.inside.config.conits c.self.inside.config.replicas logs c.self.inside.seen.writes origin (record { sized = places.logs_sized; ordered = kept.between.ordered; placed = kept.between.placed }) among (next c) in
+    let next : AreNext c.self.inside.config.conits c.args.origin (length (get_or c.self.inside.logs.logs c.args.origin [])) c.args.writes.now =
+    subst (λ (s : ReplicaState). AreNext s.core.setup.conits c.args.origin (length (log_at s.core c.args.origin)) c.args.writes.now) (sym c.self.view_is) c.requires.next in
+    let admitted = admitted_all writes c.self.inside.config.conits c.self.inside.config.replicas logs c.self.inside.seen.writes origin (record { sized = places.logs_sized; ordered = kept.between.ordered; placed = kept.between.placed }) among next in
     let few : length writes ≤ c.self.inside.beside = omega (arith, c.requires.room, ap (λ (s : ReplicaState). s.beside) c.self.view_is) in (
       record {
         setup = kept.setup;
@@ -52,7 +50,7 @@ invariant_of-self c =
         budgets = record { setup = kept.budgets.setup; replica = kept.budgets.replica };
         between = rw (c.admit.ensures.logs, c.admit.ensures.seen)
             (record { ordered = admitted.ordered; placed = admitted.placed; own = kept.between.own; committed = kept.between.committed });
-        few = rw c.admit.ensures.logs (AreFew-other c.self.inside.replica c.self.inside.count logs origin writes (omega (arith, among, places.logs_sized)) other (next c).few kept.few);
+        few = rw c.admit.ensures.logs (AreFew-other c.self.inside.replica c.self.inside.count logs origin writes (omega (arith, among, places.logs_sized)) other next.few kept.few);
         lent = kept.lent;
       },
       record {
