@@ -55,12 +55,11 @@ slowest-stamps xs ys same =
 
 -- the first late peer doesn't depend on the replica's own cover
 module _ (f g : ℕ → Cover) (replica wanted : ℕ) (agree : (k : ℕ) → (k ≡ replica → ⊥) → f k ≡ g k) where
-  is_late : ℕ × Cover → Bool
+  abbrev is_late : ℕ × Cover → Bool
   is_late peer = not (peer.0 == replica) && nat_lt peer.1.moment wanted
 
   found-agree : (start len : ℕ)
       → find is_late (enumerate_from start (map f (range_with_len start len))) ≡ find is_late (enumerate_from start (map g (range_with_len start len)))
-  unfolding is_late
   found-agree start zero = refl
   found-agree start (suc len) = go (cases_eq start replica) (found-agree (start + 1) len)
     where
@@ -71,7 +70,8 @@ module _ (f g : ℕ → Cover) (replica wanted : ℕ) (agree : (k : ℕ) → (k 
       go (inr other) rest = rw (agree start other, rest) refl
 
   first_late-agree : (len : ℕ) → first_late (map f (range_with_len 0 len)) replica wanted ≡ first_late (map g (range_with_len 0 len)) replica wanted
-  first_late-agree len = ap (option_map (λ (late : ℕ × Cover). record { replica = late.0; moment = late.1.moment })) (found-agree 0 len)
+  first_late-agree len =
+      ap (λ (found : Option (ℕ × Cover)). option_map {U = Late} (λ (late : ℕ × Cover). record { replica = late.0; moment = late.1.moment }) found) (found-agree 0 len)
 
 -- what the replicas have out, 0 of the replica's own, is what the peers have
 pub sum-outs : (f : ℕ → ℕ) (replica : ℕ) (xs : List ℕ)
