@@ -22,13 +22,7 @@ fn one_of_two(alloc: Global, replica: u32) -> Result<Replica, Fail>
 }
 
 // Client 0 reads key 1 with one need on conit 0.
-fn read(
-    replica: &mut Replica,
-    moment: u64,
-    num: u32,
-    order: u32,
-    stale: u32,
-) -> Result<Reply, Fail>
+fn read(replica: &mut Replica, moment: u64, num: u32, order: u32, stale: u32) -> Result<Reply, Fail>
     requires moment { moment ≤ MOMENT_MAX }
     requires conits { 0 < replica.old.core.setup.conits }
     ensures { IsSameReplica replica.old.core replica.new.core }

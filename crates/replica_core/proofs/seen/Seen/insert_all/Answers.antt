@@ -42,7 +42,6 @@ module _ (point : ℕ) (writes held more : List Write) (is : more ≡ with_write
   many image has p same =
       omega (arith, ap (λ (n : ℕ). length (tentative_past n more)) same, counts, ap length has.ops, length-map (tentative_past point held) op_of)
 
-
 pub follow-requires-clause-committed : goal.follow-requires-clause-committed
 follow-requires-clause-committed c =
     let old = c.self.inside.ordered in
