@@ -1,12 +1,12 @@
 -- What a read waits for, and what it is told, is what the definitions say of each part that the replica stands for.
-use Rattle.std.proofs.Common.{◌≡◌, ℕ, zero, suc, ◌+◌, ◌<◌, ◌≤◌, ◌==◌, not, ◌&&◌, nat_lt, ℤ, Bool, true, false, cond, List, [], ◌∷◌, length, map, filter, sum, sum_by, find, All, Option, None, Some, unwrap_or, refl, sym, ap, ap₂, ◌∙◌, subst, ⊎_elim, inl, inr, ◌⊎◌, arith}
+use Rattle.std.proofs.Common.{◌≡◌, ℕ, zero, suc, ◌+◌, ◌<◌, ◌≤◌, ◌==◌, not, ◌&&◌, nat_lt, Bool, true, false, cond, List, [], ◌∷◌, map, filter, sum, sum_by, find, All, Option, None, Some, unwrap_or, refl, sym, ap, ap₂, ◌∙◌, ⊎_elim, inl, inr, ◌⊎◌, arith}
 use Rattle.std.specs.List.{range_with_len, enumerate_from, position_or_len}
 use Rattle.std.specs.Option.{option_map}
 use Rattle.std.proofs.lemmas.Bool.{cases_eq, eq-eqb, ne_eqb}
 use Rattle.std.proofs.lemmas.List.Elements.{All-weaker}
-use Rattle.std.proofs.lemmas.List.FromFn.{get_or-map-range_with_len, length-map-range_with_len}
+use Rattle.std.proofs.lemmas.List.FromFn.{length-map-range_with_len}
 use Rattle.std.proofs.lemmas.List.Sums.{sum-map, sum_by-cons}
-use Rattle.tact_base.proofs.ListLemmas.{map_range_agree, map_agree, get_or-map_range}
+use Rattle.tact_base.proofs.ListLemmas.{map_range_agree, get_or-map_range}
 use Rattle.tact_base.specs.Admission.{Hindrance, lent, unordered, stale, hindrance, wanted_moment}
 use Rattle.tact_base.specs.Covers.{least_of, least_stamp, slowest, first_late}
 use Rattle.tact_base.specs.Images.{image_of, ops_of}
@@ -22,7 +22,7 @@ use Rattle.access_gate.specs.Verdicts.{AreOuts, admission}
 use Rattle.access_gate.specs.declared.gate.Facts.{Facts}
 use Rattle.split_budget.specs.Budgets.{out, all_out}
 use Rattle.run_model.specs.Histories.{last_moment}
-use Rattle.run_model.specs.Order.{tentative, value, image}
+use Rattle.run_model.specs.Order.{tentative}
 use Rattle.run_model.specs.Ranges.{IsNeedInRange}
 use Rattle.run_model.specs.Replies as model
 use Rattle.run_model.specs.Replies.{first_some, waiting_by, outs_of, reply_of}
@@ -33,7 +33,7 @@ use Rattle.run_model.specs.declared.call.Request.TheVariants as request
 use Rattle.run_model.specs.declared.entry.Entry.{Entry}
 use Rattle.run_model.proofs.SoundViews.{cover_of-same, cover_of-other}
 use Rattle.run_promises.proofs.FirstReplies.{first_some-agree}
-use Rattle.replica_core.specs.Reading.{out_at, facts_of, need_refusal, read_reply, waiting_as}
+use Rattle.replica_core.specs.Reading.{out_at, need_refusal, read_reply, waiting_as}
 use Rattle.replica_core.specs.States.{Core, HasBudgets}
 use Rattle.replica_core.specs.Stands.{Stands}
 use Rattle.replica_core.proofs.BudgetViews.{out-part}

@@ -1,5 +1,5 @@
 -- What is kept of all that is seen, as writes are put in and committed: their sums, and the readers of these.
-use Rattle.std.proofs.Common.{◌≡◌, ℕ, ◌+◌, ◌-◌, ◌<◌, ◌≤◌, ℤ, pos, ◌-ℤ◌, nat_le, List, [], ◌∷◌, ◌++◌, All, length, get_or, take, drop, map, filter, sum_by, IsPermutation, refl, sym, ap, ap₂, ◌∙◌, subst, arith}
+use Rattle.std.proofs.Common.{◌≡◌, ℕ, ◌+◌, ◌<◌, ◌≤◌, pos, ◌-ℤ◌, nat_le, List, [], ◌∷◌, ◌++◌, All, length, get_or, take, drop, sum_by, IsPermutation, sym, ap, ap₂, ◌∙◌, subst, arith}
 use Rattle.std.specs.List.Sorted.{IsSorted}
 use Rattle.std.proofs.lemmas.List.{append_assoc, take_more, map-append}
 use Rattle.std.proofs.lemmas.List.Elements.{All-nil, All-drop, All-filter}

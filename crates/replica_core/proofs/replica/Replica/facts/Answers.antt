@@ -6,7 +6,6 @@ use Rattle.tact_base.specs.declared.write.Cover.{Cover}
 use Rattle.tact_base.specs.declared.write.Late.{Late}
 use Rattle.access_gate.specs.declared.gate.Facts.{Facts}
 use Rattle.replica_core.specs.States.{ReplicaState}
-use Rattle.replica_core.specs.Reading.{facts_of}
 use Rattle.replica_core.proofs.replica.Replica.facts.Goals as goal
 
 pub returns-clause-facts : goal.returns-clause-facts

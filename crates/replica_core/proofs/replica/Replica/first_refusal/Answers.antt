@@ -1,4 +1,4 @@
-use Rattle.std.proofs.Common.{get_or, sym, ◌∙◌}
+use Rattle.std.proofs.Common.{sym, ◌∙◌}
 use Rattle.tact_base.specs.declared.conit_list.Need.{Need}
 use Rattle.replica_core.specs.Reading.{need_refusal}
 use Rattle.replica_core.proofs.FirstRefusals.{first_next, first_later}

@@ -1,4 +1,4 @@
-use Rattle.std.proofs.Common.{◌≡◌, List, [], ◌∷◌, ap, ap₂, refl, ◌∙◌}
+use Rattle.std.proofs.Common.{List, [], ◌∷◌, ap, ◌∙◌}
 use Rattle.std.specs.Option.{option_map}
 use Rattle.tact_base.specs.Admission.{hindrance}
 use Rattle.tact_base.specs.declared.conit_list.Need.{Need}

@@ -1,10 +1,8 @@
-use Rattle.std.proofs.Common.{◌≡◌, ◌≤◌, ◌<◌, ℕ, cond, Bool, true, false, ap, sym, ◌∙◌, subst, arith}
-use Rattle.std.proofs.lemmas.Bool.{eq-eqb, ne_eqb}
+use Rattle.std.proofs.Common.{◌≤◌, ◌<◌, ap, subst, arith}
 use Rattle.tact_base.proofs.SetupLemmas.{HasRow-from_IsSetup}
 use Rattle.tact_base.specs.declared.limits.TheConstants.{ALPHA_MAX}
-use Rattle.split_budget.specs.Budgets.{out, all_out}
+use Rattle.split_budget.specs.Budgets.{all_out}
 use Rattle.replica_core.specs.States.{ReplicaState}
-use Rattle.replica_core.specs.Reading.{out_at}
 use Rattle.replica_core.proofs.replica.Replica.out_at.Goals as goal
 
 pub returns-else-holder-self-clause-all : goal.returns-else-holder-self-clause-all

@@ -1,4 +1,4 @@
-use Rattle.std.proofs.Common.{◌≡◌, ◌<◌, ℕ, ℤ, pos, length, map, take, sym, ◌∙◌, arith}
+use Rattle.std.proofs.Common.{◌≡◌, ◌<◌, ℤ, pos, length, map, take, sym, ◌∙◌, arith}
 use Rattle.std.proofs.lemmas.List.{ext_get_or, get_or-take, get_or-map, length-map, length-take-le}
 use Rattle.tact_base.specs.Sums.{net_sum}
 use Rattle.tact_base.specs.declared.conit_list.Need.{Need}
