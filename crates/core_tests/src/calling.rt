@@ -3,7 +3,6 @@
 ghost use Rattle.std.specs.Prelude.{◌≡◌, ◌<◌, IfOk};
 ghost use Rattle.tact_base.specs.Setup.{Setup};
 ghost use Rattle.run_model.specs.Ranges.{IsRequestInRange};
-ghost use Rattle.replica_core.specs.Calling.{IsBuilt};
 ghost use Rattle.replica_core.specs.Stands.{IsSameReplica};
 
 use replica_core::Replica;
@@ -25,7 +24,6 @@ enum Ask {
 // The request, whose write adds 1 to key 7.
 fn request(ask: Ask) -> Result<Request, Fail>
     ensures in_range { IfOk result (λ asked. (setup : Setup) → 0 < setup.conits → IsRequestInRange setup asked) }
-    ensures built { IfOk result IsBuilt }
 {
     let op = Op::Add { key: 7, delta: 1 };
     Ok(match ask {

@@ -1,5 +1,5 @@
 -- The next writes of an origin, in a replica's log of it.
-use Rattle.std.proofs.Common.{⊎_elim, ◌≡◌, ℕ, zero, suc, ◌+◌, ◌-◌, ◌<◌, ◌≤◌, List, [], ◌∷◌, ◌++◌, length, get_or, set, drop, flat_map, refl, sym, ap, ap₂, ◌∙◌, subst, arith, get_or-set_same}
+use Rattle.std.proofs.Common.{⊎_elim, ◌≡◌, ℕ, zero, suc, ◌+◌, ◌-◌, ◌<◌, ◌≤◌, List, [], ◌∷◌, ◌++◌, All, length, get_or, set, drop, flat_map, refl, sym, ap, ap₂, ◌∙◌, subst, arith, get_or-set_same}
 use Rattle.std.specs.List.{range_with_len}
 use Rattle.std.proofs.lemmas.List.{append_assoc, append-nil, get_or-map, length-drop, drop_all, set-set}
 use Rattle.std.proofs.lemmas.List.FromFn.{get_or-range_with_len}
@@ -8,23 +8,28 @@ use Rattle.std.proofs.lemmas.Bool.{cases_lt}
 use Rattle.std.specs.List.{drop-map}
 use Rattle.tact_base.proofs.ListLemmas.{All-one}
 use Rattle.tact_base.proofs.RangeLists.{flat_map_range_more}
+use Rattle.tact_base.specs.declared.conit_list.Weight.{Weight}
+use Rattle.tact_base.specs.declared.limits.TheConstants.{HISTORY_MAX}
 use Rattle.tact_base.specs.declared.write.Write.{Write}
 use Rattle.replica_core.specs.States.{Core, AreNext, log_at}
 use Rattle.replica_core.specs.Taking.{with_next}
 
 -- one of them, after those before it
-pub AreNext-one : (origin count k : ℕ) (writes : List Write) (write : Write)
-    → AreNext origin count writes
+pub AreNext-one : (conits origin count k : ℕ) (writes : List Write) (write : Write)
+    → AreNext conits origin count writes
     → k < length writes
     → write ≡ get_or writes k write
-    → AreNext origin (count + k) (write ∷ [])
-AreNext-one origin count k writes write next within is =
+    → AreNext conits origin (count + k) (write ∷ [])
+AreNext-one conits origin count k writes write next within is =
+    let P = λ (w : Write). All (λ (weight : Weight). weight.conit < conits) w.weights in
     let index : write.index ≡ count + k =
     ap (λ (w : Write). w.index) is ∙ sym (get_or-map (λ (w : Write). w.index) writes k write 0 within)
     ∙ ap (λ (ns : List ℕ). get_or ns k 0) next.indices ∙ get_or-range_with_len count (length writes) k 0 within in
     record {
       origins = All-one (λ (w : Write). w.origin ≡ origin) write (ap (λ (w : Write). w.origin) is ∙ next.origins k write within);
       indices = ap (λ (n : ℕ). n ∷ []) index;
+      on_conits = All-one P write (subst P (sym is) (next.on_conits k write within));
+      few = omega (arith, next.few, within);
     }
 
 -- a range without its first numbers
@@ -35,15 +40,18 @@ drop-range (suc k) start (suc len) few =
     drop-range k (start + 1) len (omega (arith, few)) ∙ ap₂ range_with_len (omega arith) (omega arith)
 
 -- those that a log lacks
-pub AreNext-lacking : (origin first have : ℕ) (told : List Write)
-    → AreNext origin first told
+pub AreNext-lacking : (conits origin first have : ℕ) (told : List Write)
+    → AreNext conits origin first told
     → first ≤ have
-    → AreNext origin have (drop (have - first) told)
-AreNext-lacking origin first have told next reaches =
+    → have ≤ HISTORY_MAX
+    → AreNext conits origin have (drop (have - first) told)
+AreNext-lacking conits origin first have told next reaches short =
     let known = have - first in
+    let P = λ (w : Write). All (λ (weight : Weight). weight.conit < conits) w.weights in
     ⊎_elim
     (λ (none : length told < known).
-    subst (AreNext origin have) (sym (drop_all known told (omega (arith, none)))) (record { origins = All-nil (λ (w : Write). w.origin ≡ origin); indices = refl }))
+    subst (AreNext conits origin have) (sym (drop_all known told (omega (arith, none))))
+    (record { origins = All-nil (λ (w : Write). w.origin ≡ origin); indices = refl; on_conits = All-nil P; few = omega (arith, short) }))
     (λ (few : known ≤ length told).
     record {
       origins = All-drop (λ (w : Write). w.origin ≡ origin) known told next.origins;
@@ -51,6 +59,8 @@ AreNext-lacking origin first have told next reaches =
           sym (drop-map (λ (w : Write). w.index) known told) ∙ ap (drop known) next.indices
           ∙ drop-range known first (length told) few
           ∙ ap₂ range_with_len (omega (arith, reaches)) (omega (arith, length-drop known told));
+      on_conits = All-drop P known told next.on_conits;
+      few = omega (arith, next.few, reaches, few, length-drop known told);
     })
     (cases_lt (length told) known)
 

@@ -1,17 +1,22 @@
 -- A write that goes to the end of its origin's log goes to its place among all writes in order.
-use Rattle.std.proofs.Common.{◌≡◌, ℕ, zero, suc, ◌+◌, ◌<◌, ◌≤◌, List, [], ◌∷◌, ◌++◌, length, get_or, set, flat_map, All, inl, inr, ◌⊎◌, refl, sym, ap, ap₂, ◌∙◌, subst, ⊎_elim, arith, get_or-set_same, get_or-set_other}
+use Rattle.std.proofs.Common.{◌≡◌, ℕ, zero, suc, ◌+◌, ◌*◌, ◌<◌, ◌≤◌, List, [], ◌∷◌, ◌++◌, length, get_or, set, flat_map, All, inl, inr, ◌⊎◌, refl, sym, ap, ap₂, ◌∙◌, subst, ⊎_elim, arith, get_or-set_same, get_or-set_other}
 use Rattle.std.specs.List.{range_with_len}
 use Rattle.std.proofs.lemmas.Bool.{cases_eq}
-use Rattle.std.proofs.lemmas.List.{append_assoc, append-nil, length_push, length-set, set-set, set-get_or}
+use Rattle.std.proofs.lemmas.List.{append_assoc, append-nil, length-append, length_push, length-set, set-set, set-get_or}
+use Rattle.std.proofs.lemmas.List.Concat.{length-flat_map}
+use Rattle.std.proofs.lemmas.List.FromFn.{length-range_with_len}
+use Rattle.std.proofs.lemmas.List.Sums.{sum_by-le}
 use Rattle.std.proofs.lemmas.List.Elements.{All-cons, All-head, All-tail, All-weaker}
 use Rattle.std.proofs.lemmas.List.Sorted.{All-permutation, IsPermutation-sym}
 use Rattle.tact_base.proofs.CompareLemmas.{AreApart}
-use Rattle.tact_base.proofs.ListLemmas.{All-range, All-append_left, flat_map_agree}
-use Rattle.tact_base.proofs.OrderLemmas.{IsPermutation-with_write, IsPermutation-in_order, in_order_middle}
+use Rattle.tact_base.proofs.ListLemmas.{All-range, All-one, All-append_left, flat_map_agree}
+use Rattle.tact_base.proofs.OrderLemmas.{IsPermutation-with_write, IsPermutation-in_order, in_order_middle, length-in_order}
 use Rattle.tact_base.specs.WriteOrder.{with_write, in_order}
+use Rattle.tact_base.specs.declared.conit_list.Weight.{Weight}
+use Rattle.tact_base.specs.declared.limits.TheConstants.{HISTORY_MAX}
 use Rattle.tact_base.specs.declared.write.Write.{Write}
 use Rattle.commit_order.specs.Batches.{with_writes}
-use Rattle.replica_core.specs.States.{joined, AreNext}
+use Rattle.replica_core.specs.States.{joined, AreFew, AreNext}
 
 -- of joined lists, of which one gets one more element
 pub record GetsOne (before after : List Write) (write : Write) : Type 0 where
@@ -135,28 +140,101 @@ admitted_one replicas logs seen origin write before among is next =
       placed = admitted_placed replicas logs seen write before.sized among' next' before.ordered before.placed;
     })
 
-pub admitted_all : (writes : List Write) (replicas : ℕ) (logs : List (List Write)) (seen : List Write) (origin : ℕ)
+pub admitted_all : (writes : List Write) (conits replicas : ℕ) (logs : List (List Write)) (seen : List Write) (origin : ℕ)
     → AreAdmitted replicas logs seen
     → origin < replicas
-    → AreNext origin (length (get_or logs origin [])) writes
+    → AreNext conits origin (length (get_or logs origin [])) writes
     → AreAdmitted replicas (set logs origin (get_or logs origin [] ++ writes)) (with_writes writes seen)
-admitted_all [] replicas logs seen origin before among next =
+admitted_all [] conits replicas logs seen origin before among next =
     subst (λ (after : List (List Write)). AreAdmitted replicas after seen) (sym (ap (set logs origin) (append-nil (get_or logs origin [])) ∙ set-get_or logs origin [])) before
-admitted_all (write ∷ writes) replicas logs seen origin before among next =
+admitted_all (write ∷ writes) conits replicas logs seen origin before among next =
     let log = get_or logs origin [] in
     let here : write.index ≡ length log = ap (λ (ns : List ℕ). get_or ns 0 0) next.indices in
     let one = admitted_one replicas logs seen origin write before among (All-head (λ (w : Write). w.origin ≡ origin) write writes next.origins) here in
     let more = set logs origin (log ++ write ∷ []) in
     let grown : get_or more origin [] ≡ log ++ write ∷ [] = get_or-set_same logs origin (log ++ write ∷ []) [] (omega (arith, among, before.sized)) in
     let count : length (get_or more origin []) ≡ length log + 1 = ap length grown ∙ length_push log write in
-    let later : AreNext origin (length (get_or more origin [])) writes = record {
+    let later : AreNext conits origin (length (get_or more origin [])) writes = record {
       origins = All-tail (λ (w : Write). w.origin ≡ origin) write writes next.origins;
       indices = ap tail_of next.indices ∙ ap (λ (n : ℕ). range_with_len n (length writes)) (sym count);
+      on_conits = All-tail (λ (w : Write). All (λ (weight : Weight). weight.conit < conits) w.weights) write writes next.on_conits;
+      few = omega (arith, next.few, count);
     } in
-    let all = admitted_all writes replicas more (with_write write seen) origin one among later in
+    let all = admitted_all writes conits replicas more (with_write write seen) origin one among later in
     subst (λ (after : List (List Write)). AreAdmitted replicas after (with_writes writes (with_write write seen)))
     (ap (λ (front : List Write). set more origin (front ++ writes)) grown ∙ set-set logs origin (log ++ write ∷ []) _ ∙ ap (set logs origin) (append_assoc log (write ∷ []) writes)) all
   where
     tail_of : List ℕ → List ℕ
     tail_of [] = []
     tail_of (n ∷ ns) = ns
+
+-- No log is longer than a history, so all that is seen is not too much to be summed.
+pub seen-few : (replicas : ℕ) (logs : List (List Write)) (seen : List Write)
+    → seen ≡ in_order (joined replicas logs)
+    → ((origin : ℕ) → length (get_or logs origin []) ≤ HISTORY_MAX)
+    → length seen ≤ replicas * HISTORY_MAX
+seen-few replicas logs seen ordered short =
+    let log = λ (origin : ℕ). get_or logs origin [] in
+    omega (
+      arith,
+      ap length ordered,
+      length-in_order (joined replicas logs),
+      length-flat_map log (range_with_len 0 replicas),
+      sum_by-le (λ origin. length (log origin)) HISTORY_MAX (range_with_len 0 replicas) (λ k d within. short _),
+      length-range_with_len 0 replicas,
+    )
+
+-- one own write is the next, where an entry may follow
+pub AreNext-own : (conits replica count : ℕ) (logs : List (List Write)) (write : Write)
+    → write.origin ≡ replica
+    → write.index ≡ length (get_or logs replica [])
+    → All (λ (weight : Weight). weight.conit < conits) write.weights
+    → AreFew replica count logs
+    → count < HISTORY_MAX
+    → AreNext conits replica (length (get_or logs replica [])) (write ∷ [])
+AreNext-own conits replica count logs write is next on_conits few room = record {
+  origins = All-one (λ (w : Write). w.origin ≡ replica) write is;
+  indices = ap (λ (n : ℕ). n ∷ []) next;
+  on_conits = All-one (λ (w : Write). All (λ (weight : Weight). weight.conit < conits) w.weights) write on_conits;
+  few = omega (arith, few.own, room);
+}
+
+-- as an own write is counted with its entry, and as another origin's log grows
+module _ (replica count : ℕ) (logs : List (List Write)) where
+  pub AreFew-own : (writes : List Write)
+      → replica < length logs
+      → length writes ≡ 1
+      → count < HISTORY_MAX
+      → AreFew replica count logs
+      → AreFew replica (count + 1) (set logs replica (get_or logs replica [] ++ writes))
+  AreFew-own writes within one room few =
+      let log = get_or logs replica [] in
+      let grown : length (get_or (set logs replica (log ++ writes)) replica []) ≡ length log + 1 =
+      omega (arith, ap length (get_or-set_same logs replica (log ++ writes) [] within), length-append log writes, one) in
+      record {
+        entries = omega (arith, room);
+        own = omega (arith, grown, few.own);
+        each = λ origin. ⊎_elim
+            (λ (same : origin ≡ replica). omega (arith, ap (λ o. length (get_or (set logs replica (log ++ writes)) o [])) same, grown, few.own, room))
+            (λ (other : origin ≡ replica → ⊥). omega (arith, ap length (get_or-set_other logs replica origin (log ++ writes) [] other), few.each origin))
+            (cases_eq origin replica);
+      }
+
+  pub AreFew-other : (origin : ℕ) (writes : List Write)
+      → origin < length logs
+      → (origin ≡ replica → ⊥)
+      → length (get_or logs origin []) + length writes ≤ HISTORY_MAX
+      → AreFew replica count logs
+      → AreFew replica count (set logs origin (get_or logs origin [] ++ writes))
+  AreFew-other origin writes within other short few =
+      let log = get_or logs origin [] in
+      let grown : length (get_or (set logs origin (log ++ writes)) origin []) ≡ length log + length writes =
+      omega (arith, ap length (get_or-set_same logs origin (log ++ writes) [] within), length-append log writes) in
+      record {
+        entries = few.entries;
+        own = omega (arith, ap length (get_or-set_other logs origin replica (log ++ writes) [] (λ same. other (sym same))), few.own);
+        each = λ one. ⊎_elim
+            (λ (same : one ≡ origin). omega (arith, ap (λ o. length (get_or (set logs origin (log ++ writes)) o [])) same, grown, short))
+            (λ (differ : one ≡ origin → ⊥). omega (arith, ap length (get_or-set_other logs origin one (log ++ writes) [] differ), few.each one))
+            (cases_eq one origin);
+      }

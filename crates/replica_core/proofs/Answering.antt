@@ -1,9 +1,10 @@
 -- What a replica answers to each request, and what it then stands for.
-use Rattle.std.proofs.Common.{◌≡◌, ℕ, ◌+◌, ◌-◌, ◌<◌, ◌≤◌, nat_lt, Bool, true, false, cond, List, [], ◌∷◌, length, get_or, set, unsigned_abs, All, Option, None, Some, unwrap_or, refl, sym, ap, ◌∙◌, subst, arith}
+use Rattle.std.proofs.Common.{◌≡◌, ℕ, ◌+◌, ◌-◌, ◌<◌, ◌≤◌, nat_lt, max, Bool, true, false, cond, List, [], ◌∷◌, length, get_or, set, unsigned_abs, All, Option, None, Some, unwrap_or, refl, sym, ap, ◌∙◌, subst, arith}
 use Rattle.std.proofs.lemmas.Bool.{lt-ltb, le-ltb}
 use Rattle.std.proofs.lemmas.List.Elements.{All-weaker}
 use Rattle.tact_base.specs.Setup.{peers_of}
 use Rattle.tact_base.specs.declared.conit_list.Weight.{Weight}
+use Rattle.tact_base.specs.declared.conit_list.Need.{Need}
 use Rattle.tact_base.specs.declared.write.Op.{Op}
 use Rattle.run_model.specs.Histories.{moment_at}
 use Rattle.run_model.specs.Missing.{greater_missing, reserved}
@@ -19,10 +20,12 @@ use Rattle.run_promises.proofs.PartSound.{PartSound-part}
 use Rattle.run_promises.proofs.SharesWrites.{peers_refuse, weights_refuse}
 use Rattle.replica_core.specs.Calling.{MayAsk, Answers, refusal_of, reserve_refusal, accepted}
 use Rattle.replica_core.specs.States.{Core, IsKept, with_call, next_write, entered}
+use Rattle.replica_core.specs.Reading.{read_reply}
 use Rattle.replica_core.specs.Stands.{Stands}
 use Rattle.replica_core.proofs.Accepting.{accepts_as, accepts_as-part, Stands-accepted}
 use Rattle.replica_core.proofs.QuietEntries.{reserved-same}
 use Rattle.replica_core.proofs.Called.{IsRefusal, entry, Stands-refused, Stands-reserved, reserved-more, reserved-less}
+use Rattle.replica_core.proofs.Reading.{read_reply-part}
 use Rattle.replica_core.proofs.Refusals.{weights_refusal-part, reserve_refusal-part}
 
 -- an answer, by what it is and what it leaves
@@ -45,6 +48,16 @@ module _ (core : Core) (kept : IsKept core) (handed client : ℕ) where
       → Answers core (entered (with_call core client) handed) handed client asked given
   refused asked may given due refuses part stands =
       (due part stands, Stands-refused part core stands kept.places handed client asked may given (due part stands) (refuses part stands))
+
+  -- a read, whatever is answered
+  pub read_answered : (key : ℕ) (needs : List Need)
+      → MayAsk core handed client (request.Read key needs)
+      → Answers core (entered (with_call core client) handed) handed client (request.Read key needs) (read_reply core (max handed core.counts.last) key needs)
+  read_answered key needs may = refused (request.Read key needs) may (read_reply core (max handed core.counts.last) key needs)
+      (λ part stands.
+      ap (λ (last : ℕ). read_reply core (max handed last) key needs) stands.counts.last
+      ∙ read_reply-part part core stands kept.budgets (moment_at part handed) key needs may.in_range.1.each)
+      (λ part stands. record { accepts = λ replica moment. refl; grants = λ conit. refl; uses = λ conit. refl })
 
   -- Of a write.
   module _ (weights : List Weight) (op : Op) (may : MayAsk core handed client (request.Write weights op)) where

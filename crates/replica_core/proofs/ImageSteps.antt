@@ -13,7 +13,7 @@ use Rattle.tact_base.specs.declared.write.Write.{Write}
 use Rattle.std.specs.List.Sorted.{IsSorted}
 use Rattle.rollback_apply.specs.Image.{ImageState, base_of, value_in}
 use Rattle.rollback_apply.proofs.ImageLemmas.{same_image}
-use Rattle.replica_core.specs.States.{HasImage}
+use Rattle.replica_core.specs.Seen.{HasImage}
 
 abbrev pub op_of : Write → Op
 op_of write = write.op

@@ -10,10 +10,13 @@ pub mod StandsAfterBudgets
 pub mod Loans
 pub mod NewReplica
 pub mod AdmitLemmas
+pub mod FirstRefusals
 pub mod Refusals
+pub mod Reading
 pub mod Called
 pub mod Accepting
 pub mod ImageSteps
+pub mod SeenLemmas
 pub mod Answering
 pub mod ReadCauses
 pub mod Causes

@@ -1,5 +1,5 @@
 -- A replica that has done nothing: it stands for the empty part.
-use Rattle.std.proofs.Common.{◌≡◌, ℕ, pos, ◌+◌, ◌*◌, ◌/◌, ◌%◌, ◌<◌, ◌≤◌, List, [], length, get_or, replicate, refl, sym, ap, ap₂, ◌∙◌, ⊎_elim, subst, arith}
+use Rattle.std.proofs.Common.{◌≡◌, ℕ, ◌+◌, ◌*◌, ◌/◌, ◌%◌, ◌<◌, ◌≤◌, List, [], length, get_or, replicate, refl, sym, ap, ap₂, ◌∙◌, ⊎_elim, subst, arith}
 use Rattle.std.specs.List.{range_with_len}
 use Rattle.std.proofs.lemmas.Bool.{cases_eq, cases_lt}
 use Rattle.std.proofs.lemmas.List.{get_or-replicate, length-replicate, get_or_past, get_or-map, length-map}
@@ -21,8 +21,7 @@ use Rattle.run_model.proofs.PrefixLemmas.{EachAfter-nil}
 use Rattle.run_model.proofs.Accepted.{log_of-same, log_of-other}
 use Rattle.run_model.proofs.SoundViews.{cover_of-same, cover_of-other}
 use Rattle.split_budget.specs.Budgets.{BudgetState, by_place, opening}
-use Rattle.rollback_apply.specs.Image.{ImageState, base_of}
-use Rattle.replica_core.specs.States.{Core, IsKept, HasImage}
+use Rattle.replica_core.specs.States.{Core, IsKept}
 use Rattle.replica_core.specs.Stands.{Stands, WritesStand, BudgetsStand}
 use Rattle.replica_core.proofs.LentLemmas.{AreLentBy-opening}
 use Rattle.replica_core.proofs.StandsByPlace.{stamps_of}
@@ -138,6 +137,7 @@ module _ (setup : Setup) (replica : ℕ) (among : replica < setup.replicas) wher
       own = omega (arith, ap (λ (c : Cover). c.stamp) (get_or-replicate setup.replicas replica no_cover no_cover among));
       committed = omega (arith, least_stamp-le (replicate setup.replicas no_cover) replica no_cover (omega (arith, among, length-replicate setup.replicas no_cover)), ap (λ (c : Cover). c.stamp) (get_or-replicate setup.replicas replica no_cover no_cover among));
     };
+    few = record { entries = omega arith; own = omega (arith, ap length (no_list replica)); each = λ origin. omega (arith, ap length (no_list origin)) };
     lent = AreLentBy-opening setup good replica among;
   }
 
@@ -161,14 +161,3 @@ module _ (setup made : Setup) (replica : ℕ) (logs : List (List Write)) (covers
 
   pub IsKept-made : IsSetup setup → IsKept made_core
   IsKept-made good = subst IsKept (sym same_core) (IsKept-new setup replica among good)
-
--- the image of no writes
-pub HasImage-made : (seen : List Write) (point : ℕ) (image : ImageState)
-    → seen ≡ []
-    → point ≡ 0
-    → image.committed ≡ 0
-    → ((key : ℕ) → base_of image key ≡ pos 0)
-    → image.ops ≡ []
-    → HasImage seen point image
-HasImage-made seen point image no_writes no_point none base no_ops =
-    rw (no_writes, no_point) (record { committed = none; base = base; ops = no_ops })

@@ -24,11 +24,6 @@ use Rattle.run_model.specs.declared.entry.Entry.{Entry}
 use Rattle.replica_core.specs.States.{Core, is_full, with_call, with_own}
 use Rattle.replica_core.specs.Stands.{Stands, with_act}
 
--- a request that is answered: any but a read
-abbrev pub IsBuilt : Request → Type 0
-IsBuilt (request.Read key needs) = ⊥
-IsBuilt other = Unit {0}
-
 -- a request that asks for no write
 abbrev pub IsWithoutWrite : Request → Type 0
 IsWithoutWrite (request.Write weights op) = ⊥

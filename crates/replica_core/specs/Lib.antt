@@ -1,3 +1,4 @@
+pub mod Seen
 pub mod States
 pub mod Sending
 pub mod Stands
@@ -5,3 +6,4 @@ pub mod Taking
 pub mod Lending
 pub mod Calling
 pub mod Fitting
+pub mod Reading

@@ -4,16 +4,15 @@ use Rattle.std.specs.List.{flat_map, range_with_len}
 use Rattle.tact_base.specs.Counts.{one_more}
 use Rattle.tact_base.specs.Covers.{no_cover, later_cover, least_stamp}
 use Rattle.tact_base.specs.Setup.{Setup, IsSetup}
-use Rattle.tact_base.specs.Images.{image_of, ops_of}
-use Rattle.tact_base.specs.WriteOrder.{in_order, with_write, committed_to, tentative_past}
+use Rattle.tact_base.specs.WriteOrder.{in_order, with_write}
 use Rattle.tact_base.specs.declared.limits.TheConstants.{STAMP_MAX, HISTORY_MAX, CLIENTS, ALPHA_MAX, AMOUNT_MAX}
 use Rattle.tact_base.specs.declared.conit_list.Weight.{Weight}
 use Rattle.tact_base.specs.declared.write.Cover.{Cover}
 use Rattle.tact_base.specs.declared.write.Op.{Op}
 use Rattle.tact_base.specs.declared.write.Write.{Write}
-use Rattle.rollback_apply.specs.Image.{ImageState, base_of}
 use Rattle.split_budget.specs.Budgets.{BudgetState}
 use Rattle.write_log.specs.Logs.{LogState, room_of}
+use Rattle.replica_core.specs.Seen.{AreOnConits}
 
 -- What it keeps of writes. By origin: its log, and its cover, its own at the moment of its last entry. By peer and then origin: how
 -- many of the origin's writes the peer is known to have. All writes in order, of which those up to the point are committed. Its clock.
@@ -77,10 +76,13 @@ pub record HasBudgets (core : Core) : Type 0 where
   pub setup : core.budgets.setup ≡ core.setup
   pub replica : core.budgets.replica ≡ core.replica
 
--- The next writes of an origin, of whose log there are so many.
-pub record AreNext (origin count : ℕ) (writes : List Write) : Type 0 where
+-- The next writes of an origin, of whose log there are so many: they weigh on so many conits alone, and with them the log is no longer
+-- than a history.
+pub record AreNext (conits origin count : ℕ) (writes : List Write) : Type 0 where
   pub origins : All (λ (write : Write). write.origin ≡ origin) writes
   pub indices : map (λ (write : Write). write.index) writes ≡ range_with_len count (length writes)
+  pub on_conits : AreOnConits conits writes
+  pub few : count + length writes ≤ HISTORY_MAX
 
 -- all writes of its logs, joined by origin
 abbrev pub joined : ℕ → List (List Write) → List Write
@@ -98,27 +100,27 @@ pub record IsBetweenEntries (core : Core) : Type 0 where
 abbrev pub AreLentBy : ℕ → List ℕ → Type 0
 AreLentBy count numbers = All (λ lent. lent ≤ ALPHA_MAX + count * AMOUNT_MAX) numbers
 
+-- No log is longer than a history, and its own no longer than the count of its entries.
+pub record AreFew (replica count : ℕ) (logs : List (List Write)) : Type 0 where
+  pub entries : count ≤ HISTORY_MAX
+  pub own : length (slice_index_or logs replica []) ≤ count
+  pub each : (origin : ℕ) → length (slice_index_or logs origin []) ≤ HISTORY_MAX
+
 -- What every replica keeps.
 pub record IsKept (core : Core) : Type 0 where
   pub setup : IsSetup core.setup
   pub places : HasPlaces core
   pub budgets : HasBudgets core
   pub between : IsBetweenEntries core
+  pub few : AreFew core.replica core.counts.count core.writes.logs
   pub lent : AreLentBy core.counts.count core.budgets.lent
 
--- An image is that of writes in order: those up to a point are committed in it, and the others tentative.
-pub record HasImage (seen : List Write) (point : ℕ) (image : ImageState) : Type 0 where
-  pub committed : image.committed ≡ length (committed_to point seen)
-  pub base : (key : ℕ) → base_of image key ≡ image_of (ops_of (committed_to point seen)) key
-  pub ops : image.ops ≡ ops_of (tentative_past point seen)
-
--- There is room for so many own writes in its log, the order, the image and the budgets; and beside it for so many told writes of each
--- other origin, in its log, the order and the image.
-pub record HasRooms (replica spare beside : ℕ) (logs : LogState) (order_room image_room budget_room : ℕ) : Type 0 where
+-- There is room for so many own writes in its log, among what it has seen, and in the budgets; and beside it for so many told writes
+-- of each other origin, in its log and among what it has seen.
+pub record HasRooms (replica spare beside : ℕ) (logs : LogState) (seen_room budget_room : ℕ) : Type 0 where
   pub own : spare ≤ room_of logs replica
   pub others : (origin : ℕ) → origin ≢ replica → origin < length logs.logs → beside ≤ room_of logs origin
-  pub order : spare + beside ≤ order_room
-  pub image : spare + beside ≤ image_room
+  pub seen : spare + beside ≤ seen_room
   pub budgets : spare ≤ budget_room
 
 -- what the replica is at now: so many own writes, its clock, and a moment
@@ -137,6 +139,16 @@ entered core handed =
     record core {
       writes = record core.writes { covers = covers; point = least_stamp covers };
       counts = record core.counts { count = core.counts.count + 1; last = last };
+    }
+
+-- The same of an entry that is counted already.
+abbrev pub closed : Core → ℕ → Core
+closed core handed =
+    let last = max handed core.counts.last in
+    let covers = covers_with_own core last in
+    record core {
+      writes = record core.writes { covers = covers; point = least_stamp covers };
+      counts = record core.counts { last = last };
     }
 
 -- with one more message sent, and with one more call of a client

@@ -3,7 +3,10 @@
 #![tactic(auto)]
 
 mod fault;
+mod last_one;
 mod replica;
+mod seen;
 
 pub use fault::{CoreFault, LoanFault};
+pub use last_one::LastOne;
 pub use replica::Replica;

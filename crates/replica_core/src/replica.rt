@@ -2,11 +2,13 @@
 ghost use Rattle.std.specs.Prelude.{◌≡◌, ◌↔◌, ℕ, ◌*◌, ◌<◌, ◌≤◌, List, [], suc, length, map, replicate, slice_index, IfOk, OnOk, OnErr, IsOk, IfErr, IsTrue, true, false, max};
 ghost use Rattle.tact_base.specs.declared.limits.TheConstants.{CLIENTS, HISTORY_MAX, MOMENT_MAX};
 ghost use Rattle.tact_base.specs.WriteOrder.{committed_to, tentative_past};
-ghost use Rattle.replica_core.specs.States.{IsKept, log_at, known_at, cover_at, entered, is_full};
+ghost use Rattle.replica_core.specs.States.{IsKept, log_at, known_at, cover_at, entered, closed, is_full};
 ghost use Rattle.replica_core.specs.Stands.{Stands, GoesOn, IsSameReplica};
 ghost use Rattle.split_budget.specs.Budgets.{opening};
 ghost use Rattle.tact_base.specs.Images.{image_of, ops_of};
-ghost use Rattle.run_model.specs.Order.{point, image};
+ghost use Rattle.tact_base.specs.Sums.{net_sum, order_sum};
+ghost use Rattle.run_model.specs.Order.{point, committed, tentative, value, image};
+ghost use Rattle.replica_core.specs.Seen.{last_one};
 ghost use Rattle.run_model.specs.declared.entry.Entry.{Entry};
 ghost use Rattle.run_model.specs.declared.entry.Act.TheVariants.{Restart};
 
@@ -14,16 +16,15 @@ mod admitting;
 mod calling;
 mod fitting;
 mod lending;
+mod reading;
 mod refusing;
 mod reserving;
 mod sending;
 mod taking;
 mod writing;
 
-use self::admitting::commit;
-use crate::CoreFault;
-use commit_order::Ordered;
-use rollback_apply::Image;
+use crate::seen::Seen;
+use crate::{CoreFault, LastOne};
 use run_model::Config;
 use split_budget::{Budget, Budgets};
 use std::alloc::Global;
@@ -42,8 +43,7 @@ pub struct Replica {
     logs: Logs,
     vector: Vector,
     known: Vec<u64>,
-    ordered: Ordered,
-    image: Image,
+    seen: Seen,
     clock: u64,
     budgets: Budgets,
     calls: [u64; CLIENTS as usize],
@@ -55,7 +55,8 @@ pub struct Replica {
 }
 
 impl Model for Replica {
-    ghost use Rattle.replica_core.specs.States.{ReplicaState, IsKept, HasRooms, HasImage};
+    ghost use Rattle.std.specs.Prelude.{◌≡◌};
+    ghost use Rattle.replica_core.specs.States.{ReplicaState, IsKept, HasRooms};
 
     ghost Value = { ReplicaState };
 
@@ -67,8 +68,8 @@ impl Model for Replica {
           logs = r.logs.logs;
           covers = r.vector;
           known = r.known.items;
-          seen = r.ordered.writes;
-          point = r.ordered.point;
+          seen = r.seen.writes;
+          point = r.seen.point;
           clock = r.clock;
         };
         budgets = record r.budgets { room = 0 };
@@ -78,8 +79,8 @@ impl Model for Replica {
       beside = r.beside;
     } };
 
-    ghost invariant = { λ r. IsKept (view r).core × HasRooms r.replica r.spare r.beside r.logs r.ordered.room r.image.room r.budgets.room
-        × HasImage r.ordered.writes r.ordered.point r.image };
+    ghost invariant = { λ r. IsKept (view r).core × HasRooms r.replica r.spare r.beside r.logs r.seen.room r.budgets.room
+        × (r.seen.conits ≡ r.config.conits) };
 }
 
 impl Replica {
@@ -98,8 +99,7 @@ impl Replica {
             logs: Logs::new(alloc, replicas)?,
             vector: Vector::new(alloc, replicas)?,
             known: vec![in alloc; 0; (replicas * replicas) as usize]?,
-            ordered: Ordered::new(alloc),
-            image: Image::new(alloc),
+            seen: Seen::new(alloc, config.conits())?,
             clock: 0,
             budgets: opening_budgets(alloc, config, replica)?,
             calls: [0; CLIENTS as usize],
@@ -123,8 +123,7 @@ impl Replica {
         if k > self.spare {
             let all = k.checked_add(self.beside).ok_or(NoMemory)?;
             self.logs.reserve(self.replica, k)?;
-            self.ordered.reserve(all)?;
-            self.image.reserve(all)?;
+            self.seen.reserve(all)?;
             self.budgets.reserve_room(k)?;
             self.spare = k;
         }
@@ -170,21 +169,39 @@ impl Replica {
         ensures of_part { (part : List Entry) → Stands part self.now.core
             → result ≡ point self.now.core.setup self.now.core.replica part }
     {
-        self.ordered.point()
+        self.seen.point()
     }
 
     /// The committed writes, in order. Takes no memory.
     pub fn committed(&self) -> &[Write]
         ensures { result.now ≡ committed_to self.now.core.writes.point self.now.core.writes.seen }
     {
-        self.ordered.committed()
+        self.seen.committed()
     }
 
     /// The other writes that it has, in order. Takes no memory.
     pub fn tentative(&self) -> &[Write]
         ensures { result.now ≡ tentative_past self.now.core.writes.point self.now.core.writes.seen }
     {
-        self.ordered.tentative()
+        self.seen.tentative()
+    }
+
+    /// How many writes are committed. Takes no memory.
+    pub fn committed_count(&self) -> u64
+        ensures count { result ≡ length (committed_to self.now.core.writes.point self.now.core.writes.seen) }
+        ensures of_part { (part : List Entry) → Stands part self.now.core
+            → result ≡ length (committed self.now.core.setup self.now.core.replica part) }
+    {
+        self.seen.committed().len() as u64
+    }
+
+    /// Which write is the last of the committed ones: `None` exactly where none is. Takes no memory.
+    pub fn last_committed(&self) -> Option<LastOne>
+        ensures last { result ≡ last_one (committed_to self.now.core.writes.point self.now.core.writes.seen) }
+        ensures of_part { (part : List Entry) → Stands part self.now.core
+            → result ≡ last_one (committed self.now.core.setup self.now.core.replica part) }
+    {
+        self.seen.last_committed()
     }
 
     /// How many entries it made. Takes no memory.
@@ -216,12 +233,36 @@ impl Replica {
         ensures of_part { (part : List Entry) → Stands part self.now.core
             → result ≡ image self.now.core.setup self.now.core.replica part key }
     {
-        self.image.get(key)
+        self.seen.get(key)
+    }
+
+    /// The value of a conit: the sum of the nweights that all writes that it has have on it. It is kept as writes
+    /// come. Takes no memory.
+    pub fn value(&self, conit: u32) -> i64
+        requires { conit < self.now.core.setup.conits }
+        ensures value { result ≡ net_sum self.now.core.writes.seen conit }
+        ensures of_part { (part : List Entry) → Stands part self.now.core
+            → result ≡ value self.now.core.setup self.now.core.replica part conit }
+    {
+        self.seen.value(conit)
+    }
+
+    /// How much its tentative writes weigh on a conit: the sum of their oweights. It is kept as writes come and are
+    /// committed. Takes no memory.
+    pub fn tentative_weight(&self, conit: u32) -> u64
+        requires { conit < self.now.core.setup.conits }
+        ensures weight { result ≡ order_sum (tentative_past self.now.core.writes.point self.now.core.writes.seen) conit }
+        ensures of_part { (part : List Entry) → Stands part self.now.core
+            → result ≡ order_sum (tentative self.now.core.setup self.now.core.replica part) conit }
+    {
+        self.seen.tentative_weight(conit)
     }
 
     /// Its budgets: its shares, what its own writes use of them, and what it lends. Takes no memory.
     pub fn budgets(&self) -> &Budgets
-        ensures { self.now.core.budgets ≡ record result.now { room = 0 } }
+        ensures budgets { self.now.core.budgets ≡ record result.now { room = 0 } }
+        ensures setup { result.now.setup ≡ self.now.core.setup }
+        ensures replica { result.now.replica ≡ self.now.core.replica }
     {
         &self.budgets
     }
@@ -273,6 +314,13 @@ impl Replica {
         ensures { self.new ≡ record self.old { core = entered self.old.core moment } }
     {
         self.count += 1;
+        self.close(moment);
+    }
+
+    // Closes an entry that is counted: its own cover is raised, and what can be is committed.
+    fn close(&mut self, moment: u64)
+        ensures { self.new ≡ record self.old { core = closed self.old.core moment } }
+    {
         self.last = moment.max(self.last);
         let own = Cover {
             count: self.logs.count(self.replica),
@@ -280,11 +328,7 @@ impl Replica {
             moment: self.last,
         };
         self.vector.raise(self.replica, own);
-        commit(
-            &mut self.ordered,
-            &mut self.image,
-            self.vector.least_stamp().1,
-        );
+        self.seen.commit_to(self.vector.least_stamp().1);
     }
 }
 

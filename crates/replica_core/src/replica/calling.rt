@@ -6,9 +6,9 @@ ghost use Rattle.run_model.specs.Ranges.{IsRequestInRange};
 ghost use Rattle.run_model.specs.Replies.{reply_of};
 ghost use Rattle.run_model.specs.declared.entry.Act.TheVariants as act;
 ghost use Rattle.run_model.specs.declared.entry.Entry.{Entry};
-ghost use Rattle.replica_core.specs.States.{entered, with_call, is_full};
+ghost use Rattle.replica_core.specs.States.{entered, closed, with_call, is_full};
 ghost use Rattle.replica_core.specs.Stands.{Stands, GoesOn, IsSameReplica, IsFaultOf};
-ghost use Rattle.replica_core.specs.Calling.{IsBuilt, IsWithoutWrite, NamesCause};
+ghost use Rattle.replica_core.specs.Calling.{IsWithoutWrite, NamesCause};
 
 use super::Replica;
 use crate::CoreFault;
@@ -16,9 +16,9 @@ use run_model::{Reply, Request};
 
 impl Replica {
     /// Answers a call of a client at a moment, with the first case that applies (the replies in
-    /// docs/MODEL.md). It answers any request but a read. The moment of the entry is the greater of the
-    /// handed one and that of the last entry; amounts and weights are plain counts. A reply of any kind is an
-    /// entry: a refused request is counted for its client, and changes nothing else.
+    /// docs/MODEL.md). The moment of the entry is the greater of the handed one and that of the last entry, and a
+    /// read is answered at it; amounts and weights are plain counts. A reply of any kind is an entry: a refused
+    /// request, and a read, is counted for its client, and changes nothing else.
     ///
     /// `Full` comes exactly where 20,000 entries were made or the clock stands at 2^40. `NoMemory` doesn't
     /// come where there is room for a write (`spare`), nor for a request that writes nothing. Both leave the
@@ -27,7 +27,6 @@ impl Replica {
         requires moment { moment ≤ MOMENT_MAX }
         requires client { client < CLIENTS }
         requires in_range { IsRequestInRange self.old.core.setup request.now }
-        requires built { IsBuilt request.now }
         ensures goes_on { IfOk result (λ given. GoesOn self.old.core self.new.core moment
             (λ part. act.Call client (calls_in part client) request.now given)) }
         ensures due { IfOk result (λ given. (part : List Entry) → Stands part self.old.core
@@ -53,18 +52,27 @@ impl Replica {
             Request::Release { conit, amount } => {
                 Ok(self.answer_release(moment, client, *conit, *amount))
             }
-            Request::Read { .. } => unreachable!(),
+            Request::Read { key, needs } => Ok(self.answer_read(moment, client, *key, needs)),
         }
     }
 
-    // Closes the entry of a call of a client, which is counted.
+    // Makes the entry of a call of a client, which is counted.
     pub(super) fn close_call(&mut self, moment: u64, client: u32)
         requires few { self.old.core.counts.count < HISTORY_MAX }
         requires client { client < CLIENTS }
         ensures { self.new ≡ record self.old { core = entered (with_call self.old.core client) moment } }
     {
+        self.count += 1;
+        self.close_counted_call(moment, client);
+    }
+
+    // Counts a call of a client, whose entry is counted, and closes the entry.
+    pub(super) fn close_counted_call(&mut self, moment: u64, client: u32)
+        requires { client < CLIENTS }
+        ensures { self.new ≡ record self.old { core = closed (with_call self.old.core client) moment } }
+    {
         let number = self.calls[client as usize];
         self.calls[client as usize] = number.saturating_add(1);
-        self.enter(moment);
+        self.close(moment);
     }
 }

@@ -20,8 +20,6 @@ ghost use Rattle.replica_core.specs.Taking.{FitsAt, AreToldBy, added_at, raised_
 use super::Replica;
 use super::admitting::{admit, are_in_order};
 use crate::CoreFault;
-use commit_order::Ordered;
-use rollback_apply::Image;
 use run_model::{Config, Message};
 use split_budget::Budgets;
 use std::slice;
@@ -76,8 +74,7 @@ impl Replica {
     {
         let all = self.spare.checked_add(count).ok_or(NoMemory)?;
         reserve_each(&mut self.logs, self.config.replicas(), count)?;
-        self.ordered.reserve(all)?;
-        self.image.reserve(all)?;
+        self.seen.reserve(all)?;
         self.beside = count;
         Ok(())
     }
@@ -110,7 +107,7 @@ impl Replica {
         requires origin { origin < self.old.core.setup.replicas }
         requires firsts { length message.now.firsts ≡ self.old.core.setup.replicas }
         requires told { told.now ≡ told_writes message.now origin }
-        requires next { AreNext origin (told_first message.now origin) told.now }
+        requires next { AreNext self.old.core.setup.conits origin (told_first message.now origin) told.now }
         requires past { told_first message.now origin ≤ length (log_at self.old.core origin)
             → All (λ write. self.old.core.writes.point < write.stamp) (added_at self.old.core message.now origin) }
         requires room { length told.now ≤ self.old.beside }
@@ -136,7 +133,7 @@ impl Replica {
         requires sized { length self.old.core.writes.logs ≡ self.old.core.setup.replicas }
         requires origin { origin < self.old.core.setup.replicas }
         requires other { origin ≢ self.old.core.replica }
-        requires told { AreNext origin first told.now }
+        requires told { AreNext self.old.core.setup.conits origin first told.now }
         requires past { first ≤ length (log_at self.old.core origin)
             → All (λ write. self.old.core.writes.point < write.stamp) (drop (length (log_at self.old.core origin) - first) told.now) }
         requires room { length told.now ≤ self.old.beside }
@@ -149,7 +146,7 @@ impl Replica {
         ensures spare { self.new.spare ≡ self.old.spare }
         ensures room { self.old.beside ≤ self.new.beside + length told.now }
     {
-        let have = self.have(origin);
+        let have = self.logs.count(origin);
         if first <= have {
             self.add_next(origin, lacking(told, first, have));
         }
@@ -160,7 +157,7 @@ impl Replica {
         requires sized { length self.old.core.writes.logs ≡ self.old.core.setup.replicas }
         requires origin { origin < self.old.core.setup.replicas }
         requires other { origin ≢ self.old.core.replica }
-        requires next { AreNext origin (length (log_at self.old.core origin)) writes.now }
+        requires next { AreNext self.old.core.setup.conits origin (length (log_at self.old.core origin)) writes.now }
         requires past { All (λ write. self.old.core.writes.point < write.stamp) writes.now }
         requires room { length writes.now ≤ self.old.beside }
         ensures core { self.new.core ≡ with_next self.old.core origin writes.now self.new.core.writes.seen }
@@ -180,7 +177,7 @@ impl Replica {
     fn add_rising(&mut self, origin: u32, writes: &[Write])
         requires origin { origin < self.old.core.setup.replicas }
         requires other { origin ≢ self.old.core.replica }
-        requires next { AreNext origin (length (log_at self.old.core origin)) writes.now }
+        requires next { AreNext self.old.core.setup.conits origin (length (log_at self.old.core origin)) writes.now }
         requires rising { IsStrictlySortedBy write_cmp writes.now }
         requires past { All (λ write. self.old.core.writes.point < write.stamp) writes.now }
         requires room { length writes.now ≤ self.old.beside }
@@ -188,13 +185,7 @@ impl Replica {
         ensures spare { self.new.spare ≡ self.old.spare }
         ensures room { self.old.beside ≡ self.new.beside + length writes.now }
     {
-        admit(
-            &mut self.logs,
-            &mut self.ordered,
-            &mut self.image,
-            origin,
-            writes,
-        );
+        admit(&mut self.logs, &mut self.seen, origin, writes);
         self.beside -= writes.len() as u64;
     }
 }

@@ -68,7 +68,8 @@ impl Replica {
         Ok(self.accept(moment, client, only(weight), op, Some(weight)))
     }
 
-    // Accepts a write that a client asked for, whose weights count; a held one is taken out of what is reserved.
+    // Accepts a write that a client asked for, whose weights count; a held one is taken out of what is reserved. The entry
+    // is counted with the write, since there are no more own writes than entries.
     fn accept(
         &mut self,
         moment: u64,
@@ -97,17 +98,13 @@ impl Replica {
             weights,
             op,
         };
-        admit(
-            &mut self.logs,
-            &mut self.ordered,
-            &mut self.image,
-            self.replica,
-            slice::from_ref(&write),
-        );
+        let one = slice::from_ref(&write);
+        admit(&mut self.logs, &mut self.seen, self.replica, one);
         count(&mut self.budgets, &write.weights, held);
         self.clock = stamp;
         self.spare -= 1;
-        self.close_call(moment, client);
+        self.count += 1;
+        self.close_counted_call(moment, client);
         Reply::Done { index, stamp }
     }
 }

@@ -18,9 +18,11 @@ add_rising-requires-in-loop-write-clause-next c =
     ap (λ (core : Core). log_at core c.args.origin) c.loop-write.invariant.core ∙ log_at-with_next old c.args.origin within (take k writes) c.loop-write.self.core.writes.seen in
     let count : length (log_at c.loop-write.self.core c.args.origin) ≡ length (log_at old c.args.origin) + k =
     omega (arith, ap length log, length-append (log_at old c.args.origin) (take k writes), length-take-le k writes (omega (arith, c.loop-write-test.true))) in
-    subst (λ (ws : List Write). AreNext c.args.origin (length (log_at c.loop-write.self.core c.args.origin)) ws) (sym c.from_ref.ensures.value)
-    (subst (λ (n : ℕ). AreNext c.args.origin n (c.write-item.result ∷ [])) (sym count)
-    (AreNext-one c.args.origin (length (log_at old c.args.origin)) k writes c.write-item.result c.requires.next c.loop-write-test.true c.write-item.is))
+    let conits = old.setup.conits in
+    subst (λ (ws : List Write). AreNext c.loop-write.self.core.setup.conits c.args.origin (length (log_at c.loop-write.self.core c.args.origin)) ws) (sym c.from_ref.ensures.value)
+    (subst (λ (k : Core). AreNext k.setup.conits c.args.origin (length (log_at c.loop-write.self.core c.args.origin)) (c.write-item.result ∷ [])) (sym c.loop-write.invariant.core)
+    (subst (λ (n : ℕ). AreNext conits c.args.origin n (c.write-item.result ∷ [])) (sym count)
+    (AreNext-one conits c.args.origin (length (log_at old c.args.origin)) k writes c.write-item.result c.requires.next c.loop-write-test.true c.write-item.is)))
 
 pub add_rising-requires-in-loop-write-clause-rising : goal.add_rising-requires-in-loop-write-clause-rising
 unfolding IsStrictlySortedBy

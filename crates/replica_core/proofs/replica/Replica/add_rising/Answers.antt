@@ -1,18 +1,26 @@
-use Rattle.std.proofs.Common.{◌≡◌, ◌<◌, ◌≤◌, ◌++◌, List, [], length, get_or, sym, ap, subst, ◌∙◌, ⊎_elim, arith}
+use Rattle.std.proofs.Common.{◌≡◌, ℕ, ◌<◌, ◌≤◌, ◌++◌, List, [], length, get_or, sym, ap, subst, ◌∙◌, ⊎_elim, arith}
 use Rattle.std.proofs.lemmas.Bool.{cases_eq}
 use Rattle.std.proofs.lemmas.List.{length-set}
-use Rattle.std.specs.List.Sorted.{IsSorted}
-use Rattle.tact_base.proofs.OrderLemmas.{IsSorted-in_order}
-use Rattle.tact_base.specs.WriteOrder.{write_cmp}
+use Rattle.tact_base.proofs.SetupLemmas.{HasCounts-from_IsSetup}
 use Rattle.tact_base.specs.declared.write.Write.{Write}
 use Rattle.write_log.specs.Logs.{room_of}
-use Rattle.replica_core.specs.States.{ReplicaState, AreNext, joined, log_at}
-use Rattle.replica_core.proofs.AdmitLemmas.{admitted_all}
+use Rattle.replica_core.specs.Seen.{SeenState}
+use Rattle.replica_core.specs.States.{ReplicaState, AreNext, log_at}
+use Rattle.replica_core.proofs.AdmitLemmas.{admitted_all, seen-few, AreFew-other}
 use Rattle.replica_core.proofs.replica.Replica.add_rising.Goals as goal
 
-pub admit-requires-clause-sorted : goal.admit-requires-clause-sorted
-admit-requires-clause-sorted c =
-    subst (IsSorted write_cmp) (sym c.self.invariant.0.between.ordered) (IsSorted-in_order (joined c.self.inside.config.replicas c.self.inside.logs.logs))
+pub admit-requires-clause-next : goal.admit-requires-clause-next
+admit-requires-clause-next c =
+    let next : AreNext c.self.inside.config.conits c.args.origin (length (get_or c.self.inside.logs.logs c.args.origin [])) c.args.writes.now =
+    subst (λ (s : ReplicaState). AreNext s.core.setup.conits c.args.origin (length (log_at s.core c.args.origin)) c.args.writes.now) (sym c.self.view_is) c.requires.next in
+    subst (λ (conits : ℕ). AreNext conits c.args.origin (length (get_or c.self.inside.logs.logs c.args.origin [])) c.args.writes.now) (sym c.self.invariant.2) next
+
+pub admit-requires-clause-few : goal.admit-requires-clause-few
+admit-requires-clause-few c =
+    let next : AreNext c.self.inside.config.conits c.args.origin (length (get_or c.self.inside.logs.logs c.args.origin [])) c.args.writes.now =
+    subst (λ (s : ReplicaState). AreNext s.core.setup.conits c.args.origin (length (log_at s.core c.args.origin)) c.args.writes.now) (sym c.self.view_is) c.requires.next in
+    let kept = c.self.invariant.0 in
+    omega (arith, seen-few c.self.inside.config.replicas c.self.inside.logs.logs c.self.inside.seen.writes kept.between.ordered kept.few.each, (HasCounts-from_IsSetup c.self.inside.config kept.setup).replicas_high, next.few)
 
 pub invariant_of-self : goal.invariant_of-self
 invariant_of-self c =
@@ -26,8 +34,9 @@ invariant_of-self c =
     let among : origin < c.self.inside.config.replicas = omega (arith, c.requires.origin, ap (λ (s : ReplicaState). s.core.setup.replicas) c.self.view_is) in
     let replica_is = ap (λ (s : ReplicaState). s.core.replica) c.self.view_is in
     let other : origin ≡ c.self.inside.replica → ⊥ = λ same. c.requires.other (same ∙ replica_is) in
-    let next : AreNext origin (length (get_or logs origin [])) writes = subst (λ (s : ReplicaState). AreNext origin (length (log_at s.core origin)) writes) (sym c.self.view_is) c.requires.next in
-    let admitted = admitted_all writes c.self.inside.config.replicas logs c.self.inside.ordered.writes origin (record { sized = places.logs_sized; ordered = kept.between.ordered; placed = kept.between.placed }) among next in
+    let next : AreNext c.self.inside.config.conits c.args.origin (length (get_or c.self.inside.logs.logs c.args.origin [])) c.args.writes.now =
+    subst (λ (s : ReplicaState). AreNext s.core.setup.conits c.args.origin (length (log_at s.core c.args.origin)) c.args.writes.now) (sym c.self.view_is) c.requires.next in
+    let admitted = admitted_all writes c.self.inside.config.conits c.self.inside.config.replicas logs c.self.inside.seen.writes origin (record { sized = places.logs_sized; ordered = kept.between.ordered; placed = kept.between.placed }) among next in
     let few : length writes ≤ c.self.inside.beside = omega (arith, c.requires.room, ap (λ (s : ReplicaState). s.beside) c.self.view_is) in (
       record {
         setup = kept.setup;
@@ -39,8 +48,9 @@ invariant_of-self c =
           calls_sized = places.calls_sized;
         };
         budgets = record { setup = kept.budgets.setup; replica = kept.budgets.replica };
-        between = rw (c.admit.ensures.logs, c.admit.ensures.writes, c.admit.ensures.point)
+        between = rw (c.admit.ensures.logs, c.admit.ensures.seen)
             (record { ordered = admitted.ordered; placed = admitted.placed; own = kept.between.own; committed = kept.between.committed });
+        few = rw c.admit.ensures.logs (AreFew-other c.self.inside.replica c.self.inside.count logs origin writes (omega (arith, among, places.logs_sized)) other next.few kept.few);
         lent = kept.lent;
       },
       record {
@@ -51,9 +61,8 @@ invariant_of-self c =
             (λ (same : one ≡ origin). omega (arith, few, rooms.others one apart inside, c.admit.ensures.room, ap (room_of c.self.inside.logs) same, ap (room_of c.admit.new.logs) same))
             (λ (differ : one ≡ origin → ⊥). omega (arith, few, rooms.others one apart inside, c.admit.ensures.others one differ))
             (cases_eq one origin);
-        order = omega (arith, few, rooms.order, c.admit.ensures.order_room);
-        image = omega (arith, few, rooms.image, c.admit.ensures.image_room);
+        seen = omega (arith, few, rooms.seen, ap (λ (seen : SeenState). seen.room) c.admit.ensures.seen);
         budgets = rooms.budgets;
       },
-      c.admit.ensures.image,
+      ap (λ (seen : SeenState). seen.conits) c.admit.ensures.seen ∙ c.self.invariant.2,
     )

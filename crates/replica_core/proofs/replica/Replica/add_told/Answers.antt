@@ -1,12 +1,14 @@
-use Rattle.std.proofs.Common.{◌≡◌, ℕ, ◌+◌, ◌<◌, ◌≤◌, ◌==◌, cond, List, ◌++◌, length, take, drop, flat_map, sym, ap, ap₂, ◌∙◌, subst, ⊎_elim, arith}
+use Rattle.std.proofs.Common.{◌≡◌, ℕ, ◌+◌, ◌<◌, ◌≤◌, ◌==◌, cond, List, ◌++◌, All, length, take, drop, flat_map, sym, ap, ap₂, ◌∙◌, subst, ⊎_elim, arith}
 use Rattle.std.specs.List.{range_with_len}
 use Rattle.std.proofs.lemmas.Bool.{cases_eq}
 use Rattle.std.proofs.lemmas.List.{length-append}
+use Rattle.std.proofs.lemmas.List.Elements.{All-weaker, All-filter}
 use Rattle.std.proofs.Math.Seq.{take-append_seam, drop-append_seam}
 use Rattle.tact_base.proofs.RangeLists.{flat_map_range_more}
 use Rattle.tact_base.specs.Logs.{log_after}
+use Rattle.tact_base.specs.declared.conit_list.Weight.{Weight}
 use Rattle.tact_base.specs.declared.write.Write.{Write}
-use Rattle.run_model.specs.Ranges.{IsMessageInRange}
+use Rattle.run_model.specs.Ranges.{IsMessageInRange, IsWriteInRange, IsWeightInRange}
 use Rattle.run_model.specs.Taking.{told_first, told_writes}
 use Rattle.run_model.specs.declared.entry.Message.{Message}
 use Rattle.run_model.proofs.OriginWrites.{from_one-origins}
@@ -37,8 +39,16 @@ module _ (setup : Setup) (message : Message) (in_range : IsMessageInRange setup 
       ap (take (length told)) (ap₂ drop start_is there.is ∙ drop-append_seam front (told ++ there.rest))
       ∙ take-append_seam told there.rest
 
-  next : AreNext at (told_first message at) told
-  next = record { origins = from_one-origins at message.writes; indices = (in_range.told at at_in).indices }
+  next : AreNext setup.conits at (told_first message at) told
+  next =
+      let P = λ (write : Write). All (λ (weight : Weight). weight.conit < setup.conits) write.weights in
+      let range = in_range.told at at_in in
+      record {
+        origins = from_one-origins at message.writes;
+        indices = range.indices;
+        on_conits = All-filter (λ (write : Write). write.origin == at) P message.writes (All-weaker (IsWriteInRange setup) P (λ write in_range. All-weaker (IsWeightInRange setup) (λ (weight : Weight). weight.conit < setup.conits) (λ weight range. range.conit) write.weights in_range.weights.each) message.writes in_range.writes);
+        few = omega (arith, range.told, range.first, range.have);
+      }
 
 pub told_of-told-requires-clause-within : goal.told_of-told-requires-clause-within
 told_of-told-requires-clause-within c =
@@ -56,8 +66,9 @@ pub add_from-requires-clause-next : goal.add_from-requires-clause-next
 add_from-requires-clause-next c =
     let setup = c.args.self.now.core.setup in
     let at_in : c.loop-origin.origin < setup.replicas = omega (arith, c.loop-origin-test.true, c.replicas-origin-end.ensures.count, ap (λ (s : ReplicaState). s.core.setup.replicas) c.self.view_is) in
-    subst (AreNext c.loop-origin.origin (told_first c.args.message.now c.loop-origin.origin)) (sym c.told_of-told.ensures)
-    (next setup c.args.message.now c.requires.fits.in_range c.loop-origin.origin c.loop-origin.start at_in c.loop-origin.invariant.start)
+    subst (AreNext c.loop-origin.self.core.setup.conits c.loop-origin.origin (told_first c.args.message.now c.loop-origin.origin)) (sym c.told_of-told.ensures)
+    (subst (λ (s : Setup). AreNext s.conits c.loop-origin.origin (told_first c.args.message.now c.loop-origin.origin) (told_writes c.args.message.now c.loop-origin.origin)) (sym (ap (λ (k : Core). k.setup) c.loop-origin.invariant.core))
+    (next setup c.args.message.now c.requires.fits.in_range c.loop-origin.origin c.loop-origin.start at_in c.loop-origin.invariant.start))
 
 pub add_from-requires-clause-room : goal.add_from-requires-clause-room
 add_from-requires-clause-room c =

@@ -24,10 +24,11 @@ invariant_of-self c =
         };
         budgets = record { setup = ap (λ b. b.setup) c.lend.ensures ∙ kept.budgets.setup; replica = ap (λ b. b.replica) c.lend.ensures ∙ kept.budgets.replica };
         between = record { ordered = between.ordered; placed = between.placed; own = between.own; committed = between.committed };
+        few = kept.few;
         lent = AreLentBy-same c.self.inside.count (ap (λ b. b.lent) c.lend.ensures)
             (subst (λ (s : ReplicaState). AreLentBy s.core.counts.count (set s.core.budgets.lent place (get_or s.core.budgets.lent place 0 + c.args.amount)))
             (sym (c.self.view_is ∙ c.enter.ensures)) lent);
       },
-      record { own = rooms.own; others = rooms.others; order = rooms.order; image = rooms.image; budgets = omega (arith, rooms.budgets, ap (λ b. b.room) c.lend.ensures) },
+      record { own = rooms.own; others = rooms.others; seen = rooms.seen; budgets = omega (arith, rooms.budgets, ap (λ b. b.room) c.lend.ensures) },
       c.self.invariant.2,
     )

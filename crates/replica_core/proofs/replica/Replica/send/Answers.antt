@@ -25,8 +25,8 @@ returns-clause-goes_on c =
         logs = c.self.inside.logs.logs;
         covers = c.self.inside.vector;
         known = c.self.inside.known.items;
-        seen = c.self.inside.ordered.writes;
-        point = c.self.inside.ordered.point;
+        seen = c.self.inside.seen.writes;
+        point = c.self.inside.seen.point;
         clock = c.self.inside.clock;
       };
       budgets = record c.self.inside.budgets { room = 0 };

@@ -52,9 +52,10 @@ invariant_of-self c =
           own = omega (arith, ap (λ (cover : Cover). cover.stamp) own, kept.between.own, c.max-self-inside.ensures);
           committed = omega (arith, kept.between.committed, least);
         };
+        few = kept.few;
         lent = AreLentBy-same inside.count (ap (λ (b : BudgetState). b.lent) noted) kept.lent;
       },
-      record { own = rooms.own; others = rooms.others; order = rooms.order; image = rooms.image; budgets = omega (arith, rooms.budgets, c.note_told.ensures.room) },
+      record { own = rooms.own; others = rooms.others; seen = rooms.seen; budgets = omega (arith, rooms.budgets, c.note_told.ensures.room) },
       c.self.invariant.2,
     )
 
@@ -72,8 +73,8 @@ returns-clause-goes_on c part stands =
         logs = inside.logs.logs;
         covers = inside.vector;
         known = inside.known.items;
-        seen = inside.ordered.writes;
-        point = inside.ordered.point;
+        seen = inside.seen.writes;
+        point = inside.seen.point;
         clock = inside.clock;
       };
       budgets = with_room inside.budgets 0;
@@ -83,14 +84,14 @@ returns-clause-goes_on c part stands =
     let is_told : view ≡ told = ap (λ (s : ReplicaState). s.core) c.self.view_is in
     let logs_are = ap (λ (k : Core). k.writes.logs) is_told in
     let seen_is = ap (λ (k : Core). k.writes.seen) is_told in
-    let mid : view ≡ logged inside.logs.logs inside.ordered.writes =
+    let mid : view ≡ logged inside.logs.logs inside.seen.writes =
     is_told ∙ c.add_told.ensures.core
     ∙ ap (λ (k : Core). let t : Core = record k { writes = record k.writes { logs = told.writes.logs; seen = told.writes.seen } } in t) c.in_ok-make_room.ensures.core
     ∙ ap₂ logged (sym logs_are) (sym seen_is) in
     let budgets = with_room c.note_told.new.budgets 0 in
     let closed : Core → Core = λ k. let t : Core = record k { writes = record k.writes { covers = c.raise_covers.new.vector; known = c.learn_haves.new.known.items; clock = c.max-self-inside.result }; budgets = budgets } in t in
-    let final : closed view ≡ closed (logged inside.logs.logs inside.ordered.writes) = ap closed mid in
-    let after = closed (logged inside.logs.logs inside.ordered.writes) in
+    let final : closed view ≡ closed (logged inside.logs.logs inside.seen.writes) = ap closed mid in
+    let after = closed (logged inside.logs.logs inside.seen.writes) in
     let reached : c.enter.new.self.core ≡ entered after c.args.moment =
     ap (λ (s : ReplicaState). s.core) c.enter.ensures ∙ ap (λ (k : Core). entered k c.args.moment) final in
     let kept : IsKept after = subst IsKept final (invariant_of-self c.before.before).0 in

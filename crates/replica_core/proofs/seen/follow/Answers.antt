@@ -4,7 +4,7 @@ use Rattle.tact_base.specs.Images.{ops_of}
 use Rattle.tact_base.specs.WriteOrder.{tentative_past}
 use Rattle.tact_base.specs.declared.write.Op.{Op}
 use Rattle.replica_core.proofs.ImageSteps.{op_of}
-use Rattle.replica_core.proofs.replica.admitting.follow.Goals as goal
+use Rattle.replica_core.proofs.seen.follow.Goals as goal
 
 pub returns-clause-ops : goal.returns-clause-ops
 returns-clause-ops c =

@@ -1,0 +1,234 @@
+//! What a replica has seen, in order, with its image and its sums by conit.
+ghost use Rattle.std.specs.Prelude.{◌≡◌, ◌≢◌, ℕ, ◌+◌, ◌-◌, ◌<◌, ◌≤◌, List, [], ◌++◌, All, IfOk, OnOk, OnErr, IsOk, length, take, drop};
+ghost use Rattle.std.specs.declared.cmp.Ordering.TheVariants.{Equal};
+ghost use Rattle.std.specs.List.Sorted.{IsStrictlySortedBy};
+ghost use Rattle.tact_base.specs.Images.{image_of, ops_of};
+ghost use Rattle.tact_base.specs.Sums.{net_sum, order_sum};
+ghost use Rattle.tact_base.specs.WriteOrder.{write_cmp, committed_to, tentative_past};
+ghost use Rattle.tact_base.specs.declared.conit_list.Weight.{Weight};
+ghost use Rattle.tact_base.specs.declared.limits.TheConstants.{SUMMED_WRITES};
+ghost use Rattle.commit_order.specs.Batches.{with_writes};
+ghost use Rattle.conit_sums.specs.ConitSums.{AreSumsOf};
+ghost use Rattle.conit_weights.specs.Running.{HoldsAll, conits_of, held_of};
+ghost use Rattle.rollback_apply.specs.Image.{base_of};
+ghost use Rattle.replica_core.specs.Seen.{AreOnConits, weights_of, last_one};
+
+use crate::LastOne;
+use commit_order::Ordered;
+use conit_weights::Running;
+use order_bound::Totals;
+use rollback_apply::Image;
+use std::alloc::Global;
+use std::marker::Model;
+use tact_base::{NoMemory, Write};
+
+/// The writes that a replica has seen, in order, of which those up to the last point are committed, with the
+/// image of their operations and the sums of their weights, which are kept as writes come and are committed.
+/// Contracts see on how many conits the writes may weigh, the writes, the last point, and the room: how many
+/// more writes can surely be put in without taking memory.
+#[derive(Drop)]
+pub(crate) struct Seen {
+    ordered: Ordered,
+    image: Image,
+    sums: Running,
+    settled: Totals,
+    room: u64,
+}
+
+impl Model for Seen {
+    ghost use Rattle.conit_weights.specs.Running.{conits_of};
+    ghost use Rattle.replica_core.specs.Seen.{SeenState, KeepsSeen};
+
+    ghost Value = { SeenState };
+
+    ghost view = { λ s. record {
+      conits = conits_of s.sums;
+      writes = s.ordered.writes;
+      point = s.ordered.point;
+      room = s.room;
+    } };
+
+    ghost invariant = { λ s. KeepsSeen (view s) s.ordered.room s.image s.sums s.settled };
+}
+
+impl Seen {
+    /// No writes, on so many conits, with the last point 0 and without room, in memory of `alloc`.
+    pub(crate) fn new(alloc: Global, conits: u32) -> Result<Seen, NoMemory>
+        ensures { IfOk result (λ made. made ≡ record { conits = conits; writes = []; point = 0; room = 0 }) }
+    {
+        Ok(Seen {
+            ordered: Ordered::new(alloc),
+            image: Image::new(alloc),
+            sums: Running::new(alloc, conits)?,
+            settled: Totals::new(alloc, conits)?,
+            room: 0,
+        })
+    }
+
+    /// Makes room for at least `k` more writes, without memory where there is so much. `NoMemory` leaves
+    /// everything as it was.
+    pub(crate) fn reserve(&mut self, k: u64) -> Result<(), NoMemory>
+        ensures same { self.new ≡ record self.old { room = self.new.room } }
+        ensures room { OnOk result (k ≤ self.new.room) }
+        ensures kept { self.old.room ≤ self.new.room }
+        ensures enough { k ≤ self.old.room → IsOk result }
+        ensures err { OnErr result (self.new ≡ self.old) }
+    {
+        if k > self.room {
+            self.ordered.reserve(k)?;
+            self.image.reserve(k)?;
+            self.room = k;
+        }
+        Ok(())
+    }
+
+    /// Puts writes, which are in order, in their places. It costs what comes after the first of them. Takes no
+    /// memory.
+    pub(crate) fn insert_all(&mut self, writes: &[Write])
+        requires room { length writes.now ≤ self.old.room }
+        requires sorted { IsStrictlySortedBy write_cmp writes.now }
+        requires new { All (λ write. All (λ held. write_cmp held write ≢ Equal) self.old.writes) writes.now }
+        requires past { All (λ write. self.old.point < write.stamp) writes.now }
+        requires on_conits { AreOnConits self.old.conits writes.now }
+        requires few { length self.old.writes + length writes.now ≤ SUMMED_WRITES }
+        ensures { self.new ≡ record self.old {
+          writes = with_writes writes.now self.old.writes;
+          room = self.old.room - length writes.now;
+        } }
+    {
+        let place = self.ordered.insert_all(writes);
+        follow(&mut self.image, &self.ordered, place);
+        add_all(&mut self.sums, writes);
+        self.room -= writes.len() as u64;
+    }
+
+    /// Commits the writes with a stamp of at most `stamp`. It costs what tentative writes go or stay. Takes no
+    /// memory.
+    pub(crate) fn commit_to(&mut self, stamp: u64)
+        requires { self.old.point ≤ stamp }
+        ensures { self.new ≡ record self.old { point = stamp } }
+    {
+        let before = self.ordered.committed().len();
+        let count = self.ordered.commit_to(stamp);
+        self.image.commit(count);
+        settle_all(&mut self.settled, committed_from(&self.ordered, before));
+    }
+
+    /// The last point. Takes no memory.
+    pub(crate) fn point(&self) -> u64
+        ensures { result ≡ self.now.point }
+    {
+        self.ordered.point()
+    }
+
+    /// The committed writes, in order. Takes no memory.
+    pub(crate) fn committed(&self) -> &[Write]
+        ensures { result.now ≡ committed_to self.now.point self.now.writes }
+    {
+        self.ordered.committed()
+    }
+
+    /// The other writes, in order. Takes no memory.
+    pub(crate) fn tentative(&self) -> &[Write]
+        ensures { result.now ≡ tentative_past self.now.point self.now.writes }
+    {
+        self.ordered.tentative()
+    }
+
+    /// Which write is the last of the committed ones, if there is one. Takes no memory.
+    pub(crate) fn last_committed(&self) -> Option<LastOne>
+        ensures { result ≡ last_one (committed_to self.now.point self.now.writes) }
+    {
+        let last = self.ordered.committed().last()?;
+        Some(LastOne {
+            origin: last.origin,
+            index: last.index,
+        })
+    }
+
+    /// The value of a key after all writes. Takes no memory.
+    pub(crate) fn get(&self, key: u64) -> i64
+        ensures { result ≡ image_of (ops_of self.now.writes) key }
+    {
+        self.image.get(key)
+    }
+
+    /// The sum of the nweights of all writes on a conit. Takes no memory.
+    pub(crate) fn value(&self, conit: u32) -> i64
+        requires { conit < self.now.conits }
+        ensures { result ≡ net_sum self.now.writes conit }
+    {
+        self.sums.net(conit)
+    }
+
+    /// The sum of the oweights of the tentative writes on a conit. Takes no memory.
+    pub(crate) fn tentative_weight(&self, conit: u32) -> u64
+        requires { conit < self.now.conits }
+        ensures { result ≡ order_sum (tentative_past self.now.point self.now.writes) conit }
+    {
+        self.sums.order(conit) - self.settled.weight(conit)
+    }
+}
+
+// Makes the image that of the order, which is as it was before a place.
+fn follow(image: &mut Image, ordered: &Ordered, place: u64)
+    requires past { image.old.committed ≤ place }
+    requires committed { image.old.committed ≡ length (committed_to ordered.now.point ordered.now.writes) }
+    requires within { place ≤ image.old.committed + length image.old.ops }
+    requires more { length image.old.ops ≤ length (tentative_past ordered.now.point ordered.now.writes) }
+    requires room { length (tentative_past ordered.now.point ordered.now.writes) ≤ length image.old.ops + image.old.room }
+    requires stays { let front = place - image.old.committed in
+        take front image.old.ops ≡ ops_of (take front (tentative_past ordered.now.point ordered.now.writes)) }
+    ensures committed { image.new.committed ≡ image.old.committed }
+    ensures base { (key : ℕ) → base_of image.new key ≡ base_of image.old key }
+    ensures ops { image.new.ops ≡ ops_of (tentative_past ordered.now.point ordered.now.writes) }
+    ensures room { image.new.room + length (tentative_past ordered.now.point ordered.now.writes) ≡ image.old.room + length image.old.ops }
+{
+    image.redo_from(place, tentative_from(ordered, place));
+}
+
+// The tentative writes from a place on.
+fn tentative_from(ordered: &Ordered, place: u64) -> &[Write]
+    requires past { length (committed_to ordered.now.point ordered.now.writes) ≤ place }
+    requires within { place
+        ≤ length (committed_to ordered.now.point ordered.now.writes)
+        + length (tentative_past ordered.now.point ordered.now.writes) }
+    ensures { result.now
+        ≡ drop (place - length (committed_to ordered.now.point ordered.now.writes))
+        (tentative_past ordered.now.point ordered.now.writes) }
+{
+    let committed = ordered.committed().len() as u64;
+    &ordered.tentative()[(place - committed) as usize..]
+}
+
+// The committed writes from a place on.
+fn committed_from(ordered: &Ordered, place: usize) -> &[Write]
+    requires { place ≤ length (committed_to ordered.now.point ordered.now.writes) }
+    ensures { result.now ≡ drop place (committed_to ordered.now.point ordered.now.writes) }
+{
+    &ordered.committed()[place..]
+}
+
+// Adds the weights of writes to the sums of those that are held.
+fn add_all(sums: &mut Running, writes: &[Write])
+    requires on_conits { AreOnConits (conits_of sums.old) writes.now }
+    requires few { held_of sums.old + length writes.now ≤ SUMMED_WRITES }
+    ensures conits { conits_of sums.new ≡ conits_of sums.old }
+    ensures added { (held : List (List Weight)) → HoldsAll sums.old held → HoldsAll sums.new (held ++ weights_of writes.now) }
+{
+    for write in writes {
+        sums.add(&write.weights);
+    }
+}
+
+// Adds the order weights of writes to the totals of those that are committed.
+fn settle_all(settled: &mut Totals, writes: &[Write])
+    requires on_conits { AreOnConits (length settled.old.sums) writes.now }
+    requires few { settled.old.held + length writes.now ≤ SUMMED_WRITES }
+    ensures conits { length settled.new.sums ≡ length settled.old.sums }
+    ensures added { (held : List (List Weight)) → AreSumsOf settled.old held → AreSumsOf settled.new (held ++ weights_of writes.now) }
+{
+    for write in writes {
+        settled.add(&write.weights);
+    }
+}
