@@ -83,6 +83,13 @@ fn assert_replies(
     Ok(())
 }
 
+// How many calls client 2 made, how many entries there are, and how many own writes.
+fn counts(replica: &Replica) -> (u64, u64, u64)
+    requires { 0 < replica.now.core.setup.replicas }
+{
+    (replica.calls(2), replica.count(), replica.have(0))
+}
+
 // Replica 0 of three, each of which allows 10 on one conit and lends 5 of it to each other.
 fn of_three(alloc: Global) -> Result<Replica, Fail>
     ensures { IfOk result (λ made. (made.core.setup.conits ≡ 1) × (made.core.setup.replicas ≡ 3) × (made.core.replica ≡ 0)) }
@@ -141,9 +148,12 @@ fn not_held(held: u64, amount: u64) -> Reply {
     }
 }
 
-#[test]
-fn writes_wait_for_the_share(rt: HostRuntime) -> Result<(), Fail> {
-    let mut replica = of_three(rt.alloc())?;
+// A share of 5 is used up on either side.
+fn use_up_a_share(rt: &impl Abort, replica: &mut Replica) -> Result<(), Fail>
+    requires replicas { replica.old.core.setup.replicas ≡ 3 }
+    requires conits { replica.old.core.setup.conits ≡ 1 }
+    requires replica { replica.old.core.replica ≡ 0 }
+{
     let table = [
         (Ask::Write(6), too_heavy(1, 6, 5)),
         (Ask::Write(5), done(0, 1)),
@@ -154,19 +164,25 @@ fn writes_wait_for_the_share(rt: HostRuntime) -> Result<(), Fail> {
         (Ask::Write(1), wait_share(1, 5, 0, 1, 5)),
         (Ask::Write(-1), wait_share(1, 5, 0, 1, 5)),
     ];
-    assert_replies(&rt, &mut replica, &table)?;
-    assert_eq!(rt;
-        (replica.calls(2), replica.count(), replica.have(0)),
-        (8, 8, 3)
-    );
+    assert_replies(rt, replica, &table)?;
+    assert_eq!(rt; counts(replica), (8, 8, 3));
     assert_eq!(rt; replica.budgets().missing(1, 0), (5, 5));
     assert_eq!(rt; replica.tentative().len(), 3);
     Ok(())
 }
 
 #[test]
-fn held_writes_spend_what_is_reserved(rt: HostRuntime) -> Result<(), Fail> {
-    let mut replica = of_two(rt.alloc())?;
+fn writes_wait_for_the_share(rt: HostRuntime) -> Result<(), Fail> {
+    let mut replica = of_three(rt.alloc())?;
+    use_up_a_share(&rt, &mut replica)
+}
+
+// All of a share is reserved, and one write takes it.
+fn spend_all(rt: &impl Abort, replica: &mut Replica) -> Result<(), Fail>
+    requires replicas { replica.old.core.setup.replicas ≡ 2 }
+    requires conits { replica.old.core.setup.conits ≡ 1 }
+    requires replica { replica.old.core.replica ≡ 0 }
+{
     let table = [
         (Ask::Reserve(10), Reply::Granted),
         (Ask::Write(1), wait_held(1, 10, 1, 10)),
@@ -175,18 +191,24 @@ fn held_writes_spend_what_is_reserved(rt: HostRuntime) -> Result<(), Fail> {
         (Ask::Held(1), not_held(0, 1)),
         (Ask::Release(1), not_held(0, 1)),
     ];
-    assert_replies(&rt, &mut replica, &table)?;
-    assert_eq!(rt;
-        (replica.calls(2), replica.count(), replica.have(0)),
-        (6, 6, 1)
-    );
+    assert_replies(rt, replica, &table)?;
+    assert_eq!(rt; counts(replica), (6, 6, 1));
     assert_eq!(rt; replica.budgets().missing(1, 0), (10, 0));
     Ok(())
 }
 
 #[test]
-fn reserves_count_either_sign(rt: HostRuntime) -> Result<(), Fail> {
+fn held_writes_spend_what_is_reserved(rt: HostRuntime) -> Result<(), Fail> {
     let mut replica = of_two(rt.alloc())?;
+    spend_all(&rt, &mut replica)
+}
+
+// A negative weight is missed: what is reserved beside it is of either sign.
+fn reserve_beside_a_write(rt: &impl Abort, replica: &mut Replica) -> Result<(), Fail>
+    requires replicas { replica.old.core.setup.replicas ≡ 2 }
+    requires conits { replica.old.core.setup.conits ≡ 1 }
+    requires replica { replica.old.core.replica ≡ 0 }
+{
     replica.reserve(1)?;
     let table = [
         (Ask::Write(-7), done(0, 1)),
@@ -199,9 +221,15 @@ fn reserves_count_either_sign(rt: HostRuntime) -> Result<(), Fail> {
         (Ask::Release(1), Reply::Released),
         (Ask::Reserve(1), Reply::Granted),
     ];
-    assert_replies(&rt, &mut replica, &table)?;
+    assert_replies(rt, replica, &table)?;
     assert_eq!(rt; replica.budgets().reserved(0), 1);
     assert_eq!(rt; replica.budgets().missing(1, 0), (0, 9));
     assert_eq!(rt; replica.spare(), 0);
     Ok(())
+}
+
+#[test]
+fn reserves_count_either_sign(rt: HostRuntime) -> Result<(), Fail> {
+    let mut replica = of_two(rt.alloc())?;
+    reserve_beside_a_write(&rt, &mut replica)
 }

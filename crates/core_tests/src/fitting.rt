@@ -4,6 +4,7 @@ use crate::replica::write;
 use replica_core::Replica;
 use run_model::{Config, Message};
 use std::alloc::Global;
+use std::process::Abort;
 use std::test::Fail;
 use tact_base::{Cover, Covers, Numbers, Op, Weights, Write, WriteList};
 
@@ -87,9 +88,13 @@ fn one_of_three(alloc: Global) -> Result<Replica, Fail> {
     Ok(replica)
 }
 
-#[test]
-fn knows_the_messages_that_fit(rt: HostRuntime) -> Result<(), Fail> {
-    let replica = one_of_three(rt.alloc())?;
+// Whether the replica can take the message.
+fn is_fit(alloc: Global, replica: &Replica, parts: &Parts) -> Result<bool, Fail> {
+    let message = message_of(alloc, parts)?;
+    Ok(replica.fits(&message))
+}
+
+fn assert_fits(rt: &impl Abort, alloc: Global, replica: &Replica) -> Result<(), Fail> {
     let cases = [
         (GOOD, true, "a message that fits"),
         (Parts { from: 3, ..GOOD }, false, "a sender past the count"),
@@ -104,8 +109,13 @@ fn knows_the_messages_that_fit(rt: HostRuntime) -> Result<(), Fail> {
         (of_write(1, 13), true, "a write that isn't next"),
     ];
     for (parts, due, text) in cases {
-        let message = message_of(rt.alloc(), &parts)?;
-        assert_eq!(rt; replica.fits(&message), due, "{text}");
+        assert_eq!(rt; is_fit(alloc, replica, &parts)?, due, "{text}");
     }
     Ok(())
+}
+
+#[test]
+fn knows_the_messages_that_fit(rt: HostRuntime) -> Result<(), Fail> {
+    let replica = one_of_three(rt.alloc())?;
+    assert_fits(&rt, rt.alloc(), &replica)
 }

@@ -1,12 +1,13 @@
 //! A replica: what it accepts, what it sends, and when it is full.
 
-ghost use Rattle.std.specs.Prelude.{◌≡◌, ◌≤◌, [], IfOk};
+ghost use Rattle.std.specs.Prelude.{◌≡◌, ◌<◌, ◌≤◌, [], IfOk};
 ghost use Rattle.tact_base.specs.declared.limits.TheConstants.{MOMENT_MAX};
 ghost use Rattle.replica_core.specs.Stands.{IsSameReplica};
 
 use replica_core::{CoreFault, LoanFault, Replica};
 use run_model::{Config, Message, Reply, Request};
 use std::alloc::Global;
+use std::process::Abort;
 use std::test::Fail;
 use tact_base::{Cover, Numbers, Op, Weights};
 
@@ -36,18 +37,31 @@ pub(crate) fn write(replica: &mut Replica, moment: u64) -> Result<Reply, CoreFau
     replica.call(moment, 3, &request)
 }
 
-#[test]
-fn accepts_writes(rt: HostRuntime) -> Result<(), Fail> {
-    let config = Config::new(rt.alloc(), 2, 1, &[10, 10], &[0, 5, 5, 0])?;
-    let mut replica = Replica::new(rt.alloc(), &config, 1)?;
+// A replica of two, on one conit.
+fn one_of_two(alloc: Global, replica: u32) -> Result<Replica, Fail>
+    requires { replica < 2 }
+    ensures { IfOk result (λ made. (made.core.setup.replicas ≡ 2) × (made.core.setup.conits ≡ 1) × (made.core.replica ≡ replica)) }
+{
+    let config = Config::new(alloc, 2, 1, &[10, 10], &[0, 5, 6, 0])?;
+    Ok(Replica::new(alloc, &config, replica)?)
+}
+
+// Makes room for two writes, which it then accepts.
+fn accept_two(rt: &impl Abort, replica: &mut Replica)
+    ensures same { IsSameReplica replica.old.core replica.new.core }
+{
     assert_eq!(rt; replica.reserve(2), Ok(()));
     assert_eq!(rt; replica.spare(), 2);
     for (moment, reply) in [
         (5, Reply::Done { index: 0, stamp: 1 }),
         (4, Reply::Done { index: 1, stamp: 2 }),
     ] {
-        assert_eq!(rt; write(&mut replica, moment), Ok(reply));
+        assert_eq!(rt; write(replica, moment), Ok(reply));
     }
+}
+
+// What it counts, and has room for, after these.
+fn assert_accepted(rt: &impl Abort, replica: &Replica) {
     assert_eq!(rt;
         (replica.count(), replica.clock(), replica.last()),
         (2, 2, 5)
@@ -58,28 +72,52 @@ fn accepts_writes(rt: HostRuntime) -> Result<(), Fail> {
         (replica.committed().len(), replica.tentative().len()),
         (0, 2)
     );
+}
+
+#[test]
+fn accepts_writes(rt: HostRuntime) -> Result<(), Fail> {
+    let mut replica = one_of_two(rt.alloc(), 1)?;
+    accept_two(&rt, &mut replica);
+    assert_accepted(&rt, &replica);
     Ok(())
 }
 
-// Replica 1 of two, which made two writes.
-fn with_two_writes(alloc: Global) -> Result<Replica, Fail>
-    ensures { IfOk result (λ made. (made.core.setup.replicas ≡ 2) × (made.core.replica ≡ 1)) }
-{
-    let config = Config::new(alloc, 2, 1, &[10, 10], &[0, 5, 6, 0])?;
-    let mut replica = Replica::new(alloc, &config, 1)?;
-    write(&mut replica, 5)?;
-    write(&mut replica, 6)?;
-    Ok(replica)
+// A message of replica 1 to replica 0, which tells of two writes, its first and how many, with a cover of this moment.
+fn assert_message(rt: &impl Abort, message: &Message, first: u64, count: usize, moment: u64) {
+    let told = Cover {
+        count: 2,
+        stamp: 2,
+        moment,
+    };
+    assert_eq!(rt; (message.from, message.to, message.number), (1, 0, 0));
+    assert_eq!(rt; message.haves.items(), [0, 2].as_slice());
+    assert_eq!(rt; message.firsts.items(), [0, first].as_slice());
+    assert_eq!(rt; message.writes.len(), count);
+    assert_eq!(rt; message.lent.items(), [6].as_slice());
+    assert_eq!(rt; message.returned.items(), [0].as_slice());
+    assert_eq!(rt; message.covers.items(), [Cover::default(), told].as_slice());
 }
 
-// That replica, and the message that it sends where the first of its own writes is given.
-fn sent(alloc: Global, moment: u64, given: u64) -> Result<(Replica, Message), Fail>
+// Writes twice, and sends where the first of its own writes is given.
+fn send_two(alloc: Global, replica: &mut Replica, moment: u64, given: u64) -> Result<Message, Fail>
+    requires moment { moment ≤ MOMENT_MAX }
+    requires replicas { replica.old.core.setup.replicas ≡ 2 }
+    requires replica { replica.old.core.replica ≡ 1 }
+{
+    write(replica, 5)?;
+    write(replica, 6)?;
+    let given = Numbers::from_slice(alloc, &[0, given])?;
+    Ok(replica.send(moment, 0, &given)?)
+}
+
+// The same by a new replica, whose counts are right then.
+fn sent(rt: &impl Abort, alloc: Global, moment: u64, given: u64) -> Result<Message, Fail>
     requires { moment ≤ MOMENT_MAX }
 {
-    let mut replica = with_two_writes(alloc)?;
-    let given = Numbers::from_slice(alloc, &[0, given])?;
-    let message = replica.send(moment, 0, &given)?;
-    Ok((replica, message))
+    let mut replica = one_of_two(alloc, 1)?;
+    let message = send_two(alloc, &mut replica, moment, given)?;
+    assert_eq!(rt; (replica.count(), replica.last()), (3, moment.max(6)));
+    Ok(message)
 }
 
 #[test]
@@ -90,20 +128,8 @@ fn sends_what_another_lacks(rt: HostRuntime) -> Result<(), Fail> {
         (6, 2, 2, 0, 6),
         (8, 9, 2, 0, 8),
     ] {
-        let (replica, message) = sent(rt.alloc(), moment, given)?;
-        assert_eq!(rt; (message.from, message.to, message.number), (1, 0, 0));
-        assert_eq!(rt; message.haves.items(), [0, 2].as_slice());
-        assert_eq!(rt; message.firsts.items(), [0, first].as_slice());
-        assert_eq!(rt; message.writes.len(), count);
-        assert_eq!(rt; message.lent.items(), [6].as_slice());
-        assert_eq!(rt; message.returned.items(), [0].as_slice());
-        let told = Cover {
-            count: 2,
-            stamp: 2,
-            moment: last,
-        };
-        assert_eq!(rt; message.covers.items(), [Cover::default(), told].as_slice());
-        assert_eq!(rt; (replica.count(), replica.last()), (3, last));
+        let message = sent(&rt, rt.alloc(), moment, given)?;
+        assert_message(&rt, &message, first, count, last);
     }
     Ok(())
 }
@@ -151,19 +177,23 @@ fn read_all(replica: &Replica) -> Readings
     }
 }
 
-#[test]
-fn is_full_after_as_many_entries(rt: HostRuntime) -> Result<(), Fail> {
-    let config = Config::new(rt.alloc(), 2, 1, &[0, 0], &[0, 0, 0, 0])?;
-    let mut replica = Replica::new(rt.alloc(), &config, 0)?;
+// As many entries as there can be.
+fn fill(rt: &impl Abort, replica: &mut Replica)
+    ensures same { IsSameReplica replica.old.core replica.new.core }
+{
     for _ in 0..20_000 {
         assert_eq!(rt; replica.restart(3), Ok(()));
     }
+}
+
+// What a full replica of two reads, which restarted at the moment 3 alone.
+fn full_readings() -> Readings {
     let own = Cover {
         count: 0,
         stamp: 0,
         moment: 3,
     };
-    let before = Readings {
+    Readings {
         haves: [0; 2],
         known: [0; 4],
         covers: [own, Cover::default()],
@@ -175,20 +205,42 @@ fn is_full_after_as_many_entries(rt: HostRuntime) -> Result<(), Fail> {
         calls: [0; 8],
         last: 3,
         spare: 0,
-    };
-    let full = CoreFault::Full {
-        count: 20_000,
-        clock: 0,
-    };
-    assert_eq!(rt; read_all(&replica), before);
-    assert_eq!(rt; replica.restart(4), Err(full));
-    assert_eq!(rt; write(&mut replica, 4), Err(full));
-    let full = LoanFault::Full {
-        count: 20_000,
-        clock: 0,
-    };
-    assert_eq!(rt; replica.lend(4, 1, 0, 1), Err(full));
-    assert_eq!(rt; replica.give_back(4, 1, 0, 1), Err(full));
-    assert_eq!(rt; read_all(&replica), before);
+    }
+}
+
+// Each entry is refused, and nothing changes.
+fn assert_full(rt: &impl Abort, replica: &mut Replica)
+    requires replicas { replica.old.core.setup.replicas ≡ 2 }
+    requires conits { replica.old.core.setup.conits ≡ 1 }
+    requires replica { replica.old.core.replica ≡ 0 }
+    ensures same { IsSameReplica replica.old.core replica.new.core }
+{
+    let (count, clock) = (20_000, 0);
+    assert_eq!(rt; replica.restart(4), Err(CoreFault::Full { count, clock }));
+    assert_eq!(rt; write(replica, 4), Err(CoreFault::Full { count, clock }));
+    assert_eq!(rt;
+        replica.lend(4, 1, 0, 1),
+        Err(LoanFault::Full { count, clock })
+    );
+    assert_eq!(rt;
+        replica.give_back(4, 1, 0, 1),
+        Err(LoanFault::Full { count, clock })
+    );
+}
+
+fn assert_full_readings(rt: &impl Abort, replica: &Replica)
+    requires { replica.now.core.setup.replicas ≡ 2 }
+{
+    assert_eq!(rt; read_all(replica), full_readings());
+}
+
+#[test]
+fn is_full_after_as_many_entries(rt: HostRuntime) -> Result<(), Fail> {
+    let config = Config::new(rt.alloc(), 2, 1, &[0, 0], &[0, 0, 0, 0])?;
+    let mut replica = Replica::new(rt.alloc(), &config, 0)?;
+    fill(&rt, &mut replica);
+    assert_full_readings(&rt, &replica);
+    assert_full(&rt, &mut replica);
+    assert_full_readings(&rt, &replica);
     Ok(())
 }

@@ -6,16 +6,33 @@ ghost use Rattle.replica_core.specs.Stands.{IsSameReplica};
 use replica_core::Replica;
 use run_model::{Config, Message, Reply, Request};
 use std::alloc::Global;
+use std::process::Abort;
 use std::test::Fail;
 use tact_base::{Numbers, Op, Weights};
 
-// A replica of two, on one conit.
+// Two replicas, on one conit.
+#[derive(Drop)]
+struct Pair {
+    zero: Replica,
+    one: Replica,
+}
+
 fn one_of_two(alloc: Global, replica: u32) -> Result<Replica, Fail>
     requires { replica < 2 }
     ensures { IfOk result (λ made. (made.core.setup.replicas ≡ 2) × (made.core.replica ≡ replica)) }
 {
     let config = Config::new(alloc, 2, 1, &[10, 10], &[0, 5, 6, 0])?;
     Ok(Replica::new(alloc, &config, replica)?)
+}
+
+fn fresh_pair(alloc: Global) -> Result<Pair, Fail>
+    ensures zero { IfOk result (λ made. (made.zero.core.setup.replicas ≡ 2) × (made.zero.core.replica ≡ 0)) }
+    ensures one { IfOk result (λ made. (made.one.core.setup.replicas ≡ 2) × (made.one.core.replica ≡ 1)) }
+{
+    Ok(Pair {
+        zero: one_of_two(alloc, 0)?,
+        one: one_of_two(alloc, 1)?,
+    })
 }
 
 // Has a client write without weights: 5 more at the key 1, or the 5 there, if they are, to the key 2.
@@ -61,45 +78,111 @@ fn taken(replica: &mut Replica, message: &Message) -> Result<bool, Fail>
     Ok(true)
 }
 
-#[test]
-fn takes_what_it_lacks(rt: HostRuntime) -> Result<(), Fail> {
-    let mut zero = one_of_two(rt.alloc(), 0)?;
-    let mut one = one_of_two(rt.alloc(), 1)?;
-    write(&mut zero, false)?;
-    write(&mut one, true)?;
-    assert_eq!(rt; (one.get(1), one.get(2)), (0, 0));
-    // The write of replica 0 has the same stamp and the lower origin: it acts first.
-    let message = sent(rt.alloc(), &mut zero, 1, 0)?;
-    for _again in 0..2 {
-        assert_eq!(rt; taken(&mut one, &message)?, true);
-        assert_eq!(rt; (one.get(1), one.get(2)), (0, 5));
-        assert_eq!(rt; (one.have(0), one.have(1), one.known(0, 0)), (1, 1, 1));
-        assert_eq!(rt; (one.point(), one.committed().len()), (1, 2));
-    }
-    let message = sent(rt.alloc(), &mut one, 0, 0)?;
-    assert_eq!(rt; taken(&mut zero, &message)?, true);
-    assert_eq!(rt; (zero.get(1), zero.get(2)), (0, 5));
-    assert_eq!(rt;
-        (zero.count(), zero.clock(), zero.tentative().len()),
-        (3, 1, 0)
-    );
+// What the keys 1 and 2 hold there.
+fn held(replica: &Replica) -> (i64, i64) {
+    (replica.get(1), replica.get(2))
+}
+
+// One sends to the other, which takes the message once, or again: whether it fits each time.
+fn told(
+    alloc: Global,
+    from: &mut Replica,
+    to: &mut Replica,
+    number: u32,
+    again: bool,
+) -> Result<bool, Fail>
+    requires number { number < 2 }
+    requires replicas { from.old.core.setup.replicas ≡ 2 }
+    requires other { number ≢ from.old.core.replica }
+    ensures from { IsSameReplica from.old.core from.new.core }
+    ensures to { IsSameReplica to.old.core to.new.core }
+{
+    let message = sent(alloc, from, number, 0)?;
+    let fits = taken(to, &message)?;
+    if again { taken(to, &message) } else { Ok(fits) }
+}
+
+// Of two writes with the same stamp that of replica 0 acts first, once, however often it comes.
+fn assert_both(rt: &impl Abort, one: &Replica)
+    requires { one.now.core.setup.replicas ≡ 2 }
+{
+    assert_eq!(rt; held(one), (0, 5));
+    assert_eq!(rt; (one.have(0), one.have(1), one.known(0, 0)), (1, 1, 1));
+    assert_eq!(rt; (one.point(), one.committed().len()), (1, 2));
+}
+
+fn exchange(
+    rt: &impl Abort,
+    alloc: Global,
+    zero: &mut Replica,
+    one: &mut Replica,
+) -> Result<(), Fail>
+    requires zero { (zero.old.core.setup.replicas ≡ 2) × (zero.old.core.replica ≡ 0) }
+    requires one { (one.old.core.setup.replicas ≡ 2) × (one.old.core.replica ≡ 1) }
+{
+    write(zero, false)?;
+    write(one, true)?;
+    assert_eq!(rt; held(one), (0, 0));
+    assert!(rt; told(alloc, zero, one, 1, true)?);
+    assert_both(rt, one);
+    assert!(rt; told(alloc, one, zero, 0, false)?);
+    assert_eq!(rt; held(zero), (0, 5));
+    assert_eq!(rt; (zero.count(), zero.clock()), (3, 1));
     Ok(())
 }
 
 #[test]
-fn leaves_what_would_make_a_gap(rt: HostRuntime) -> Result<(), Fail> {
-    let mut zero = one_of_two(rt.alloc(), 0)?;
-    let mut one = one_of_two(rt.alloc(), 1)?;
-    write(&mut zero, false)?;
-    write(&mut zero, false)?;
-    // An old message comes after newer ones, of which the first leaves a gap.
-    let old = sent(rt.alloc(), &mut zero, 1, 0)?;
-    write(&mut zero, false)?;
-    let newer = sent(rt.alloc(), &mut zero, 1, 1)?;
-    for (message, have, known, value) in [(&newer, 0, 3, 0), (&old, 2, 3, 10), (&newer, 3, 3, 15)] {
-        assert_eq!(rt; taken(&mut one, message)?, true);
-        assert_eq!(rt; (one.have(0), one.known(0, 0)), (have, known));
-        assert_eq!(rt; (one.get(1), one.clock()), (value, 3));
-    }
+fn takes_what_it_lacks(rt: HostRuntime) -> Result<(), Fail> {
+    let mut pair = fresh_pair(rt.alloc())?;
+    exchange(&rt, rt.alloc(), &mut pair.zero, &mut pair.one)
+}
+
+// An old message, and a newer one, which tells no write that the old one tells but the last.
+#[derive(Drop)]
+struct Mail {
+    old: Message,
+    newer: Message,
+}
+
+fn two_messages(alloc: Global, zero: &mut Replica) -> Result<Mail, Fail>
+    requires { (zero.old.core.setup.replicas ≡ 2) × (zero.old.core.replica ≡ 0) }
+{
+    write(zero, false)?;
+    write(zero, false)?;
+    let old = sent(alloc, zero, 1, 0)?;
+    write(zero, false)?;
+    let newer = sent(alloc, zero, 1, 1)?;
+    Ok(Mail { old, newer })
+}
+
+// Takes a message, and then has so many of replica 0's writes, knows that it has so many, and holds a value.
+fn assert_taken(
+    rt: &impl Abort,
+    one: &mut Replica,
+    message: &Message,
+    after: (u64, u64, i64),
+) -> Result<(), Fail>
+    requires { one.old.core.setup.replicas ≡ 2 }
+    ensures { IsSameReplica one.old.core one.new.core }
+{
+    assert!(rt; taken(one, message)?);
+    assert_eq!(rt; (one.have(0), one.known(0, 0), one.get(1)), after);
+    assert_eq!(rt; one.clock(), 3);
     Ok(())
+}
+
+// The newer message comes first, and leaves a gap; then the old one; then the newer one again.
+fn take_out_of_order(rt: &impl Abort, one: &mut Replica, mail: &Mail) -> Result<(), Fail>
+    requires { one.old.core.setup.replicas ≡ 2 }
+{
+    assert_taken(rt, one, &mail.newer, (0, 3, 0))?;
+    assert_taken(rt, one, &mail.old, (2, 3, 10))?;
+    assert_taken(rt, one, &mail.newer, (3, 3, 15))
+}
+
+#[test]
+fn leaves_what_would_make_a_gap(rt: HostRuntime) -> Result<(), Fail> {
+    let mut pair = fresh_pair(rt.alloc())?;
+    let mail = two_messages(rt.alloc(), &mut pair.zero)?;
+    take_out_of_order(&rt, &mut pair.one, &mail)
 }
