@@ -4,7 +4,9 @@ ghost use Rattle.std.specs.Prelude.{◌≡◌, ◌<◌, IfOk};
 ghost use Rattle.tact_base.specs.Setup.{Setup};
 ghost use Rattle.run_model.specs.Ranges.{IsRequestInRange};
 ghost use Rattle.replica_core.specs.Stands.{IsSameReplica};
+ghost use Rattle.core_tests.specs.Groups.{IsOfTwo};
 
+use crate::pairs::one_of_two;
 use replica_core::Replica;
 use run_model::{Config, Reply, Request};
 use std::alloc::Global;
@@ -90,19 +92,26 @@ fn counts(replica: &Replica) -> (u64, u64, u64)
     (replica.calls(2), replica.count(), replica.have(0))
 }
 
+// What replica 1 may miss of replica 0's writes on conit 0: of positive weights, and of negative ones.
+fn missed(replica: &Replica) -> (u64, u64)
+    requires among { 1 < replica.now.core.setup.replicas }
+    requires conits { 0 < replica.now.core.setup.conits }
+    requires replica { replica.now.core.replica ≡ 0 }
+{
+    replica.budgets().missing(1, 0)
+}
+
+fn reserved(replica: &Replica) -> u64
+    requires { 0 < replica.now.core.setup.conits }
+{
+    replica.budgets().reserved(0)
+}
+
 // Replica 0 of three, each of which allows 10 on one conit and lends 5 of it to each other.
 fn of_three(alloc: Global) -> Result<Replica, Fail>
     ensures { IfOk result (λ made. (made.core.setup.conits ≡ 1) × (made.core.setup.replicas ≡ 3) × (made.core.replica ≡ 0)) }
 {
     let config = Config::new(alloc, 3, 1, &[10; 3], &[0, 5, 5, 5, 0, 5, 5, 5, 0])?;
-    Ok(Replica::new(alloc, &config, 0)?)
-}
-
-// Replica 0 of two, each of which allows 10 on one conit and lends all of it.
-fn of_two(alloc: Global) -> Result<Replica, Fail>
-    ensures { IfOk result (λ made. (made.core.setup.conits ≡ 1) × (made.core.setup.replicas ≡ 2) × (made.core.replica ≡ 0)) }
-{
-    let config = Config::new(alloc, 2, 1, &[10; 2], &[0, 10, 10, 0])?;
     Ok(Replica::new(alloc, &config, 0)?)
 }
 
@@ -166,7 +175,7 @@ fn use_up_a_share(rt: &impl Abort, replica: &mut Replica) -> Result<(), Fail>
     ];
     assert_replies(rt, replica, &table)?;
     assert_eq!(rt; counts(replica), (8, 8, 3));
-    assert_eq!(rt; replica.budgets().missing(1, 0), (5, 5));
+    assert_eq!(rt; missed(replica), (5, 5));
     assert_eq!(rt; replica.tentative().len(), 3);
     Ok(())
 }
@@ -179,9 +188,7 @@ fn writes_wait_for_the_share(rt: HostRuntime) -> Result<(), Fail> {
 
 // All of a share is reserved, and one write takes it.
 fn spend_all(rt: &impl Abort, replica: &mut Replica) -> Result<(), Fail>
-    requires replicas { replica.old.core.setup.replicas ≡ 2 }
-    requires conits { replica.old.core.setup.conits ≡ 1 }
-    requires replica { replica.old.core.replica ≡ 0 }
+    requires { IsOfTwo replica.old.core 0 }
 {
     let table = [
         (Ask::Reserve(10), Reply::Granted),
@@ -193,21 +200,19 @@ fn spend_all(rt: &impl Abort, replica: &mut Replica) -> Result<(), Fail>
     ];
     assert_replies(rt, replica, &table)?;
     assert_eq!(rt; counts(replica), (6, 6, 1));
-    assert_eq!(rt; replica.budgets().missing(1, 0), (10, 0));
+    assert_eq!(rt; missed(replica), (10, 0));
     Ok(())
 }
 
 #[test]
 fn held_writes_spend_what_is_reserved(rt: HostRuntime) -> Result<(), Fail> {
-    let mut replica = of_two(rt.alloc())?;
+    let mut replica = one_of_two(rt.alloc(), 0, [10; 2])?;
     spend_all(&rt, &mut replica)
 }
 
 // A negative weight is missed: what is reserved beside it is of either sign.
 fn reserve_beside_a_write(rt: &impl Abort, replica: &mut Replica) -> Result<(), Fail>
-    requires replicas { replica.old.core.setup.replicas ≡ 2 }
-    requires conits { replica.old.core.setup.conits ≡ 1 }
-    requires replica { replica.old.core.replica ≡ 0 }
+    requires { IsOfTwo replica.old.core 0 }
 {
     replica.reserve(1)?;
     let table = [
@@ -222,14 +227,14 @@ fn reserve_beside_a_write(rt: &impl Abort, replica: &mut Replica) -> Result<(), 
         (Ask::Reserve(1), Reply::Granted),
     ];
     assert_replies(rt, replica, &table)?;
-    assert_eq!(rt; replica.budgets().reserved(0), 1);
-    assert_eq!(rt; replica.budgets().missing(1, 0), (0, 9));
+    assert_eq!(rt; reserved(replica), 1);
+    assert_eq!(rt; missed(replica), (0, 9));
     assert_eq!(rt; replica.spare(), 0);
     Ok(())
 }
 
 #[test]
 fn reserves_count_either_sign(rt: HostRuntime) -> Result<(), Fail> {
-    let mut replica = of_two(rt.alloc())?;
+    let mut replica = one_of_two(rt.alloc(), 0, [10; 2])?;
     reserve_beside_a_write(&rt, &mut replica)
 }

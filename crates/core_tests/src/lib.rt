@@ -8,6 +8,8 @@ mod fitting;
 #[cfg(test)]
 mod lending;
 #[cfg(test)]
+mod pairs;
+#[cfg(test)]
 mod reading;
 #[cfg(test)]
 mod replica;

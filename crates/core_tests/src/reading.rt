@@ -1,25 +1,17 @@
 //! Reads of a replica: what they wait for, what they are told, and what can be read without a call.
 
-ghost use Rattle.std.specs.Prelude.{◌≡◌, ◌≢◌, ◌<◌, IfOk};
+ghost use Rattle.std.specs.Prelude.{◌≡◌, ◌≢◌, ◌<◌};
 ghost use Rattle.tact_base.specs.declared.limits.TheConstants.{MOMENT_MAX};
 ghost use Rattle.replica_core.specs.Stands.{IsSameReplica};
+ghost use Rattle.core_tests.specs.Groups.{IsOfTwo};
 
+use crate::pairs::fresh_pair;
 use replica_core::{LastOne, Replica};
-use run_model::{Config, Reply, Request, Sums};
+use run_model::{Reply, Request, Sums};
 use std::alloc::Global;
+use std::process::Abort;
 use std::test::Fail;
 use tact_base::{Need, Needs, Numbers, Op, Weight, Weights};
-
-// A replica of two on one conit, each of which allows 10 and lends all of it.
-fn one_of_two(alloc: Global, replica: u32) -> Result<Replica, Fail>
-    requires { replica < 2 }
-    ensures replicas { IfOk result (λ made. made.core.setup.replicas ≡ 2) }
-    ensures conits { IfOk result (λ made. made.core.setup.conits ≡ 1) }
-    ensures replica { IfOk result (λ made. made.core.replica ≡ replica) }
-{
-    let config = Config::new(alloc, 2, 1, &[10; 2], &[0, 10, 10, 0])?;
-    Ok(Replica::new(alloc, &config, replica)?)
-}
 
 // Client 0 reads key 1 with one need on conit 0.
 fn read(replica: &mut Replica, moment: u64, num: u32, order: u32, stale: u32) -> Result<Reply, Fail>
@@ -90,10 +82,16 @@ fn told(value: i64, sum: i64) -> Reply {
     }
 }
 
-#[test]
-fn waits_for_what_is_lent(rt: HostRuntime) -> Result<(), Fail> {
-    let mut zero = one_of_two(rt.alloc(), 0)?;
-    let mut one = one_of_two(rt.alloc(), 1)?;
+// A loan is out until it is given back: then the read is answered.
+fn read_what_is_lent(
+    rt: &impl Abort,
+    alloc: Global,
+    zero: &mut Replica,
+    one: &mut Replica,
+) -> Result<(), Fail>
+    requires zero { IsOfTwo zero.old.core 0 }
+    requires one { IsOfTwo one.old.core 1 }
+{
     let lent = Reply::WaitLent {
         conit: 0,
         holder: 1,
@@ -101,19 +99,23 @@ fn waits_for_what_is_lent(rt: HostRuntime) -> Result<(), Fail> {
         total: 10,
         num: 9,
     };
-    assert_eq!(rt; read(&mut zero, 0, 9, 0, 0)?, lent);
+    assert_eq!(rt; read(zero, 0, 9, 0, 0)?, lent);
     assert_eq!(rt; one.give_back(0, 0, 0, 1), Ok(()));
-    exchange(rt.alloc(), 0, &mut one, &mut zero, 0)?;
-    assert_eq!(rt; read(&mut zero, 0, 9, 0, 0)?, told(0, 0));
+    exchange(alloc, 0, one, zero, 0)?;
+    assert_eq!(rt; read(zero, 0, 9, 0, 0)?, told(0, 0));
     Ok(())
 }
 
 #[test]
-fn waits_for_the_order_and_for_who_is_late(rt: HostRuntime) -> Result<(), Fail> {
-    let mut zero = one_of_two(rt.alloc(), 0)?;
-    let mut one = one_of_two(rt.alloc(), 1)?;
-    exchange(rt.alloc(), 100, &mut one, &mut zero, 0)?;
-    add(&mut zero, 1, 4)?;
+fn waits_for_what_is_lent(rt: HostRuntime) -> Result<(), Fail> {
+    let mut pair = fresh_pair(rt.alloc(), [10; 2])?;
+    read_what_is_lent(&rt, rt.alloc(), &mut pair.zero, &mut pair.one)
+}
+
+// An own write weighs 4 in the order, and the other was last heard of at the moment 100.
+fn read_at_the_bounds(rt: &impl Abort, zero: &mut Replica) -> Result<(), Fail>
+    requires { IsOfTwo zero.old.core 0 }
+{
     let unordered = Reply::WaitOrder {
         conit: 0,
         replica: 1,
@@ -126,15 +128,23 @@ fn waits_for_the_order_and_for_who_is_late(rt: HostRuntime) -> Result<(), Fail> 
         moment: 100,
         wanted: 101,
     };
+    add(zero, 1, 4)?;
     for (order, stale, reply) in [
         (4, 10, told(1, 1)),
         (3, 10, unordered),
         (4, 9, late),
         (4, 111, told(1, 1)),
     ] {
-        assert_eq!(rt; read(&mut zero, 110, 10, order, stale)?, reply);
+        assert_eq!(rt; read(zero, 110, 10, order, stale)?, reply);
     }
     Ok(())
+}
+
+#[test]
+fn waits_for_the_order_and_for_who_is_late(rt: HostRuntime) -> Result<(), Fail> {
+    let mut pair = fresh_pair(rt.alloc(), [10; 2])?;
+    exchange(rt.alloc(), 100, &mut pair.one, &mut pair.zero, 0)?;
+    read_at_the_bounds(&rt, &mut pair.zero)
 }
 
 // What can be read of a replica on one conit: the value of the conit, that of key 1, the weight of tentative
@@ -151,20 +161,32 @@ fn readings(replica: &Replica) -> (i64, i64, u64, u64, Option<LastOne>)
     )
 }
 
-#[test]
-fn keeps_what_is_read(rt: HostRuntime) -> Result<(), Fail> {
-    let mut zero = one_of_two(rt.alloc(), 0)?;
-    let mut one = one_of_two(rt.alloc(), 1)?;
-    add(&mut zero, 5, 2)?;
-    add(&mut one, -3, 1)?;
-    add(&mut one, 4, 7)?;
-    assert!(rt; readings(&zero) == (5, 5, 2, 0, None));
-    assert!(rt; readings(&one) == (1, 1, 8, 0, None));
-    exchange(rt.alloc(), 0, &mut zero, &mut one, 1)?;
+// Replica 0 writes once, and replica 1 twice; then replica 1 hears of all.
+fn write_and_hear(
+    rt: &impl Abort,
+    alloc: Global,
+    zero: &mut Replica,
+    one: &mut Replica,
+) -> Result<(), Fail>
+    requires zero { IsOfTwo zero.old.core 0 }
+    requires one { IsOfTwo one.old.core 1 }
+{
+    add(zero, 5, 2)?;
+    add(one, -3, 1)?;
+    add(one, 4, 7)?;
+    assert!(rt; readings(zero) == (5, 5, 2, 0, None));
+    assert!(rt; readings(one) == (1, 1, 8, 0, None));
+    exchange(alloc, 0, zero, one, 1)?;
     let last = Some(LastOne {
         origin: 1,
         index: 0,
     });
-    assert!(rt; readings(&one) == (6, 6, 7, 2, last));
+    assert!(rt; readings(one) == (6, 6, 7, 2, last));
     Ok(())
+}
+
+#[test]
+fn keeps_what_is_read(rt: HostRuntime) -> Result<(), Fail> {
+    let mut pair = fresh_pair(rt.alloc(), [10; 2])?;
+    write_and_hear(&rt, rt.alloc(), &mut pair.zero, &mut pair.one)
 }

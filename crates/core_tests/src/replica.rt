@@ -1,9 +1,11 @@
 //! A replica: what it accepts, what it sends, and when it is full.
 
-ghost use Rattle.std.specs.Prelude.{◌≡◌, ◌<◌, ◌≤◌, [], IfOk};
+ghost use Rattle.std.specs.Prelude.{◌≡◌, ◌≤◌, []};
 ghost use Rattle.tact_base.specs.declared.limits.TheConstants.{MOMENT_MAX};
 ghost use Rattle.replica_core.specs.Stands.{IsSameReplica};
+ghost use Rattle.core_tests.specs.Groups.{IsOfTwo};
 
+use crate::pairs::one_of_two;
 use replica_core::{CoreFault, LoanFault, Replica};
 use run_model::{Config, Message, Reply, Request};
 use std::alloc::Global;
@@ -37,15 +39,6 @@ pub(crate) fn write(replica: &mut Replica, moment: u64) -> Result<Reply, CoreFau
     replica.call(moment, 3, &request)
 }
 
-// A replica of two, on one conit.
-fn one_of_two(alloc: Global, replica: u32) -> Result<Replica, Fail>
-    requires { replica < 2 }
-    ensures { IfOk result (λ made. (made.core.setup.replicas ≡ 2) × (made.core.setup.conits ≡ 1) × (made.core.replica ≡ replica)) }
-{
-    let config = Config::new(alloc, 2, 1, &[10, 10], &[0, 5, 6, 0])?;
-    Ok(Replica::new(alloc, &config, replica)?)
-}
-
 // Makes room for two writes, which it then accepts.
 fn accept_two(rt: &impl Abort, replica: &mut Replica)
     ensures same { IsSameReplica replica.old.core replica.new.core }
@@ -76,7 +69,7 @@ fn assert_accepted(rt: &impl Abort, replica: &Replica) {
 
 #[test]
 fn accepts_writes(rt: HostRuntime) -> Result<(), Fail> {
-    let mut replica = one_of_two(rt.alloc(), 1)?;
+    let mut replica = one_of_two(rt.alloc(), 1, [5, 6])?;
     accept_two(&rt, &mut replica);
     assert_accepted(&rt, &replica);
     Ok(())
@@ -101,8 +94,7 @@ fn assert_message(rt: &impl Abort, message: &Message, first: u64, count: usize, 
 // Writes twice, and sends where the first of its own writes is given.
 fn send_two(alloc: Global, replica: &mut Replica, moment: u64, given: u64) -> Result<Message, Fail>
     requires moment { moment ≤ MOMENT_MAX }
-    requires replicas { replica.old.core.setup.replicas ≡ 2 }
-    requires replica { replica.old.core.replica ≡ 1 }
+    requires replica { IsOfTwo replica.old.core 1 }
 {
     write(replica, 5)?;
     write(replica, 6)?;
@@ -114,7 +106,7 @@ fn send_two(alloc: Global, replica: &mut Replica, moment: u64, given: u64) -> Re
 fn sent(rt: &impl Abort, alloc: Global, moment: u64, given: u64) -> Result<Message, Fail>
     requires { moment ≤ MOMENT_MAX }
 {
-    let mut replica = one_of_two(alloc, 1)?;
+    let mut replica = one_of_two(alloc, 1, [5, 6])?;
     let message = send_two(alloc, &mut replica, moment, given)?;
     assert_eq!(rt; (replica.count(), replica.last()), (3, moment.max(6)));
     Ok(message)
@@ -210,9 +202,7 @@ fn full_readings() -> Readings {
 
 // Each entry is refused, and nothing changes.
 fn assert_full(rt: &impl Abort, replica: &mut Replica)
-    requires replicas { replica.old.core.setup.replicas ≡ 2 }
-    requires conits { replica.old.core.setup.conits ≡ 1 }
-    requires replica { replica.old.core.replica ≡ 0 }
+    requires replica { IsOfTwo replica.old.core 0 }
     ensures same { IsSameReplica replica.old.core replica.new.core }
 {
     let (count, clock) = (20_000, 0);

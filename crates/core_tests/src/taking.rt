@@ -2,38 +2,15 @@
 
 ghost use Rattle.std.specs.Prelude.{◌≡◌, ◌≢◌, ◌<◌, IfOk};
 ghost use Rattle.replica_core.specs.Stands.{IsSameReplica};
+ghost use Rattle.core_tests.specs.Groups.{IsOfTwo};
 
+use crate::pairs::fresh_pair;
 use replica_core::Replica;
-use run_model::{Config, Message, Reply, Request};
+use run_model::{Message, Request};
 use std::alloc::Global;
 use std::process::Abort;
 use std::test::Fail;
 use tact_base::{Numbers, Op, Weights};
-
-// Two replicas, on one conit.
-#[derive(Drop)]
-struct Pair {
-    zero: Replica,
-    one: Replica,
-}
-
-fn one_of_two(alloc: Global, replica: u32) -> Result<Replica, Fail>
-    requires { replica < 2 }
-    ensures { IfOk result (λ made. (made.core.setup.replicas ≡ 2) × (made.core.replica ≡ replica)) }
-{
-    let config = Config::new(alloc, 2, 1, &[10, 10], &[0, 5, 6, 0])?;
-    Ok(Replica::new(alloc, &config, replica)?)
-}
-
-fn fresh_pair(alloc: Global) -> Result<Pair, Fail>
-    ensures zero { IfOk result (λ made. (made.zero.core.setup.replicas ≡ 2) × (made.zero.core.replica ≡ 0)) }
-    ensures one { IfOk result (λ made. (made.one.core.setup.replicas ≡ 2) × (made.one.core.replica ≡ 1)) }
-{
-    Ok(Pair {
-        zero: one_of_two(alloc, 0)?,
-        one: one_of_two(alloc, 1)?,
-    })
-}
 
 // Has a client write without weights: 5 more at the key 1, or the 5 there, if they are, to the key 2.
 fn write(replica: &mut Replica, shifts: bool) -> Result<(), Fail>
@@ -117,8 +94,8 @@ fn exchange(
     zero: &mut Replica,
     one: &mut Replica,
 ) -> Result<(), Fail>
-    requires zero { (zero.old.core.setup.replicas ≡ 2) × (zero.old.core.replica ≡ 0) }
-    requires one { (one.old.core.setup.replicas ≡ 2) × (one.old.core.replica ≡ 1) }
+    requires zero { IsOfTwo zero.old.core 0 }
+    requires one { IsOfTwo one.old.core 1 }
 {
     write(zero, false)?;
     write(one, true)?;
@@ -133,7 +110,7 @@ fn exchange(
 
 #[test]
 fn takes_what_it_lacks(rt: HostRuntime) -> Result<(), Fail> {
-    let mut pair = fresh_pair(rt.alloc())?;
+    let mut pair = fresh_pair(rt.alloc(), [5, 6])?;
     exchange(&rt, rt.alloc(), &mut pair.zero, &mut pair.one)
 }
 
@@ -145,7 +122,7 @@ struct Mail {
 }
 
 fn two_messages(alloc: Global, zero: &mut Replica) -> Result<Mail, Fail>
-    requires { (zero.old.core.setup.replicas ≡ 2) × (zero.old.core.replica ≡ 0) }
+    requires { IsOfTwo zero.old.core 0 }
 {
     write(zero, false)?;
     write(zero, false)?;
@@ -182,7 +159,7 @@ fn take_out_of_order(rt: &impl Abort, one: &mut Replica, mail: &Mail) -> Result<
 
 #[test]
 fn leaves_what_would_make_a_gap(rt: HostRuntime) -> Result<(), Fail> {
-    let mut pair = fresh_pair(rt.alloc())?;
+    let mut pair = fresh_pair(rt.alloc(), [5, 6])?;
     let mail = two_messages(rt.alloc(), &mut pair.zero)?;
     take_out_of_order(&rt, &mut pair.one, &mail)
 }
