@@ -1,5 +1,9 @@
+pub mod Words
 pub mod Setups
 pub mod Sending
 pub mod LineRanges
 pub mod Scripts
 pub mod Fronts
+pub mod Forms
+pub mod Texts
+pub mod Readings

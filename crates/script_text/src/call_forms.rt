@@ -1,0 +1,120 @@
+//! The forms of lines in which a client calls. Each reader is given what is left of the line after its first
+//! word, and the counts of replicas and conits.
+ghost use Rattle.std.specs.Prelude.{◌≡◌, ◌<◌, IfOk};
+ghost use Rattle.run_record.specs.Splitting.{tokens};
+ghost use Rattle.run_record.specs.Fields.{Gives};
+ghost use Rattle.script_text.specs.LineRanges.{bare, IsLineInRange};
+ghost use Rattle.script_text.specs.Forms.{write_line, held_line, reserve_line, release_line, read_line};
+
+use crate::forms::conit_at;
+use run_model::{Line, LineKind};
+use run_record::{
+    LineFault, ListEnd, client_at, end_at, needs_at, number_at, op_at, replica_at, weight_at,
+    weights_at,
+};
+use tact_base::{AMOUNT_MAX, KEY_MAX};
+
+/// `write R K OP WEIGHT..`
+#[tactic(auto, unfolding(crate::specs::Forms::write_line))]
+pub(crate) fn write_line(rest: &[u8], replicas: u32, conits: u32) -> Result<Line, LineFault>
+    requires replicas { 0 < replicas }
+    requires conits { 0 < conits }
+    ensures names { IfOk result (IsLineInRange (bare replicas conits)) }
+    ensures line { Gives (λ x. x) result (write_line replicas conits (tokens rest.now)) }
+{
+    let (replica, rest) = replica_at(rest, replicas)?;
+    let (client, rest) = client_at(rest)?;
+    let (op, rest) = op_at(rest)?;
+    let (weights, rest) = weights_at(rest, conits, ListEnd::Line)?;
+    end_at(rest, LineKind::Extra)?;
+    Ok(Line::Write {
+        replica,
+        client,
+        op,
+        weights,
+    })
+}
+
+/// `held R K OP WEIGHT`
+#[tactic(auto, unfolding(crate::specs::Forms::held_line))]
+pub(crate) fn held_line(rest: &[u8], replicas: u32, conits: u32) -> Result<Line, LineFault>
+    requires replicas { 0 < replicas }
+    requires conits { 0 < conits }
+    ensures names { IfOk result (IsLineInRange (bare replicas conits)) }
+    ensures line { Gives (λ x. x) result (held_line replicas conits (tokens rest.now)) }
+{
+    let (replica, rest) = replica_at(rest, replicas)?;
+    let (client, rest) = client_at(rest)?;
+    let (op, rest) = op_at(rest)?;
+    let (weight, rest) = weight_at(rest, conits)?;
+    end_at(rest, LineKind::Extra)?;
+    Ok(Line::Held {
+        replica,
+        client,
+        op,
+        weight,
+    })
+}
+
+/// `reserve R K C AMOUNT`
+#[tactic(auto, unfolding(crate::specs::Forms::reserve_line))]
+pub(crate) fn reserve_line(rest: &[u8], replicas: u32, conits: u32) -> Result<Line, LineFault>
+    requires replicas { 0 < replicas }
+    requires conits { 0 < conits }
+    ensures names { IfOk result (IsLineInRange (bare replicas conits)) }
+    ensures line { Gives (λ x. x) result (reserve_line replicas conits (tokens rest.now)) }
+{
+    let (replica, rest) = replica_at(rest, replicas)?;
+    let (client, rest) = client_at(rest)?;
+    let (conit, rest) = conit_at(rest, conits)?;
+    let (amount, rest) = number_at(rest, AMOUNT_MAX)?;
+    end_at(rest, LineKind::Extra)?;
+    Ok(Line::Reserve {
+        replica,
+        client,
+        conit,
+        amount,
+    })
+}
+
+/// `release R K C AMOUNT`
+#[tactic(auto, unfolding(crate::specs::Forms::release_line))]
+pub(crate) fn release_line(rest: &[u8], replicas: u32, conits: u32) -> Result<Line, LineFault>
+    requires replicas { 0 < replicas }
+    requires conits { 0 < conits }
+    ensures names { IfOk result (IsLineInRange (bare replicas conits)) }
+    ensures line { Gives (λ x. x) result (release_line replicas conits (tokens rest.now)) }
+{
+    let (replica, rest) = replica_at(rest, replicas)?;
+    let (client, rest) = client_at(rest)?;
+    let (conit, rest) = conit_at(rest, conits)?;
+    let (amount, rest) = number_at(rest, AMOUNT_MAX)?;
+    end_at(rest, LineKind::Extra)?;
+    Ok(Line::Release {
+        replica,
+        client,
+        conit,
+        amount,
+    })
+}
+
+/// `read R K KEY NEED..`
+#[tactic(auto, unfolding(crate::specs::Forms::read_line))]
+pub(crate) fn read_line(rest: &[u8], replicas: u32, conits: u32) -> Result<Line, LineFault>
+    requires replicas { 0 < replicas }
+    requires conits { 0 < conits }
+    ensures names { IfOk result (IsLineInRange (bare replicas conits)) }
+    ensures line { Gives (λ x. x) result (read_line replicas conits (tokens rest.now)) }
+{
+    let (replica, rest) = replica_at(rest, replicas)?;
+    let (client, rest) = client_at(rest)?;
+    let (key, rest) = number_at(rest, KEY_MAX)?;
+    let (needs, rest) = needs_at(rest, conits, ListEnd::Line)?;
+    end_at(rest, LineKind::Extra)?;
+    Ok(Line::Read {
+        replica,
+        client,
+        key,
+        needs,
+    })
+}
