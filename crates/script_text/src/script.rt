@@ -32,7 +32,7 @@ impl Model for Script {
 }
 
 impl Script {
-    /// The setup that the script's first line makes.
+    /// The setup that the `start` line and the `bound` lines make.
     pub fn config(&self) -> &Config
         ensures { result.now ≡ setup_of self.now }
     {
