@@ -1,6 +1,6 @@
 //! Reads of a replica: what they wait for, what they are told, and what can be read without a call.
 
-ghost use Rattle.std.specs.Prelude.{◌≡◌, ◌≢◌, ◌<◌};
+ghost use Rattle.std.specs.Prelude.{◌≡◌, ◌≢◌, ◌<◌, ◌≤◌};
 ghost use Rattle.tact_base.specs.declared.limits.TheConstants.{MOMENT_MAX};
 ghost use Rattle.replica_core.specs.Stands.{IsSameReplica};
 ghost use Rattle.core_tests.specs.Groups.{IsOfTwo};
