@@ -1,9 +1,10 @@
 //! The traits of the outside: sources that bytes are read from and sinks that they are written to, each
-//! with a count of its faults, their forms in memory, and the real edge.
+//! with a count of its faults, their forms in memory, and the real edge; and gates that calls pass.
 #![tactic(auto)]
 
 mod edge;
 mod fault;
+mod gate;
 mod memory_sink;
 mod memory_source;
 mod reading;
@@ -16,6 +17,7 @@ mod writing;
 
 pub use edge::StdStream;
 pub use fault::{Failed, OutFault};
+pub use gate::{FreeGate, Gate};
 pub use memory_sink::{MemSink, SureSink};
 pub use memory_source::{MemSource, SureSource};
 pub use reading::{ReadEnd, read_all};
