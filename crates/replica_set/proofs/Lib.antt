@@ -1,0 +1,3 @@
+pub mod NewSet
+pub mod OneReplica
+pub mod SentMessages
