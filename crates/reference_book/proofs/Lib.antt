@@ -1,0 +1,4 @@
+pub mod Accepting
+pub mod Histories
+pub mod Least
+pub mod Ages

@@ -1,5 +1,5 @@
 -- All accepted writes, by origin: of which history they are, and how far a replica is from what is true of them.
-use Rattle.std.specs.Prelude.{◌≡◌, ℕ, ◌<◌, ◌≤◌, List, [], ◌∷◌, ◌++◌, All, AllPairs, Contains, length, drop, map, Option, None, Some, slice_index_or, slice_set}
+use Rattle.std.specs.Prelude.{◌≡◌, ◌≢◌, ℕ, ◌<◌, ◌≤◌, List, [], ◌∷◌, ◌++◌, All, AllPairs, Contains, length, drop, map, Option, None, Some, slice_index_or, slice_set}
 use Rattle.std.specs.List.{flat_map, range_with_len}
 use Rattle.tact_base.specs.Images.{Image, image_of, ops_of}
 use Rattle.tact_base.specs.Setup.{Setup, replicas_of}
@@ -71,16 +71,11 @@ abbrev pub IsLeast : List ℕ → Option ℕ → Type 0
 IsLeast numbers None = numbers ≡ []
 IsLeast numbers (Some least) = Contains numbers least × All (λ number. least ≤ number) numbers
 
--- each write stands under its origin, at its index
-abbrev pub AreNumbered : List (List Write) → Type 0
-AreNumbered logs = (origin index : ℕ) (d : Write) → index < length (slice_index_or logs origin [])
-    → let write = slice_index_or (slice_index_or logs origin []) index d in
-    (write.origin ≡ origin) × (write.index ≡ index)
-
--- What every book keeps: there are no more origins and no more writes of one than can be, each write has its place, and the sums are those
--- of all writes.
+-- What every book keeps: there are no more origins and no more writes of one than can be; no two writes are alike in origin and index,
+-- and each index is below the count of its origin; and the sums are those of all writes.
 pub record KeepsBook (book : BookState) (kept : RunningState) : Type 0 where
   pub replicas : length book.logs ≤ REPLICAS_MAX
   pub few : All (λ log. length log ≤ HISTORY_MAX) book.logs
-  pub numbered : AreNumbered book.logs
+  pub placed : All (λ (write : Write). write.index < length (log_in book write.origin)) (writes_in book)
+  pub apart : AllPairs (λ (one other : Write). one.origin ≡ other.origin → one.index ≢ other.index) (writes_in book)
   pub sums : HoldsAll kept (weights_of (writes_in book))
