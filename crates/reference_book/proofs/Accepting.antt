@@ -1,14 +1,14 @@
 -- One more accepted write: what a book keeps goes on.
-use Rattle.std.proofs.Common.{◌≡◌, ◌≢◌, ℕ, zero, suc, ◌+◌, ◌*◌, ◌<◌, ◌≤◌, List, [], ◌∷◌, ◌++◌, length, get_or, set, flat_map, map, All, AllPairs, IsPermutation, refl, sym, ap, ap₂, ◌∙◌, subst, ⊎_elim, arith, get_or-set_same, get_or-set_other}
+use Rattle.std.proofs.Common.{◌≡◌, ℕ, zero, suc, ◌*◌, ◌<◌, ◌≤◌, List, [], ◌∷◌, ◌++◌, length, get_or, set, flat_map, All, IsPermutation, refl, sym, ap, ◌∙◌, subst, ⊎_elim, arith, get_or-set_same, get_or-set_other}
 use Rattle.std.proofs.lemmas.Bool.{cases_eq}
-use Rattle.std.proofs.lemmas.List.{append_assoc, length_push, length-map, length-set, map-append}
+use Rattle.std.proofs.lemmas.List.{append_assoc, length_push, length-set, map-append}
 use Rattle.std.proofs.lemmas.List.Concat.{length-flat_map}
 use Rattle.std.proofs.lemmas.List.Elements.{All-cons, All-set, All-weaker}
 use Rattle.std.proofs.lemmas.List.Kept.{AllPairs-cons}
 use Rattle.std.proofs.lemmas.List.Sorted.{All-permutation, IsPermutation-middle, IsPermutation-sym}
 use Rattle.std.proofs.lemmas.List.Sums.{sum_by-le}
 use Rattle.tact_base.proofs.CompareLemmas.{AreApart}
-use Rattle.tact_base.proofs.OrderLemmas.{Apart, Apart-IsPermutation, AreApart-sym}
+use Rattle.tact_base.proofs.OrderLemmas.{Apart, Apart-IsPermutation}
 use Rattle.tact_base.specs.declared.conit_list.Weight.{Weight}
 use Rattle.tact_base.specs.declared.limits.TheConstants.{HISTORY_MAX, REPLICAS_MAX}
 use Rattle.tact_base.specs.declared.write.Write.{Write}

@@ -1,12 +1,10 @@
 -- The book of a history, as it goes on.
-use Rattle.std.proofs.Common.{◌≡◌, ◌≢◌, ℕ, ◌+◌, ◌<◌, ◌≤◌, List, [], ◌∷◌, ◌++◌, length, get_or, set, flat_map, map, All, Option, None, Some, refl, sym, ap, ◌∙◌, subst, ⊎_elim, arith, get_or-set_same, get_or-set_other}
-use Rattle.std.specs.List.{range_with_len}
+use Rattle.std.proofs.Common.{◌≡◌, ℕ, ◌<◌, List, [], ◌∷◌, ◌++◌, length, get_or, set, flat_map, map, Option, None, Some, refl, sym, ap, ◌∙◌, ⊎_elim, arith, get_or-set_same, get_or-set_other}
 use Rattle.std.proofs.lemmas.Bool.{cases_eq}
 use Rattle.std.proofs.lemmas.List.{same_lists, length-set}
 use Rattle.std.proofs.lemmas.List.Elements.{All-weaker}
 use Rattle.std.proofs.lemmas.List.Folds.{flat_map-map}
 use Rattle.std.proofs.lemmas.List.FromFn.{length-map-range_with_len}
-use Rattle.std.proofs.lemmas.Option.{same_Some}
 use Rattle.tact_base.proofs.ListLemmas.{get_or-map_range, map_range_agree, length-filter_map}
 use Rattle.tact_base.specs.Setup.{Setup, replicas_of}
 use Rattle.tact_base.specs.declared.conit_list.Weight.{Weight}
@@ -17,6 +15,8 @@ use Rattle.run_model.specs.OwnWrites.{own, accepted_as, accepted_by, asked_write
 use Rattle.run_model.specs.Ranges.{IsWeightInRange}
 use Rattle.run_model.specs.Reference.{all_writes}
 use Rattle.run_model.specs.Runs.{IsDue}
+use Rattle.run_model.specs.declared.call.Reply.{Reply}
+use Rattle.run_model.specs.declared.call.Request.{Request}
 use Rattle.run_model.specs.declared.entry.Act.{Act}
 use Rattle.run_model.specs.declared.entry.Act.TheVariants as act
 use Rattle.run_model.specs.declared.entry.Entry.{Entry}
@@ -43,6 +43,20 @@ accepted_by-origin replica moment (act.Take message) write some = cc
 accepted_by-origin replica moment (act.Lend to conit amount) write some = cc
 accepted_by-origin replica moment (act.Back owner conit amount) write some = cc
 accepted_by-origin replica moment act.Restart write some = cc
+
+-- a call that isn't answered Done accepts nothing
+accepted_as-undone : (replica moment : ℕ) (asked : Option (List Weight × Op)) (done : Option (ℕ × ℕ))
+    → done ≡ None
+    → accepted_as replica moment asked done ≡ None
+accepted_as-undone replica moment (Some asked) None undone = refl
+accepted_as-undone replica moment (Some asked) (Some done) undone = cc
+accepted_as-undone replica moment None done undone = refl
+
+pub accepted_by-undone : (replica moment client number : ℕ) (request : Request) (reply : Reply)
+    → done_as reply ≡ None
+    → accepted_by replica moment (act.Call client number request reply) ≡ None
+accepted_by-undone replica moment client number request reply undone =
+    accepted_as-undone replica moment (asked_write request) (done_as reply) undone
 
 -- what a replica accepted in a history
 abbrev own_in : List Entry → ℕ → List Write

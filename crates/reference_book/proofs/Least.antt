@@ -1,9 +1,9 @@
 -- The least of numbers.
-use Rattle.std.proofs.Common.{◌≡◌, ℕ, zero, suc, ◌-◌, ◌<◌, ◌≤◌, min, List, [], ◌∷◌, ◌++◌, length, drop, map, All, Contains, Option, None, Some, inl, inr, ◌⊎◌, refl, sym, ap, ◌∙◌, subst, ⊎_elim, arith}
+use Rattle.std.proofs.Common.{◌≡◌, ℕ, zero, suc, ◌-◌, ◌<◌, ◌≤◌, min, List, [], ◌∷◌, ◌++◌, drop, Contains, Option, None, Some, inl, inr, ◌⊎◌, refl, sym, ap, subst, arith}
 use Rattle.std.proofs.lemmas.Bool.{cases_lt}
 use Rattle.std.specs.Option.{option_map, option_map_or}
 use Rattle.std.specs.Prelude.{slice_get}
-use Rattle.std.proofs.lemmas.List.Elements.{All-nil, All-cons, All-append, All-contains, All-map, All-weaker, Contains-append_left, Contains-append_right}
+use Rattle.std.proofs.lemmas.List.Elements.{All-cons, All-append, All-contains, All-map, All-weaker, Contains-append_left, Contains-append_right}
 use Rattle.tact_base.proofs.CoversLemmas.{least_of-is_least, least_of-ge}
 use Rattle.tact_base.proofs.ElementLemmas.{AllPairs-first, AllPairs-rest, Contains-first, Contains-none}
 use Rattle.tact_base.specs.Covers.{least_of}

@@ -1,5 +1,5 @@
 -- A book in which nothing was accepted.
-use Rattle.std.proofs.Common.{◌≡◌, ℕ, zero, suc, ◌<◌, ◌≤◌, List, [], ◌∷◌, length, get_or, map, flat_map, replicate, All, sym, refl, ap, ◌∙◌, subst, arith}
+use Rattle.std.proofs.Common.{◌≡◌, ℕ, zero, suc, ◌<◌, ◌≤◌, List, [], length, map, flat_map, replicate, All, sym, refl, ap, ◌∙◌, subst, arith}
 use Rattle.std.proofs.lemmas.List.{same_lists, length-replicate, get_or-replicate}
 use Rattle.std.proofs.lemmas.List.Elements.{All-nil}
 use Rattle.std.proofs.lemmas.List.FromFn.{length-map-range_with_len}
@@ -12,7 +12,6 @@ use Rattle.tact_base.specs.declared.write.Write.{Write}
 use Rattle.run_model.specs.Histories.{part_of}
 use Rattle.run_model.specs.OwnWrites.{own}
 use Rattle.conit_weights.specs.Running.{RunningState, HoldsAll}
-use Rattle.replica_core.specs.Seen.{weights_of}
 use Rattle.reference_book.specs.Books.{BookState, IsBookOf, KeepsBook, log_in, writes_in}
 
 -- so many empty lists

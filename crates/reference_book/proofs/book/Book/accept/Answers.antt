@@ -1,9 +1,8 @@
-use Rattle.std.proofs.Common.{◌≡◌, ◌+◌, ◌<◌, List, [], ◌∷◌, ◌++◌, length, get_or, rules, sym, ap, ◌∙◌, subst, arith}
+use Rattle.std.proofs.Common.{[], ◌∷◌, ◌++◌, sym, subst, arith}
 use Rattle.std.proofs.lemmas.List.{length-map}
-use Rattle.tact_base.specs.declared.limits.TheConstants.{HISTORY_MAX, REPLICAS_MAX, SUMMED_WRITES}
 use Rattle.tact_base.specs.declared.write.Write.{Write}
 use Rattle.std.proofs.lemmas.Grind.{common_steps}
-use Rattle.reference_book.specs.Books.{BookState, IsNextIn, KeepsBook, IsBookOf, writes_in, log_in, with_accepted}
+use Rattle.reference_book.specs.Books.{BookState, KeepsBook, IsBookOf, writes_in}
 use Rattle.reference_book.proofs.Accepting.{writes_in-few, KeepsBook-accepted}
 use Rattle.reference_book.proofs.Histories.{IsBookOf-accepted}
 use Rattle.reference_book.proofs.book.Book.accept.Goals as goal

@@ -1,4 +1,4 @@
-use Rattle.std.proofs.Common.{◌≡◌, arith, ap, ◌∙◌}
+use Rattle.std.proofs.Common.{arith, ◌∙◌}
 use Rattle.reference_book.proofs.Made.{KeepsBook-made, IsBookOf-made}
 use Rattle.reference_book.proofs.book.Book.new.Goals as goal
 

@@ -1,4 +1,4 @@
-use Rattle.std.proofs.Common.{◌≡◌, ◌+◌, ℕ, List, [], length, get_or, drop, flat_map, map, refl, sym, ap, ap₂, ◌∙◌, subst, arith, rules}
+use Rattle.std.proofs.Common.{◌≡◌, ℕ, List, [], length, get_or, drop, flat_map, sym, ap, ap₂, ◌∙◌, subst, arith}
 use Rattle.std.specs.List.{range_with_len}
 use Rattle.std.specs.Option.{option_map}
 use Rattle.std.specs.Prelude.{slice_get}
@@ -6,7 +6,7 @@ use Rattle.std.proofs.lemmas.List.{map-append, get_or_read}
 use Rattle.tact_base.proofs.RangeLists.{flat_map_range_more}
 use Rattle.tact_base.specs.declared.write.Write.{Write}
 use Rattle.replica_core.specs.States.{log_at}
-use Rattle.reference_book.specs.Books.{BookState, HaveRisingMoments, IsLeast, moments_of, log_in}
+use Rattle.reference_book.specs.Books.{BookState, IsLeast, moments_of, log_in}
 use Rattle.reference_book.proofs.Least.{IsLeast-from}
 use Rattle.reference_book.proofs.book.Book.oldest_unseen.Goals as goal
 

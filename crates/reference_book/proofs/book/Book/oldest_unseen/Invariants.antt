@@ -1,4 +1,4 @@
-use Rattle.std.proofs.Common.{◌≡◌, All, length, drop, get_or, []}
+use Rattle.std.proofs.Common.{All, length, drop}
 use Rattle.std.specs.List.{range_with_len, flat_map}
 use Rattle.replica_core.specs.States.{log_at}
 use Rattle.reference_book.specs.Books.{HaveRisingMoments, IsLeast, moments_of, log_in}
