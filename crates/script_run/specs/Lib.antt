@@ -6,3 +6,4 @@ pub mod Worlds
 pub mod Playing
 pub mod Commands
 pub mod Shown
+pub mod Comments

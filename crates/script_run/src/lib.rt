@@ -1,6 +1,7 @@
 //! Scripts: their reader, the world that a script runs in, `play`, and for now the top call.
 #![tactic(auto)]
 
+mod comments;
 mod fault;
 mod forms;
 mod playing;
