@@ -12,3 +12,5 @@ pub mod SetupRows
 pub mod BoundReaders
 pub mod RecordReader
 pub mod Loops
+pub mod TextBounds
+pub mod TextLines

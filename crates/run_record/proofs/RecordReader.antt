@@ -1,16 +1,15 @@
 -- A record that is read is what the bytes spell, and one that the bytes spell is read.
-use Rattle.std.proofs.Common.{◌≡◌, ◌≢◌, ℕ, zero, suc, ◌+◌, ◌^◌, ◌<◌, ◌≤◌, ◌==◌, Bool, true, false, cond, ltb, List, [], ◌∷◌, ◌++◌, length, take, drop, All, Result, Ok, Err, zero-add, refl, sym, ap, subst, ◌∙◌, append_assoc, arith}
+use Rattle.std.proofs.Common.{◌≡◌, ◌≢◌, ℕ, ◌+◌, ◌^◌, ◌<◌, ◌≤◌, ◌==◌, Bool, true, false, cond, ltb, List, [], ◌∷◌, ◌++◌, length, take, All, Result, Ok, Err, zero-add, refl, sym, ap, subst, ◌∙◌, append_assoc, arith}
 use Rattle.std.specs.Prelude.{nat_lt}
 use Rattle.std.specs.Result.{IfOk}
 use Rattle.std.specs.List.{flat_map}
 use Rattle.std.proofs.lemmas.Bool.{eqb-true, eq-eqb, ltb-false, le-ltb}
 use Rattle.std.proofs.lemmas.List.{length-append, take_all}
-use Rattle.std.proofs.lemmas.List.Concat.{flat_map-cons}
 use Rattle.tact_base.specs.Setup.{Setup, IsSetup}
-use Rattle.tact_base.proofs.SetupLemmas.{HasCounts, HasCounts-from_IsSetup}
+use Rattle.tact_base.proofs.SetupLemmas.{HasCounts-from_IsSetup}
 use Rattle.run_model.specs.declared.status.ByteKind.TheVariants as kind
 use Rattle.run_model.specs.Bytes.{◌>>=◌, Field, StandsAt, number_bytes, any_number_at}
-use Rattle.run_model.proofs.ByteLemmas.{AreBytes, Spelled, stands_within, ok_is}
+use Rattle.run_model.proofs.ByteLemmas.{AreBytes, stands_within}
 use Rattle.run_model.proofs.Readers.{Reader, Then, Made, IsNumber, SpelledAs, any_number, and_then, making, said, found}
 use Rattle.run_record.specs.declared.fault.RecordFault.{RecordFault}
 use Rattle.run_record.specs.declared.fault.RecordFault.TheVariants as fault
@@ -20,7 +19,7 @@ use Rattle.run_record.specs.RecordBytes.{setup_bytes, short_bytes, record_bytes}
 use Rattle.run_record.specs.EntriesAt.{shorts_at}
 use Rattle.run_record.specs.RecordAt.{Part, Tells, then_part, part_of, setup_at, count_at, body_at, record_at}
 use Rattle.run_record.proofs.FieldReaders.{and_then_if}
-use Rattle.run_record.proofs.EntryReaders.{AreEntries, entries_reader}
+use Rattle.run_record.proofs.EntryReaders.{entries_reader}
 use Rattle.run_record.proofs.OkParts.{ok_of, ok_bind, is_ok, same_reader, kept_reader, part_reader}
 use Rattle.run_record.proofs.BoundReaders.{setup_reader}
 

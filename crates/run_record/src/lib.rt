@@ -2,6 +2,10 @@
 //! scripts as of records.
 #![tactic(auto)]
 
+mod act_tokens;
+mod body_lines;
+mod call_tokens;
+mod entry_words;
 mod fault;
 mod fields;
 mod get_acts;
@@ -14,6 +18,9 @@ mod lists;
 mod parts;
 mod printing;
 mod put_bytes;
+mod record_lines;
+mod reply_tokens;
+mod setup_lines;
 mod short;
 mod splitting;
 
@@ -29,5 +36,6 @@ pub use lines::{fault_of_bytes, is_skipped};
 pub use lists::{ListEnd, firsts_at, needs_at, numbers_at, weight_at, weights_at};
 pub use printing::{print, text_of};
 pub use put_bytes::bytes_of;
+pub use record_lines::parse_text;
 pub use short::{Short, ShortAct, Shorts};
 pub use splitting::{next_token, split_first};
