@@ -1,0 +1,11 @@
+//! Scripts drawn by a number: the generated input of the drill.
+#![tactic(auto)]
+
+mod draws;
+mod drill;
+mod sent;
+mod steps;
+
+pub use draws::Draws;
+pub use drill::drill_script;
+pub use sent::SentOne;
