@@ -1,6 +1,6 @@
 -- What a step of the drill draws may stand in its script.
-use Rattle.std.proofs.Common.{◌≡◌, ◌≢◌, ℕ, zero, suc, ◌+◌, ◌-◌, ◌<◌, ◌≤◌, ◌==◌, ◌%◌, ◌⊎◌, inl, inr, ℤ, pos, Bool, true, false, nat_le, nat_lt, cond, List, [], ◌∷◌, ◌++◌, length, get_or, Option, None, Some, refl, sym, ap, ◌∙◌, subst, arith}
-use Rattle.std.specs.Prelude.{◌-ℤ◌, unsigned_abs, replicate}
+use Rattle.std.proofs.Common.{◌≡◌, ◌≢◌, ℕ, zero, suc, ◌+◌, ◌<◌, ◌≤◌, ◌==◌, ◌%◌, pos, Bool, true, false, nat_lt, cond, List, [], ◌∷◌, length, get_or, Option, None, Some, refl, sym, ap, ◌∙◌, subst, arith}
+use Rattle.std.specs.Prelude.{◌-ℤ◌, unsigned_abs}
 use Rattle.std.specs.List.{All, slice_get}
 use Rattle.std.specs.Option.{option_map}
 use Rattle.std.proofs.lemmas.Option.{slice_get-get_or, slice_get_within}
@@ -18,7 +18,7 @@ use Rattle.run_model.specs.declared.script_line.Line.TheVariants as line
 use Rattle.script_text.specs.LineRanges.{IsLineInRange, IsCallInRange}
 use Rattle.script_text.specs.Setups.{opening, sets_up}
 use Rattle.drawn_scripts.specs.Counting.{IsAmongFour, AreFourSenders}
-use Rattle.drawn_scripts.specs.Draws.{Drawing, pick, after_draw}
+use Rattle.drawn_scripts.specs.Draws.{pick}
 use Rattle.drawn_scripts.specs.DrawnScripts.{weight_of, need_of, write_drawn, two_drawn, send_drawn, sync_drawn, take_drawn, read_drawn, take_of, some_drawn, line_drawn}
 use Rattle.drawn_scripts.specs.declared.sent.SentOne.{SentOne}
 
@@ -72,12 +72,14 @@ write_is_drawn sent state =
     record {
       up = refl;
       senders = tt;
-      in_range = call_in (pick 4 state).0 (request.Write (weight_of conit size ∷ []) (Add key (pos 1))) (picked_below 4 state (omega (arith)))
-      (record {
-        each = All-one (IsWeightInRange four) (weight_of conit size)
-        (record { conit = picked_below 2 s1 (omega (arith)); nweight = weight_in size (picked_below 9 s2 (omega (arith))); oweight = omega (arith) });
-        listed = refl;
-      }, (omega (arith, picked_below 16 s3 (omega (arith))), omega (arith)));
+      in_range = call_in (pick 4 state).0 (request.Write (weight_of conit size ∷ []) (Add key (pos 1))) (picked_below 4 state (omega (arith))) (
+        record {
+          each = All-one (IsWeightInRange four) (weight_of conit size)
+              (record { conit = picked_below 2 s1 (omega (arith)); nweight = weight_in size (picked_below 9 s2 (omega (arith))); oweight = omega (arith) });
+          listed = refl;
+        },
+        (omega (arith, picked_below 16 s3 (omega (arith))), omega (arith)),
+      );
       takes = tt;
     }
 
@@ -105,8 +107,10 @@ send_is_drawn sent state =
     record {
       up = refl;
       senders = two.first_in;
-      in_range = (record { first_in = two.first_in; second_in = two.second_in; others = two.others },
-        record { size = refl; each = All-replicate (λ (n : ℕ). n ≤ HISTORY_MAX) 4 0 (omega (arith)) });
+      in_range = (
+        record { first_in = two.first_in; second_in = two.second_in; others = two.others },
+        record { size = refl; each = All-replicate (λ (n : ℕ). n ≤ HISTORY_MAX) 4 0 (omega (arith)) },
+      );
       takes = tt;
     }
 
@@ -131,12 +135,14 @@ read_is_drawn sent state =
     record {
       up = refl;
       senders = tt;
-      in_range = call_in (pick 4 state).0 (request.Read key (need_of conit ∷ [])) (picked_below 4 state (omega (arith)))
-      (omega (arith, picked_below 16 s2 (omega (arith))), record {
-        each = All-one (IsNeedInRange four) (need_of conit)
-        (record { conit = picked_below 2 s1 (omega (arith)); num = omega (arith); order = omega (arith); stale = omega (arith) });
-        listed = refl;
-      });
+      in_range = call_in (pick 4 state).0 (request.Read key (need_of conit ∷ [])) (picked_below 4 state (omega (arith))) (
+        omega (arith, picked_below 16 s2 (omega (arith))),
+        record {
+          each = All-one (IsNeedInRange four) (need_of conit)
+              (record { conit = picked_below 2 s1 (omega (arith)); num = omega (arith); order = omega (arith); stale = omega (arith) });
+          listed = refl;
+        },
+      );
       takes = tt;
     }
 

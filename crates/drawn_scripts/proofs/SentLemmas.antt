@@ -1,6 +1,6 @@
 -- The messages of drawn lines, and the receivers by sender that a script keeps of them.
-use Rattle.std.proofs.Common.{◌≡◌, ◌≢◌, ℕ, zero, suc, ◌+◌, ◌<◌, ◌≤◌, ◌==◌, ◌⊎◌, inl, inr, Bool, true, false, not, cond, List, [], ◌∷◌, ◌++◌, length, get_or, set, filter, Option, None, Some, append-nil, refl, sym, ap, ◌∙◌, subst, arith, get_or-set_same}
-use Rattle.std.specs.List.{All, slice_get}
+use Rattle.std.proofs.Common.{◌≡◌, ◌≢◌, ℕ, ◌+◌, ◌<◌, ◌≤◌, ◌==◌, ◌⊎◌, inl, inr, Bool, true, false, not, cond, List, [], ◌∷◌, ◌++◌, length, get_or, Option, Some, append-nil, refl, sym, ap, ◌∙◌, subst, arith, get_or-set_same}
+use Rattle.std.specs.List.{All}
 use Rattle.std.specs.Option.{option_map_or}
 use Rattle.std.proofs.lemmas.Bool.{cases_eq, eq-eqb, ne_eqb}
 use Rattle.std.proofs.lemmas.List.{get_or_push, get_or_append_left, get_or-set_other, length-set, length_push}
@@ -76,9 +76,9 @@ module _ (by : List (List ℕ)) (from to : ℕ) (from_in : from < length by) whe
           record {
             among = is.among;
             counted = subst (λ (list : List ℕ). one.number < length list) (sym here)
-            (omega (arith, is.counted, length_push (get_or by one.from []) to));
+                (omega (arith, is.counted, length_push (get_or by one.from []) to));
             receiver = ap (λ (list : List ℕ). get_or list one.number 0) here
-            ∙ get_or_append_left (get_or by one.from []) (to ∷ []) 0 one.number is.counted ∙ is.receiver;
+                ∙ get_or_append_left (get_or by one.from []) (to ∷ []) 0 one.number is.counted ∙ is.receiver;
           }
       go (inr other) =
           let here = other_receivers one.from other in
@@ -103,12 +103,16 @@ has_one_more sent by from to has from_in to_in others = record {
   where
     by' : List (List ℕ)
     by' = with_sent by from to
+
     more : SentOne
     more = record { from = from; to = to; number = length (sent_from sent from) }
+
     within : from < length by
     within = omega (arith, from_in, has.size)
+
     own : get_or by' from [] ≡ get_or by from [] ++ to ∷ []
     own = own_receivers by from to within
+
     counts : (sender : ℕ) → sender < 4 → length (get_or by' sender []) ≡ length (sent_from (with_message sent from to) sender)
     counts sender sender_in = go (cases_eq sender from)
       where
@@ -119,11 +123,12 @@ has_one_more sent by from to has from_in to_in others = record {
         go (inr other) =
             ap length (other_receivers by from to within sender other) ∙ has.counts sender sender_in
             ∙ sym (sent_from-other sent from to sender (λ same. other (sym same)))
+
     more_there : IsThere by' more
     more_there = record {
       among = record { from_in = from_in; to_in = to_in; others = others };
       counted = subst (λ (list : List ℕ). length (sent_from sent from) < length list) (sym own)
-      (omega (arith, has.counts from from_in, length_push (get_or by from []) to));
+          (omega (arith, has.counts from from_in, length_push (get_or by from []) to));
       receiver = ap (λ (list : List ℕ). get_or list (length (sent_from sent from)) 0) own
-      ∙ get_or_push (get_or by from []) to 0 (length (sent_from sent from)) (has.counts from from_in);
+          ∙ get_or_push (get_or by from []) to 0 (length (sent_from sent from)) (has.counts from from_in);
     }

@@ -1,5 +1,5 @@
 -- The lines that the steps of the drill draw are those of a script.
-use Rattle.std.proofs.Common.{◌≡◌, ◌≢◌, ℕ, zero, suc, ◌+◌, ◌*◌, ◌<◌, ◌≤◌, false, List, [], ◌∷◌, ◌++◌, length, get_or, Option, None, Some, append_assoc, append-nil, refl, sym, ap, ◌∙◌, subst, arith}
+use Rattle.std.proofs.Common.{◌≡◌, ℕ, zero, suc, ◌+◌, ◌*◌, ◌≤◌, List, [], ◌∷◌, ◌++◌, length, get_or, Option, None, Some, append_assoc, append-nil, refl, sym, ap, ◌∙◌, subst, arith}
 use Rattle.std.specs.Prelude.{replicate}
 use Rattle.std.specs.List.{All, fold, range_with_len}
 use Rattle.std.proofs.lemmas.List.{get_or-replicate}
@@ -11,9 +11,9 @@ use Rattle.tact_base.specs.Setup as setups
 use Rattle.tact_base.specs.declared.limits.TheConstants.{MOMENT_MAX}
 use Rattle.run_model.specs.declared.script_line.Line.{Line}
 use Rattle.run_model.specs.declared.script_line.Line.TheVariants as line
-use Rattle.script_text.specs.Scripts.{IsScript, IsPlacedBy, FitsAfter}
+use Rattle.script_text.specs.Scripts.{IsScript, IsPlacedBy}
 use Rattle.script_text.specs.Sending.{with_sent, sent_after, sent_by}
-use Rattle.script_text.specs.Setups.{setup_of, sets_up, is_past_setup}
+use Rattle.script_text.specs.Setups.{setup_of, is_past_setup}
 use Rattle.script_text.proofs.ReaderLemmas.{script_more, start_is_begun}
 use Rattle.script_text.proofs.SetupGrowth.{setup_of-kept, sent_by-push}
 use Rattle.drawn_scripts.specs.Counting.{IsAmongFour}
@@ -21,7 +21,7 @@ use Rattle.drawn_scripts.specs.Draws.{Drawing, ◌>>=◌, drawn, pick}
 use Rattle.drawn_scripts.specs.DrawnScripts.{messages_after, messages_of, line_drawn, listed, step_drawn, steps_drawn}
 use Rattle.drawn_scripts.specs.declared.sent.SentOne.{SentOne}
 use Rattle.drawn_scripts.proofs.SentLemmas.{IsThere, HasAll, there_is_sent, has_one_more}
-use Rattle.drawn_scripts.proofs.DrawnLemmas.{four, TakesOne, IsDrawn, IsDrawnIfAny, line_is_drawn}
+use Rattle.drawn_scripts.proofs.DrawnLemmas.{four, IsDrawn, IsDrawnIfAny, line_is_drawn}
 
 -- the lines of a script of four, whose messages are counted
 pub record GoesOn (lines : List Line) : Type 0 where
@@ -71,7 +71,7 @@ goes_push lines l goes drawn =
     let kept : setup_of (lines ++ l ∷ []) ≡ setup_of lines = setup_of-kept lines l drawn.up in
     record {
       script = script_more lines l goes.script
-      (record { in_range = rw goes.setup drawn.in_range; in_place = placed lines l goes.all drawn });
+          (record { in_range = rw goes.setup drawn.in_range; in_place = placed lines l goes.all drawn });
       setup = kept ∙ goes.setup;
       all = rw (messages_of-push lines l, sent_by-push lines l (ap (λ s. s.replicas) kept)) (all_after (messages_of lines) (sent_by lines) l goes.all drawn);
     }

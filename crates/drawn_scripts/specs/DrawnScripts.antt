@@ -1,5 +1,5 @@
 -- The script that a number draws: four replicas that write, send, take, meet and read at random, and no other choice.
-use Rattle.std.specs.Prelude.{ℕ, ◌+◌, ◌%◌, ◌==◌, ℤ, pos, ◌-ℤ◌, nat_lt, List, [], ◌∷◌, ◌++◌, fold, length, replicate, slice_get, Option, None, Some, if◌then◌else◌}
+use Rattle.std.specs.Prelude.{ℕ, ◌+◌, ◌%◌, ◌==◌, pos, ◌-ℤ◌, nat_lt, List, [], ◌∷◌, ◌++◌, fold, length, replicate, slice_get, Option, None, Some, if◌then◌else◌}
 use Rattle.std.specs.List.{range_with_len}
 use Rattle.std.specs.Option.{option_map}
 use Rattle.tact_base.specs.declared.conit_list.Need.{Need}

@@ -5,6 +5,8 @@ mod draws;
 mod drill;
 mod sent;
 mod steps;
+#[cfg(test)]
+mod tests;
 
 pub use draws::Draws;
 pub use drill::drill_script;

@@ -65,7 +65,11 @@ impl SentAll {
         ensures { OnOk result (self.new ≡ messages_after self.old line.now) }
     {
         match line {
-            Line::Send { from, to, firsts: _ } => self.add(*from, *to),
+            Line::Send {
+                from,
+                to,
+                firsts: _,
+            } => self.add(*from, *to),
             Line::Sync { first, second } => {
                 self.add(*first, *second)?;
                 self.add(*second, *first)

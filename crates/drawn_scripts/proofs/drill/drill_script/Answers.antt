@@ -1,7 +1,6 @@
-use Rattle.std.proofs.Common.{◌≡◌, ℕ, ◌≤◌, List, [], ◌∷◌, refl, sym, subst, arith}
+use Rattle.std.proofs.Common.{refl, arith}
 use Rattle.tact_base.specs.Setup as setups
-use Rattle.run_model.specs.declared.script_line.Line.TheVariants as line
-use Rattle.drawn_scripts.proofs.StepLemmas.{IsDrawnTo, drawn_to_begins, drawn_to_more, drawn_to_among, drawn_to_goes}
+use Rattle.drawn_scripts.proofs.StepLemmas.{drawn_to_begins, drawn_to_more, drawn_to_among, drawn_to_goes}
 use Rattle.drawn_scripts.proofs.drill.drill_script.Goals as goal
 
 pub start-requires-clause-good : goal.start-requires-clause-good

@@ -1,4 +1,3 @@
-use Rattle.std.proofs.Common.{◌≡◌, ◌*◌, ◌≤◌, length}
 use Rattle.drawn_scripts.proofs.StepLemmas.{IsDrawnTo}
 use Rattle.drawn_scripts.proofs.drill.drill_script.Given as goal
 

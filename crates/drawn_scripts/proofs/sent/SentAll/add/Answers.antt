@@ -1,4 +1,4 @@
-use Rattle.std.proofs.Common.{◌≡◌, ℕ, ◌+◌, ◌<◌, ◌≤◌, length, Fits, w64, ap, arith}
+use Rattle.std.proofs.Common.{length, ap, arith}
 use Rattle.drawn_scripts.proofs.SentLemmas.{sent_from-le}
 use Rattle.drawn_scripts.proofs.sent.SentAll.add.Goals as goal
 
