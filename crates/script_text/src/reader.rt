@@ -73,7 +73,7 @@ fn setup_by(alloc: Global, line: &Line) -> Result<Config, LineFault>
             let config = opening(alloc, *replicas, *conits, *alpha, *loan)?;
             Ok(config)
         }
-        _ => Err(LineFault::NoMemory),
+        _ => unreachable!(),
     }
 }
 

@@ -1,16 +1,20 @@
 //! Scripts: their setup and their lines.
-ghost use Rattle.std.specs.Prelude.{◌≡◌, ◌≤◌, length, IfOk};
-ghost use Rattle.tact_base.specs.declared.limits.TheConstants.{SCRIPT_LINES};
-ghost use Rattle.script_text.specs.Setups.{setup_of};
+ghost use Rattle.std.specs.Prelude.{◌≡◌, ◌≤◌, false, [], ◌∷◌, ◌++◌, length, IfOk, OnOk, OnErr};
+ghost use Rattle.tact_base.specs.Setup.{IsSetup};
+ghost use Rattle.tact_base.specs.declared.limits.TheConstants.{CONITS_MAX, REPLICAS_MAX, SCRIPT_LINES};
+ghost use Rattle.run_model.specs.declared.script_line.Line.TheVariants.{Start};
+ghost use Rattle.script_text.specs.Setups.{opening, setup_of, sets_up};
 ghost use Rattle.script_text.specs.Scripts.{IsScript};
 ghost use Rattle.script_text.specs.Texts.{script_of, Reads};
 
 use crate::fault::ScriptFault;
 use crate::reader::{Reader, read_first, read_later};
+use crate::setups::opening;
 use run_model::{Config, Line};
+use run_record::LineFault;
 use std::alloc::Global;
 use std::marker::Model;
-use tact_base::Items;
+use tact_base::{Items, NoMemory};
 
 /// A script: its setup, and its lines that aren't skipped, the `start` line first.
 #[derive(Debug, Drop)]
@@ -32,6 +36,44 @@ impl Model for Script {
 }
 
 impl Script {
+    /// The script of one `start` line, whose setup isn't refused.
+    pub fn start(
+        alloc: Global,
+        replicas: u32,
+        conits: u32,
+        alpha: u64,
+        loan: u64,
+    ) -> Result<Script, NoMemory>
+        requires few_replicas { replicas ≤ REPLICAS_MAX }
+        requires few_conits { conits ≤ CONITS_MAX }
+        requires good { IsSetup (opening replicas conits alpha loan) }
+        ensures { IfOk result (λ script. script ≡ Start replicas conits alpha loan ∷ []) }
+    {
+        let config = match opening(alloc, replicas, conits, alpha, loan) {
+            Ok(config) => config,
+            Err(LineFault::NoMemory) => return Err(NoMemory),
+            Err(LineFault::Kind(_)) => unreachable!(),
+        };
+        let mut lines = Items::new(alloc);
+        lines.push(Line::Start {
+            replicas,
+            conits,
+            alpha,
+            loan,
+        })?;
+        Ok(Script { config, lines })
+    }
+
+    /// Adds a line that doesn't set up. Whether it may stand there isn't asked here. `NoMemory` leaves the
+    /// script as it was.
+    pub fn push(&mut self, line: Line) -> Result<(), NoMemory>
+        requires { sets_up line ≡ false }
+        ensures ok { OnOk result (self.new ≡ self.old ++ line ∷ []) }
+        ensures err { OnErr result (self.new ≡ self.old) }
+    {
+        self.lines.push(line)
+    }
+
     /// The setup that the `start` line and the `bound` lines make.
     pub fn config(&self) -> &Config
         ensures { result.now ≡ setup_of self.now }

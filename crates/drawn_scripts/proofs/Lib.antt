@@ -1,0 +1,3 @@
+pub mod SentLemmas
+pub mod DrawnLemmas
+pub mod StepLemmas

@@ -1,0 +1,43 @@
+//! Numbers drawn one after another.
+ghost use Rattle.std.specs.Prelude.{◌≡◌, ◌≢◌, ◌<◌};
+ghost use Rattle.drawn_scripts.specs.Draws.{after_draw, pick};
+
+use std::marker::Model;
+
+/// Draws by a linear congruence on 64 bits (Knuth's MMIX): the same numbers from the same beginning, on
+/// every machine. Contracts see its state. They are no random numbers for secrets.
+#[derive(Debug, Drop)]
+pub struct Draws {
+    state: u64,
+}
+
+impl Model for Draws {
+    ghost use Rattle.std.specs.Prelude.{ℕ};
+
+    ghost Value = { ℕ };
+
+    ghost view = { λ d. d.state };
+}
+
+impl Draws {
+    /// Draws that begin with this number as the state.
+    pub fn new(number: u64) -> Draws
+        ensures { result ≡ number }
+    {
+        Draws { state: number }
+    }
+
+    /// Draws a number below `k`, which isn't 0. Takes no memory.
+    #[tactic(auto, unfolding(crate::specs::Draws::pick, crate::specs::Draws::after_draw))]
+    pub fn pick(&mut self, k: u64) -> u64
+        requires { k ≢ 0 }
+        ensures drawn { pick k self.old ≡ (result, self.new) }
+        ensures below { result < k }
+    {
+        self.state = self
+            .state
+            .wrapping_mul(6364136223846793005)
+            .wrapping_add(1442695040888963407);
+        (self.state >> 32) % k
+    }
+}
