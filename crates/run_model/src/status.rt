@@ -1,12 +1,17 @@
+use crate::Cause;
+
 /// How a command ended.
-#[derive(Clone, Copy, Debug, PartialEq, Eq)]
+#[derive(Debug, Drop, PartialEq, Eq)]
 pub enum Status {
     /// The input was read to its end, and all output was written.
     Done,
+    /// A record was read whose entry of this number, counted from 0, is its first unlawful one. All output was
+    /// written.
+    Bad { entry: u64, cause: Cause },
     /// The words after the program's name are no command. Nothing was read.
     Usage(UsageKind),
-    /// The input isn't in its grammar. Its first fault is at `place`: a line, counted from 1. Nothing was
-    /// written.
+    /// The input isn't in its grammar. Its first fault is at `place`: a line of a text, counted from 1, or a byte,
+    /// counted from 0. Nothing was written.
     BadInput { place: u64, kind: InputKind },
     /// The source gave more bytes than an input may have.
     TooLong,
@@ -27,6 +32,10 @@ pub enum UsageKind {
     UnknownCommand,
     /// A word follows the command's last one.
     ExtraWord,
+    /// The number of the command isn't there.
+    MissingNumber,
+    /// The word in the number's place isn't a number below 2^64.
+    BadNumber,
 }
 
 /// Why an input isn't in its grammar.
@@ -34,6 +43,8 @@ pub enum UsageKind {
 pub enum InputKind {
     /// A line of a script or of a record in text is at fault.
     Line(LineKind),
+    /// A byte of a record in bytes is at fault.
+    Bytes(ByteKind),
 }
 
 /// The fault of a line of a script or of a record in text. They are tried in this order but for
