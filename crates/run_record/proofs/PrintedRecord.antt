@@ -26,7 +26,7 @@ use Rattle.run_record.specs.RecordLines.{Stage, Before, Bounds, Entries, bound_f
 use Rattle.run_record.proofs.PrintedTokens.{line_good, line_lacks_feed, line_width, number_of-decimal, piece_ends, tokens_again}
 use Rattle.run_record.proofs.PrintedFields.{count_again, number_again}
 use Rattle.run_record.proofs.PrintedCalls.{end_again, entry_again, entry_tokens}
-use Rattle.run_record.proofs.PrintedWidths.{Prints, end_prints, entry_prints, none_prints, number_fits, one_more, within, word}
+use Rattle.run_record.proofs.PrintedWidths.{Prints, end_prints, entry_prints, none_prints, number_fits, one_more, within, word_fits}
 use Rattle.run_record.proofs.SetupRows.{AreBounds, AreLoans, IsBound, at_row, bound_at_row, bounds_of, counts_of, length-bounds_of, setup_back, setup_bounds}
 use Rattle.run_record.proofs.TextLines.{all_bounds, comes_to_line, not_all, reads_body, reads_bound, reads_header}
 
@@ -109,7 +109,7 @@ bound_prints : (replicas owner conit : ℕ) (bound : Bound)
     → Prints 400 (bound_tokens owner conit bound)
 unfolding bound_tokens
 bound_prints replicas owner conit bound n o c is =
-    within (6 + (2 + (3 + (14 + length bound.loans * 14)))) 400 _ (one_more 5 (2 + (3 + (14 + length bound.loans * 14))) _ _ (word 5 (codes "bound") refl)
+    within (6 + (2 + (3 + (14 + length bound.loans * 14)))) 400 _ (one_more 5 (2 + (3 + (14 + length bound.loans * 14))) _ _ (word_fits 5 (codes "bound") refl)
     (one_more 1 (3 + (14 + length bound.loans * 14)) _ _ (number_fits 1 owner (omega arith) (omega (arith, o)) (omega (arith, o)))
     (one_more 2 (14 + length bound.loans * 14) _ _ (number_fits 2 conit (omega arith) (omega (arith, c)) (omega (arith, c)))
     (one_more 13 (length bound.loans * 14) _ _ (number_fits 13 bound.alpha (omega arith) (omega (arith, is.alpha)) (omega (arith, is.alpha))) (loans_print owner 0 bound.loans is.loans))))) (omega (arith, is.long, n))
@@ -196,7 +196,7 @@ module _ (s : Setup) (is : IsSetup s) where
   header_prints : Prints 400 header_tokens
   unfolding header_tokens
   header_prints =
-      within 12 400 _ (one_more 4 7 _ _ (word 4 (codes "tact") refl) (one_more 1 5 _ _ (number_fits 1 1 (omega arith) (omega arith) (omega arith))
+      within 12 400 _ (one_more 4 7 _ _ (word_fits 4 (codes "tact") refl) (one_more 1 5 _ _ (number_fits 1 1 (omega arith) (omega arith) (omega arith))
       (one_more 1 3 _ _ (number_fits 1 s.replicas (omega arith) (omega (arith, counts.replicas_high)) (omega (arith, counts.replicas_high)))
       (one_more 2 0 _ _ (number_fits 2 s.conits (omega arith) (omega (arith, counts.conits_high)) (omega (arith, counts.conits_high))) none_prints)))) (omega arith)
 
