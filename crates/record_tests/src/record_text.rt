@@ -18,6 +18,27 @@ const COMMENTED: &[u8] = b"# made by play\n\n  tact   1 02 1 \nbound 00 0 10 0 1
     e 1 5 restart\n\
     end 0006\n# done\n   \n";
 
+// What `play` writes of two writes with equal stamps, and the same without its comments.
+const PLAYED: &[u8] = b"tact 1 2 1\nbound 0 0 0 0 0\nbound 1 0 0 0 0\n\
+    e 0 0 call 0 0 write put 1 5 = done 0 1\n\
+    e 1 0 call 0 0 write put 1 6 = done 0 1\n\
+    e 0 0 send 1 0 0 0\n\
+    e 1 0 take 0 0\n\
+    e 1 0 send 0 0 1 0\n\
+    e 0 0 take 1 0\n\
+    # show 0 have 1 1 clock 1 point 1 committed 2 last 1.0 tentative 0\n\
+    # show 1 have 1 1 clock 1 point 1 committed 2 last 1.0 tentative 0\n\
+    end 6\n";
+
+const PLAYED_ALONE: &[u8] = b"tact 1 2 1\nbound 0 0 0 0 0\nbound 1 0 0 0 0\n\
+    e 0 0 call 0 0 write put 1 5 = done 0 1\n\
+    e 1 0 call 0 0 write put 1 6 = done 0 1\n\
+    e 0 0 send 1 0 0 0\n\
+    e 1 0 take 0 0\n\
+    e 1 0 send 0 0 1 0\n\
+    e 0 0 take 1 0\n\
+    end 6\n";
+
 // An entry with each request and each reply.
 const EACH_FORM: &[u8] = b"tact 1 2 5\n\
     bound 0 0 10 0 10\nbound 0 1 0 0 0\nbound 0 2 0 0 0\nbound 0 3 0 0 0\nbound 0 4 0 0 0\n\
@@ -75,8 +96,10 @@ fn records_are_read(rt: HostRuntime) -> Result<(), Fail> {
         assert_eq!(rt; bytes.items(), WORKED.as_slice());
         assert_eq!(rt; printed.items(), WORKED_TEXT);
     }
-    let (_, printed) = read(rt.alloc(), EACH_FORM)?;
-    assert_eq!(rt; printed.items(), EACH_FORM);
+    for (text, alone) in [(PLAYED, PLAYED_ALONE), (EACH_FORM, EACH_FORM)] {
+        let (_, printed) = read(rt.alloc(), text)?;
+        assert_eq!(rt; printed.items(), alone);
+    }
     Ok(())
 }
 

@@ -32,7 +32,7 @@ pub use fields::{
 };
 pub use get_record::parse_bytes;
 pub use held::Record;
-pub use laws::one_record_at_front;
+pub use laws::{one_record_at_front, printed_is_read};
 pub use line_fault::LineFault;
 pub use lines::{fault_of_bytes, is_skipped};
 pub use lists::{ListEnd, firsts_at, needs_at, numbers_at, weight_at, weights_at};
