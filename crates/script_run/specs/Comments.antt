@@ -18,7 +18,7 @@ use Rattle.reference_book.specs.Books.{BookState, IsBookOf}
 use Rattle.reference_book.specs.declared.errors.Errors.{Errors}
 
 -- a history is a run, of which the book has all accepted writes, and the replica stands for its part of it
-pub record StandForRun (kept : BookState) (core : Core) (history : List Entry) : Type 0 where
+pub record TellsTruth (kept : BookState) (core : Core) (history : List Entry) : Type 0 where
   pub run : IsRun core.setup history
   pub book : IsBookOf core.setup history kept
   pub stands : Stands (part_of history core.replica) core

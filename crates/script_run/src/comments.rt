@@ -8,7 +8,7 @@ ghost use Rattle.run_model.specs.ScriptRuns.{bounded_token, show_text, need_text
 ghost use Rattle.run_model.specs.Text.{spaced, BeginsWith};
 ghost use Rattle.run_model.specs.declared.entry.Entry.{Entry};
 ghost use Rattle.replica_core.specs.Stands.{Stands};
-ghost use Rattle.script_run.specs.Comments.{StandForRun, have_tokens, last_token, writes_tokens, state_tokens, shown_core, need_comment, reference_comment, refusal_comment};
+ghost use Rattle.script_run.specs.Comments.{TellsTruth, have_tokens, last_token, writes_tokens, state_tokens, shown_core, need_comment, reference_comment, refusal_comment};
 
 use reference_book::{Book, Errors};
 use replica_core::{LastOne, Replica};
@@ -58,7 +58,7 @@ pub(crate) fn needs(
     requires conits { view.now.core.setup.conits ≡ book.now.conits }
     requires replicas { view.now.core.setup.replicas ≡ length book.now.logs }
     requires needs { All (λ need. need.conit < book.now.conits) needs.now }
-    ensures of_history { OnOk result ((history : List Entry) → StandForRun book.now view.now.core history
+    ensures of_history { OnOk result ((history : List Entry) → TellsTruth book.now view.now.core history
         → out.new ≡ out.old ++ flat_map (need_text view.now.core.setup history view.now.core.replica moment) needs.now) }
     ensures err { OnErr result (out.new ≡ out.old) }
 {
@@ -198,7 +198,7 @@ fn print_needs(
     requires conits { view.now.core.setup.conits ≡ book.now.conits }
     requires replicas { view.now.core.setup.replicas ≡ length book.now.logs }
     requires needs { All (λ need. need.conit < book.now.conits) needs.now }
-    ensures of_history { OnOk result ((history : List Entry) → StandForRun book.now view.now.core history
+    ensures of_history { OnOk result ((history : List Entry) → TellsTruth book.now view.now.core history
         → out.new ≡ out.old ++ flat_map (need_text view.now.core.setup history view.now.core.replica moment) needs.now) }
     ensures err { OnErr result (BeginsWith out.old out.new) }
 {
