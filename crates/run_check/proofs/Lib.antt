@@ -1,0 +1,3 @@
+pub mod WholeEntries
+pub mod Records
+pub mod NoFailure

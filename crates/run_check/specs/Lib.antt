@@ -1,0 +1,4 @@
+pub mod Expanded
+pub mod Causes
+pub mod Verdicts
+pub mod VerdictText
