@@ -25,7 +25,7 @@ use Rattle.run_check.specs.Verdicts.{IsLawfulShort, IsFirstBad, IsRecordOf}
 use Rattle.run_check.proofs.Records.{record_is_lawful}
 
 -- a pair that was found has its own parts
-same_parts : {A : Type 0} (found : Option (A × A)) (told due other wanted : A)
+pub same_parts : {A : Type 0} (found : Option (A × A)) (told due other wanted : A)
     → told ≡ due
     → found ≡ Some (told, due)
     → found ≡ Some (other, wanted)

@@ -2,3 +2,4 @@ pub mod Expanded
 pub mod Causes
 pub mod Verdicts
 pub mod VerdictText
+pub mod Checking

@@ -3,6 +3,7 @@ use Rattle.std.specs.Prelude.{◌≡◌, ℕ, Bool, true, false, List, ◌∷◌
 use Rattle.tact_base.specs.Setup.{Setup}
 use Rattle.run_model.specs.Call.{is_waiting}
 use Rattle.run_model.specs.Histories.{EachAfter}
+use Rattle.run_model.specs.Promises.{IsKept}
 use Rattle.run_model.specs.Runs.{IsLawful, IsRun}
 use Rattle.run_model.specs.declared.call.Reply.{Reply}
 use Rattle.run_model.specs.declared.call.Reply.TheVariants.{Done}
@@ -99,3 +100,8 @@ summary_of shorts = record {
 abbrev pub IsVerdictOf : Held → Verdict → Type 0
 IsVerdictOf held (Run summary) = AreLawful held.setup held.entries × (summary ≡ summary_of held.entries)
 IsVerdictOf held (Bad entry cause) = IsFirstBad held entry cause
+
+-- what it tells of runs: that the record is that of a run, which its entries tell and which keeps its promises; or that it is that of none
+abbrev pub TellsOfRuns : Held → Verdict → Type 0
+TellsOfRuns held (Run summary) = IsRecordOf held (expanded held.setup held.entries) × IsKept held.setup (expanded held.setup held.entries)
+TellsOfRuns held (Bad entry cause) = (history : List Entry) → IsRecordOf held history → ⊥
