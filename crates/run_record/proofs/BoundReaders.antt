@@ -1,28 +1,25 @@
 -- The setup of a record that is read stands where it was read, and one that stands there is read.
-use Rattle.std.proofs.Common.{◌≡◌, ℕ, zero, suc, ◌+◌, ◌*◌, ◌/◌, ◌^◌, ◌<◌, ◌≤◌, ◌==◌, Bool, true, false, not, cond, ltb, List, [], ◌∷◌, ◌++◌, length, get_or, take, drop, sum, Result, Ok, Err, inl, inr, refl, sym, ap, subst, ◌∙◌, arith}
+use Rattle.std.proofs.Common.{◌≡◌, ℕ, zero, suc, ◌+◌, ◌*◌, ◌/◌, ◌^◌, ◌≤◌, ◌==◌, Bool, true, false, not, cond, List, [], ◌∷◌, ◌++◌, length, take, drop, sum, Ok, Err, inl, inr, refl, sym, ap, subst, ◌∙◌, arith}
 use Rattle.std.specs.Prelude.{nat_lt}
 use Rattle.std.specs.Int.{w32, from_be_bytes, to_be_bytes}
 use Rattle.std.specs.List.{flat_map}
-use Rattle.std.proofs.lemmas.Bool.{cases_lt, eqb-true, eq-eqb, ltb-false, le-ltb}
+use Rattle.std.proofs.lemmas.Bool.{cases_lt, eqb-true, eq-eqb}
 use Rattle.std.proofs.lemmas.Bool.Decides.{nat_tests}
 use Rattle.std.proofs.lemmas.List.{length-take, length-drop, get_or-drop, get_or-take, get_or_past}
 use Rattle.std.proofs.lemmas.List.Concat.{flat_map-cons}
 use Rattle.std.proofs.lemmas.Nat.{be_bytes_4}
 use Rattle.tact_base.specs.declared.limits.TheConstants.{ALPHA_MAX, CONITS_MAX, REPLICAS_MAX, REPLICAS_MIN}
-use Rattle.tact_base.specs.Setup.{Setup, IsSetup, owners_and_conits}
-use Rattle.run_model.specs.declared.fields.FieldFault.{FieldFault}
-use Rattle.run_model.specs.declared.fields.FieldFault.TheVariants as field
-use Rattle.run_model.specs.Bytes.{◌>>=◌, Field, StandsAt, field_at, number_bytes}
-use Rattle.run_model.proofs.ByteLemmas.{AreBytes, Spelled, stands_within, field_taken, field_again}
+use Rattle.tact_base.specs.Setup.{Setup, IsSetup}
+use Rattle.run_model.specs.Bytes.{◌>>=◌, Field, StandsAt, number_bytes}
+use Rattle.run_model.proofs.ByteLemmas.{AreBytes, stands_within, field_taken, field_again}
 use Rattle.run_model.proofs.Readers.{Reader, Then, Made, IsByte, IsNumber, SpelledAs, byte_field, number_field, and_then, making, given, said}
 use Rattle.run_model.specs.declared.status.ByteKind.TheVariants as kind
 use Rattle.run_record.specs.declared.fault.RecordFault.TheVariants as fault
 use Rattle.run_record.specs.declared.parts.Bound.{Bound}
 use Rattle.run_record.specs.declared.parts.Counts.{Counts}
-use Rattle.run_record.specs.RecordBytes.{bound_bytes, setup_bytes}
+use Rattle.run_record.specs.RecordBytes.{setup_bytes}
 use Rattle.run_record.specs.EntriesAt.{AreCounts, mark_at, counts_at, loan_bound, loans_at, bound_fields_at}
 use Rattle.run_record.specs.RecordAt.{Part, then_part, part_of, bound_at, bounds_at, setup_from, setup_at}
-use Rattle.run_record.proofs.FieldReaders.{and_then_if}
 use Rattle.run_record.proofs.OkParts.{ok_of, ok_bind, same_reader, kept_reader, part_reader}
 use Rattle.run_record.proofs.SetupRows.{bound_text, bounds_of, spelled_bounds, AreLoans, IsBound, AreBounds, bounds_back, bounds_are_setup, counts_of, setup_bounds, length-bounds_of, setup_back, setup_counts}
 

@@ -1,15 +1,12 @@
 -- The entries that are read stand where they were read, and those that stand there are read.
-use Rattle.std.proofs.Common.{◌≡◌, ◌≢◌, ℕ, zero, suc, ◌+◌, ◌<◌, ◌≤◌, ◌==◌, Bool, true, false, cond, List, [], ◌∷◌, ◌++◌, length, All, Ok, Err, ◌⊎◌, inl, inr, refl, sym, ap, subst, ◌∙◌, append_assoc, arith}
+use Rattle.std.proofs.Common.{◌≡◌, ℕ, zero, suc, ◌<◌, ◌≤◌, ◌==◌, true, false, cond, List, [], ◌∷◌, ◌++◌, length, All, Ok, ◌⊎◌, inl, inr, refl, sym, ap, subst, ◌∙◌, append_assoc, arith}
 use Rattle.std.specs.List.{flat_map}
 use Rattle.std.proofs.lemmas.Bool.{eqb-true}
 use Rattle.std.proofs.lemmas.Bool.Decides.{nat_tests}
-use Rattle.std.proofs.lemmas.List.Concat.{flat_map-cons}
 use Rattle.std.proofs.lemmas.List.Elements.{All-cons, All-nil, All-head, All-tail}
 use Rattle.tact_base.specs.declared.limits.TheConstants.{MOMENT_MAX}
 use Rattle.tact_base.specs.Setup.{Setup}
-use Rattle.run_model.specs.declared.fields.FieldFault.TheVariants as field
-use Rattle.run_model.specs.Bytes.{◌>>=◌, Field, StandsAt, number_bytes}
-use Rattle.run_model.proofs.ByteLemmas.{AreBytes, Spelled}
+use Rattle.run_model.specs.Bytes.{◌>>=◌, Field, number_bytes}
 use Rattle.run_model.proofs.Readers.{Reader, Then, Made, IsByte, IsNumber, byte_field, number_field, and_then, making, given, said}
 use Rattle.run_record.specs.declared.short.Short.{Short}
 use Rattle.run_record.specs.declared.short.ShortAct.{ShortAct}

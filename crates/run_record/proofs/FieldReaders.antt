@@ -1,13 +1,12 @@
 -- Further readers that read just what is spelled: of a byte by its rule, by cases, and of fields that rest on what was read before.
-use Rattle.std.proofs.Common.{◌≡◌, ◌≢◌, ℕ, suc, ◌+◌, ◌<◌, ◌≤◌, ◌==◌, Bool, true, false, not, cond, List, [], ◌∷◌, ◌++◌, length, get_or, Ok, Err, ◌⊎◌, inl, inr, refl, sym, ap, subst, ◌∙◌, arith}
-use Rattle.std.specs.Prelude.{◌&&◌, ◌||◌, nat_lt}
+use Rattle.std.proofs.Common.{◌≡◌, ◌≢◌, ℕ, ◌+◌, ◌<◌, ◌≤◌, ◌==◌, Bool, true, false, cond, List, [], ◌∷◌, ◌++◌, length, get_or, Ok, ◌⊎◌, inl, inr, refl, sym, ap, subst, ◌∙◌, arith}
+use Rattle.std.specs.Prelude.{◌||◌}
 use Rattle.std.proofs.lemmas.Bool.{eqb-true}
 use Rattle.std.proofs.lemmas.Bool.Decides.{nat_tests}
 use Rattle.std.proofs.lemmas.List.{length-append}
-use Rattle.run_model.specs.declared.fields.FieldFault.{FieldFault}
 use Rattle.run_model.specs.Bytes.{◌>>=◌, Field, StandsAt, byte_at, field_at, is_from_to}
-use Rattle.run_model.proofs.ByteLemmas.{AreBytes, Spelled, spelled_then, stands_first, stands_second, stands_within, bind_ok, field_taken, field_again}
-use Rattle.run_model.proofs.Readers.{Reader, Then, Made, byte_field, said}
+use Rattle.run_model.proofs.ByteLemmas.{spelled_then, stands_first, stands_second, stands_within, bind_ok, field_taken, field_again}
+use Rattle.run_model.proofs.Readers.{Reader, Then, byte_field, said}
 use Rattle.run_record.specs.EntriesAt.{is_other, other_at, tag_at}
 
 -- one reader, and then another that may rest on what the first read

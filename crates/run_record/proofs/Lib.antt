@@ -12,3 +12,10 @@ pub mod SetupRows
 pub mod BoundReaders
 pub mod RecordReader
 pub mod Loops
+pub mod TextBounds
+pub mod TextLines
+pub mod PrintedTokens
+pub mod PrintedFields
+pub mod PrintedCalls
+pub mod PrintedWidths
+pub mod PrintedRecord

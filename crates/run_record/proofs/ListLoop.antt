@@ -11,7 +11,7 @@ use Rattle.run_record.specs.Lists.{list_at}
 abbrev pub with_front : {A : Type 0} → List A → Field (List A) → Field (List A)
 with_front front read = read >>= λ x. Ok (front ++ x.0, x.1)
 
-regroup : {A : Type 0} (front : List A) (w : A) (read : Field (List A))
+pub regroup : {A : Type 0} (front : List A) (w : A) (read : Field (List A))
     → with_front front (read >>= λ x. Ok (w ∷ x.0, x.1)) ≡ with_front (front ++ w ∷ []) read
 regroup {A = A} front w (Ok x) = ap (λ (ws : List A). Ok (ws, x.1)) (simp append_assoc)
 regroup front w (Err f) = refl

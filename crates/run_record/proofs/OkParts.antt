@@ -1,5 +1,5 @@
 -- Parts of a record, as readers see them: what matters is what was read, whichever the fault.
-use Rattle.std.proofs.Common.{◌≡◌, ℕ, ◌+◌, ◌≤◌, Bool, true, false, cond, List, length, Result, Ok, Err, refl, sym, ap, subst, ◌∙◌, arith}
+use Rattle.std.proofs.Common.{◌≡◌, ℕ, ◌+◌, Bool, true, false, cond, List, length, Result, Ok, Err, refl, sym, ap, subst, ◌∙◌}
 use Rattle.std.specs.Result.{IfOk}
 use Rattle.run_model.specs.declared.fields.FieldFault.{FieldFault}
 use Rattle.run_model.specs.declared.fields.FieldFault.TheVariants as field

@@ -1,22 +1,21 @@
 -- A setup is its counts and a bound for each owner and conit.
-use Rattle.std.proofs.Common.{◌≡◌, ℕ, zero, suc, ◌+◌, ◌-◌, ◌*◌, ◌/◌, ◌%◌, ◌<◌, ◌≤◌, ◌==◌, Bool, true, false, not, cond, nat_le, ltb, List, [], ◌∷◌, ◌++◌, length, get_or, take, drop, map, sum, All, Option, Some, None, refl, sym, ap, subst, ◌∙◌, zero-add, append_assoc, arith}
-use Rattle.std.specs.Prelude.{◌&&◌, nat_lt, slice_get, slice_range}
+use Rattle.std.proofs.Common.{◌≡◌, ℕ, zero, suc, ◌+◌, ◌-◌, ◌*◌, ◌/◌, ◌%◌, ◌<◌, ◌≤◌, ◌==◌, Bool, true, false, nat_le, ltb, List, [], ◌∷◌, ◌++◌, length, get_or, take, drop, map, sum, All, Option, None, refl, sym, ap, subst, ◌∙◌, arith}
+use Rattle.std.specs.Prelude.{◌&&◌, slice_get, slice_range}
 use Rattle.std.specs.List.{flat_map, filter_map, range_with_len}
-use Rattle.std.proofs.lemmas.Bool.{le-ltb, eq-eqb, ltb-false}
+use Rattle.std.proofs.lemmas.Bool.{le-ltb, eq-eqb}
 use Rattle.std.proofs.lemmas.Bool.Decides.{nat_tests}
 use Rattle.std.proofs.lemmas.List.{take_at, drop_at, drop-drop, ext_get_or, get_or-map, get_or_past, length-map, length-append, take_all}
 use Rattle.std.proofs.lemmas.List.Concat.{flat_map-cons}
 use Rattle.std.proofs.lemmas.List.Folds.{flat_map-map}
-use Rattle.std.proofs.lemmas.List.FromFn.{get_or-map-range_with_len, length-map-range_with_len}
+use Rattle.std.proofs.lemmas.List.FromFn.{length-map-range_with_len}
 use Rattle.std.proofs.lemmas.List.Sums.{sum_by-cons}
 use Rattle.std.proofs.lemmas.Nat.{div-add-mod', div_below}
 use Rattle.std.proofs.Math.Seq.{take-add}
 use Rattle.tact_base.specs.declared.limits.TheConstants.{ALPHA_MAX, CONITS_MAX, REPLICAS_MAX, REPLICAS_MIN}
-use Rattle.tact_base.specs.declared.setup.ConfigFault.{ConfigFault}
-use Rattle.tact_base.specs.Setup.{Setup, IsSetup, setup, alpha_of, loans_of, owners_and_conits, are_counts_good, row_fault, first_row_fault}
+use Rattle.tact_base.specs.Setup.{Setup, IsSetup, alpha_of, loans_of, owners_and_conits, are_counts_good, row_fault}
 use Rattle.tact_base.proofs.ListLemmas.{get_or-map_range}
 use Rattle.tact_base.proofs.RangeLists.{flat_map_range_more}
-use Rattle.tact_base.proofs.SetupLemmas.{HasCounts, HasCounts-from_IsSetup, HasRow, HasRow-from_IsSetup, config_fault-at_rows, row_of, row_of-at_place, length-loans_of}
+use Rattle.tact_base.proofs.SetupLemmas.{HasCounts, HasCounts-from_IsSetup, HasRow-from_IsSetup, config_fault-at_rows, row_of, row_of-at_place, length-loans_of}
 use Rattle.run_model.specs.Bytes.{number_bytes}
 use Rattle.run_record.specs.declared.parts.Bound.{Bound}
 use Rattle.run_record.specs.declared.parts.Counts.{Counts}
@@ -79,7 +78,7 @@ bounds_of s = map (at_row s) (range_with_len 0 (s.replicas * s.conits))
 abbrev bound_with : ℕ → List ℕ → Bound
 bound_with alpha loans = record { alpha = alpha; loans = loans }
 
-bound_at_row : (s : Setup) (place : ℕ) → bound_of s (place / s.conits, place % s.conits) ≡ at_row s place
+pub bound_at_row : (s : Setup) (place : ℕ) → bound_of s (place / s.conits, place % s.conits) ≡ at_row s place
 bound_at_row s place =
     let at = div-add-mod' place s.conits in
     let same : bound_of s (place / s.conits, place % s.conits) ≡ bound_with (get_or s.alphas place 0) (slice_range s.loans (place * s.replicas) (place * s.replicas + s.replicas)) =

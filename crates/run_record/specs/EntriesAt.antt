@@ -1,5 +1,5 @@
 -- The fields of a record in bytes, and how its entries are read.
-use Rattle.std.specs.Prelude.{ℕ, zero, suc, ◌≤◌, Bool, not, ◌&&◌, ◌||◌, ◌==◌, nat_lt, List, [], ◌∷◌, length, slice_index, Ok, Err, if◌then◌else◌}
+use Rattle.std.specs.Prelude.{ℕ, zero, suc, ◌≤◌, Bool, not, ◌&&◌, ◌||◌, ◌==◌, nat_lt, List, [], ◌∷◌, slice_index, Ok, Err, if◌then◌else◌}
 use Rattle.std.specs.Int.{w32, from_be_bytes}
 use Rattle.tact_base.specs.declared.limits.TheConstants.{ALPHA_MAX, AMOUNT_MAX, CLIENTS, CONITS_MAX, HISTORY_MAX, MOMENT_MAX, REPLICAS_MAX, REPLICAS_MIN}
 use Rattle.run_model.specs.declared.fields.FieldFault.TheVariants as field

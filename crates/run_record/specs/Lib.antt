@@ -8,3 +8,7 @@ pub mod RecordText
 pub mod EntriesAt
 pub mod RecordAt
 pub mod PartFaults
+pub mod EntryWords
+pub mod CallTokens
+pub mod ActTokens
+pub mod RecordLines

@@ -1,7 +1,6 @@
 -- Records as text: the lines of the setup, one for each entry, and the last one with their count.
 use Rattle.std.specs.Prelude.{ℕ, Bool, true, false, List, [], ◌∷◌, ◌++◌, codes, decimal, length, map}
 use Rattle.std.specs.List.{flat_map}
-use Rattle.tact_base.specs.Setup.{Setup}
 use Rattle.run_model.specs.Text.{line_text, header_text, end_text, request_tokens, reply_tokens}
 use Rattle.run_record.specs.declared.short.Short.{Short}
 use Rattle.run_record.specs.declared.short.ShortAct.{ShortAct}

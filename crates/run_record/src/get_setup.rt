@@ -49,7 +49,7 @@ pub(crate) fn setup_at(
 }
 
 // The setup of these bounds.
-fn config_of(alloc: Global, counts: Counts, bounds: &[Bound]) -> Result<Config, NoMemory>
+pub(crate) fn config_of(alloc: Global, counts: Counts, bounds: &[Bound]) -> Result<Config, NoMemory>
     requires { IsSetup (setup_from counts bounds.now) }
     ensures { IfOk result (λ config. config ≡ setup_from counts bounds.now) }
 {
@@ -236,7 +236,7 @@ fn loan_bound(owner: u32, holder: u32) -> u64
 }
 
 // Whether the loans add up to more than alpha. Their sum may pass what a u64 holds.
-fn is_passed_by(loans: &[u64], alpha: u64) -> bool
+pub(crate) fn is_passed_by(loans: &[u64], alpha: u64) -> bool
     ensures { result ≡ nat_lt alpha (sum loans.now) }
 {
     let mut left = alpha;

@@ -2,18 +2,26 @@
 //! scripts as of records.
 #![tactic(auto)]
 
+mod act_tokens;
+mod body_lines;
+mod call_tokens;
+mod entry_words;
 mod fault;
 mod fields;
 mod get_acts;
 mod get_record;
 mod get_setup;
 mod held;
+mod laws;
 mod line_fault;
 mod lines;
 mod lists;
 mod parts;
 mod printing;
 mod put_bytes;
+mod record_lines;
+mod reply_tokens;
+mod setup_lines;
 mod short;
 mod splitting;
 
@@ -24,10 +32,12 @@ pub use fields::{
 };
 pub use get_record::parse_bytes;
 pub use held::Record;
+pub use laws::{one_record_at_front, printed_is_read};
 pub use line_fault::LineFault;
 pub use lines::{fault_of_bytes, is_skipped};
 pub use lists::{ListEnd, firsts_at, needs_at, numbers_at, weight_at, weights_at};
 pub use printing::{print, text_of};
 pub use put_bytes::bytes_of;
+pub use record_lines::parse_text;
 pub use short::{Short, ShortAct, Shorts};
 pub use splitting::{next_token, split_first};

@@ -1,18 +1,21 @@
 //! Lists in a line: of weights, of needs, and rows of numbers. Each reader is given what is left of the
 //! line, and answers its list and what is left after it.
-ghost use Rattle.std.specs.Prelude.{◌≡◌, ◌≤◌, ◌<◌, ◌-◌, ◌^◌, ℕ, suc, List, Result, Ok, IfOk, MatchOption, None, Some, All, length, take, unsigned_abs, ◌∷◌, []};
+ghost use Rattle.std.specs.Int.{w64};
+ghost use Rattle.std.specs.Prelude.{◌≡◌, ◌≤◌, ◌<◌, ◌-◌, ◌^◌, ℕ, suc, List, Result, Ok, IfOk, MatchOption, None, Some, All, FitsSigned, length, take, unsigned_abs, ◌∷◌, []};
 ghost use Rattle.tact_base.specs.Numbers.{whole_number};
-ghost use Rattle.tact_base.specs.declared.limits.TheConstants.{HISTORY_MAX, WEIGHT_MAX};
+ghost use Rattle.tact_base.specs.declared.limits.TheConstants.{HISTORY_MAX, LIST_MAX, WEIGHT_MAX};
 ghost use Rattle.run_model.specs.Bytes.{AreWeightsOf, AreNeedsOf};
 ghost use Rattle.run_model.specs.declared.status.LineKind.{LineKind};
 ghost use Rattle.run_record.specs.Splitting.{tokens};
+ghost use Rattle.run_record.specs.CallTokens.{any_signed_at, sums_at};
 ghost use Rattle.run_record.specs.Fields.{Gives, in_line};
 ghost use Rattle.run_record.specs.Lists.{parts_of, three_of, four_of, both, weight_of, need_of, weight_at, need_at, is_end, list_at, weights_at, needs_at, numbers_at, firsts_at};
 
+use crate::call_tokens::any_signed_at;
 use crate::fields::{number_at, token_at};
 use crate::line_fault::LineFault;
 use crate::splitting::{next_token, place_of};
-use run_model::LineKind;
+use run_model::{LineKind, Sums};
 use std::alloc::Global;
 use tact_base::{
     AMOUNT_MAX, HISTORY_MAX, LIST_MAX, MOMENT_MAX, Need, Needs, Numbers, TokenFault, WEIGHT_MAX,
@@ -226,6 +229,21 @@ impl Listed for Need {
     }
 }
 
+// Sums stand without a conit.
+impl Listed for i64 {
+    ghost item_at = { λ conits least. any_signed_at };
+
+    ghost after = { λ sum. 0 };
+
+    fn read_at(rest: &[u8], _conits: u32, _least: u32) -> Result<(Self, &[u8]), LineFault> {
+        any_signed_at(rest)
+    }
+
+    fn least_after(&self) -> u32 {
+        0
+    }
+}
+
 // Reads items until the list ends or is full: how many there are, and what is left after them.
 fn fill<'a, T: Listed>(
     items: &mut [T],
@@ -292,6 +310,17 @@ pub fn needs_at(rest: &[u8], conits: u32, end: ListEnd) -> Result<(Needs, &[u8])
         Ok(needs) => Ok((needs, rest)),
         Err(_) => unreachable!(),
     }
+}
+
+/// At most 4 sums, to the end of the line. A fifth one isn't read. Takes no memory.
+pub(crate) fn sums_at(rest: &[u8]) -> Result<(Sums, &[u8]), LineFault>
+    ensures few { IfOk result (λ x. length x.0 ≤ LIST_MAX) }
+    ensures wide { IfOk result (λ x. All (FitsSigned w64) x.0) }
+    ensures sums { Gives (λ x. (x.0, tokens x.1.now)) result (sums_at (tokens rest.now)) }
+{
+    let mut items = [0; LIST_MAX];
+    let (count, rest) = fill(&mut items, rest, 1, ListEnd::Line)?;
+    Ok((Sums::new(&items[..count]), rest))
 }
 
 /// Just `count` numbers of at most `most`.

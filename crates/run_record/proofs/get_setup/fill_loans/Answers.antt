@@ -3,8 +3,7 @@ use Rattle.std.proofs.Math.Seq.{take-suc-set}
 use Rattle.std.proofs.Math.ListN.{length-set}
 use Rattle.std.proofs.lemmas.List.{take_all}
 use Rattle.std.proofs.lemmas.Result.{err_from_is_err_and}
-use Rattle.run_model.specs.Bytes.{number_at}
-use Rattle.run_record.specs.EntriesAt.{loans_at, loan_bound}
+use Rattle.run_record.specs.EntriesAt.{loans_at}
 use Rattle.run_record.proofs.Loops.{loan_goes_on, loan_ends, loans_are_done}
 use Rattle.run_record.proofs.get_setup.fill_loans.Goals as goal
 
