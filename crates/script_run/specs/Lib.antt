@@ -1,8 +1,4 @@
-pub mod Words
-pub mod Forms
-pub mod Scripts
-pub mod Seats
+pub mod Commands
+pub mod Stages
 pub mod Worlds
 pub mod Playing
-pub mod Commands
-pub mod Shown
