@@ -1,4 +1,5 @@
 pub mod Commands
+pub mod Comments
 pub mod Stages
 pub mod Worlds
 pub mod Playing
