@@ -1,8 +1,7 @@
 -- What a set stands for goes on being a run, with each entry that it makes.
-use Rattle.std.proofs.Common.{◌≡◌, ℕ, ◌<◌, ◌≤◌, List, [], ◌∷◌, ◌++◌, length, get_or, Some, refl, sym, ap, ◌∙◌, subst, arith}
+use Rattle.std.proofs.Common.{◌≡◌, ℕ, ◌<◌, List, [], ◌∷◌, ◌++◌, length, get_or, Some, refl, subst, arith}
 use Rattle.std.specs.List.{slice_get}
 use Rattle.std.proofs.lemmas.Option.{slice_get-get_or}
-use Rattle.tact_base.specs.Setup.{Setup}
 use Rattle.run_model.specs.Histories.{part_of}
 use Rattle.run_model.specs.Runs.{IsDue, MayFollow, IsPart, WasSent, IsLawful, IsRun}
 use Rattle.run_model.specs.declared.entry.Entry.{Entry}

@@ -1,5 +1,5 @@
 -- The world of a script: the lines that it stepped, and which may come next.
-use Rattle.std.specs.Prelude.{◌≡◌, ℕ, ◌≤◌, Bool, false, List, ◌∷◌, ◌++◌, length}
+use Rattle.std.specs.Prelude.{◌≡◌, ◌≤◌, Bool, false, List, ◌++◌, length}
 use Rattle.tact_base.specs.Setup.{Setup}
 use Rattle.tact_base.specs.declared.limits.TheConstants.{SCRIPT_LINES}
 use Rattle.run_model.specs.ScriptRuns.{played_by}

@@ -11,9 +11,11 @@ mod calling;
 mod lending;
 mod sending;
 
-use crate::comments::show;
+use crate::comments::{needs, reference, show};
+use calling::needs_in;
+use reference_book::Book;
 use replica_set::ReplicaSet;
-use run_model::{Act, Config, Entry, Line, Reply, Request, line_of};
+use run_model::{Act, Config, Entry, Line, Request, line_of};
 use std::alloc::Global;
 use tact_base::{Bytes, Items, NoMemory, Numbers};
 
@@ -21,6 +23,8 @@ use tact_base::{Bytes, Items, NoMemory, Numbers};
 #[derive(Drop)]
 pub(crate) struct Stage {
     set: ReplicaSet,
+    /// All accepted writes.
+    book: Book,
     /// What happened, in order. The messages lie in the entries that send and take them.
     entries: Items<Entry>,
     /// By replica, the places of the entries in which it sent, by the numbers of the messages.
@@ -46,6 +50,7 @@ impl Stage {
         }
         Ok(Stage {
             set: ReplicaSet::new(alloc, config)?,
+            book: Book::new(alloc, config)?,
             entries: Items::new(alloc),
             sends,
             handed: 0,
@@ -133,10 +138,7 @@ impl Stage {
                 let needs = needs.clone()?;
                 self.call(*replica, *client, Request::Read { key: *key, needs }, out)
             }
-            Line::Send { from, to, firsts } => {
-                let firsts = firsts.clone()?;
-                self.send(*from, *to, &firsts, out)
-            }
+            Line::Send { from, to, firsts } => self.send(*from, *to, firsts, out),
             Line::Take {
                 replica,
                 from,
@@ -159,8 +161,11 @@ impl Stage {
                 amount,
             } => self.give_back(*holder, *owner, *conit, *amount, out),
             Line::Restart { replica } => self.restart(*replica, out),
-            Line::Show { replica } => show(self.set.at(*replica), out),
-            Line::Ref { conit: _ } => Err(NoMemory),
+            Line::Show { replica } => {
+                let view = self.set.at(*replica);
+                show(self.set.config(), *replica, view, out)
+            }
+            Line::Ref { conit } => reference(*conit, self.book.value(*conit), out),
         }
     }
 
@@ -190,14 +195,8 @@ impl Stage {
         ensures { OnOk result (out.new ≡ out.old
             ++ act_comments (setup_in self.now) (self.now.entries ++ entry.now ∷ []) entry.now.replica entry.now.moment entry.now.act) }
     {
-        match &entry.act {
-            Act::Call {
-                request: Request::Read { .. },
-                reply: Reply::Value { .. },
-                ..
-            } => Err(NoMemory),
-            _ => Ok(()),
-        }
+        let view = self.set.at(entry.replica);
+        needs(&self.book, view, entry.moment, needs_in(&entry.act), out)
     }
 
     // A replica begins anew.

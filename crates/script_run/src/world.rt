@@ -4,7 +4,7 @@ ghost use Rattle.run_model.specs.ScriptRuns.{played_by, history_of, text_after};
 ghost use Rattle.script_run.specs.Worlds.{AreFirstLines};
 
 use crate::stage::Stage;
-use run_model::{Config, Entry, Line, all_or_nothing};
+use run_model::{Config, Entry, Line};
 use std::alloc::Global;
 use std::marker::Model;
 use tact_base::{Bytes, Items, NoMemory};
@@ -15,6 +15,8 @@ use tact_base::{Bytes, Items, NoMemory};
 pub struct World {
     stage: Stage,
     lines: Items<Line>,
+    /// What the last line printed.
+    text: Bytes,
     spent: bool,
 }
 
@@ -38,6 +40,7 @@ impl World {
         Ok(World {
             stage: Stage::new(alloc, config)?,
             lines: Items::new(alloc),
+            text: Bytes::new(alloc),
             spent: false,
         })
     }
@@ -60,9 +63,9 @@ impl World {
         self.spent = true;
         let next = line.clone()?;
         self.lines.push(next)?;
-        let start = out.len();
-        let done = self.stage.step(line, out);
-        all_or_nothing(done, start, out)?;
+        self.text.truncate(0);
+        self.stage.step(line, &mut self.text)?;
+        out.append(self.text.items())?;
         self.spent = false;
         Ok(())
     }

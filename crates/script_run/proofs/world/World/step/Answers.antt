@@ -1,7 +1,16 @@
+use Rattle.std.proofs.Common.{◌≡◌, false, ◌∷◌, [], ◌++◌, sym, subst}
+use Rattle.run_model.specs.ScriptRuns.{Played}
+use Rattle.script_run.specs.Stages.{IsReadyFor, setup_in}
+use Rattle.script_run.specs.Worlds.{WorldState, AreFirstLines, HasPlayed}
+use Rattle.script_run.proofs.Fronts.{next_is_ready}
 use Rattle.script_run.proofs.world.World.step.Goals as goal
 
-pub step-done-requires-clause-ready : goal.step-done-requires-clause-ready
-step-done-requires-clause-ready c = ?
-
-pub returns-in_err-all_or_nothing-clause-err : goal.returns-in_err-all_or_nothing-clause-err
-returns-in_err-all_or_nothing-clause-err c = ?
+pub step-requires-clause-ready : goal.step-requires-clause-ready
+step-requires-clause-ready c =
+    let inside = c.self.inside in
+    let line = c.args.line.now in
+    let first : AreFirstLines (setup_in inside.stage) (inside.lines ++ line ∷ []) =
+    subst (λ (w : WorldState). w.spent ≡ false → AreFirstLines w.setup (w.lines ++ line ∷ [])) (sym c.self.view_is) c.requires.first c.if-self.false in
+    let has : HasPlayed inside.stage inside.lines = c.self.invariant c.if-self.false in
+    subst (λ (p : Played). IsReadyFor (setup_in inside.stage) p.history line) (sym has.played)
+    (next_is_ready (setup_in inside.stage) inside.lines line first)

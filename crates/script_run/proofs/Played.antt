@@ -1,0 +1,64 @@
+-- Line by line, the text of a script; and what is left of the sink.
+use Rattle.std.proofs.Common.{◌≡◌, ℕ, ◌+◌, ◌<◌, ◌≤◌, List, [], ◌∷◌, ◌++◌, length, get_or, take, drop, Option, None, Some, Ok, inr, sym, ap, ◌∙◌, subst, append_assoc}
+use Rattle.std.specs.List.{fold}
+use Rattle.std.specs.Prelude.{IfSome}
+use Rattle.std.proofs.lemmas.List.{append-nil, take-append-drop, take_more}
+use Rattle.tact_base.specs.declared.limits.TheConstants.{SCRIPT_LINES}
+use Rattle.tact_base.specs.Setup.{Setup}
+use Rattle.tact_io.specs.Source.{IsAllOf}
+use Rattle.run_model.specs.ScriptRuns.{Played, after_line, history_of, text_after, lines_text, play_text}
+use Rattle.run_model.specs.declared.script_line.Line.{Line}
+use Rattle.run_model.specs.declared.status.Status.{Status}
+use Rattle.run_model.specs.declared.status.Status.TheVariants as status
+use Rattle.run_promises.proofs.Kept.{IsKept-run}
+use Rattle.script_text.specs.Scripts.{IsScript}
+use Rattle.script_text.specs.Setups.{setup_of}
+use Rattle.script_text.specs.Texts.{script_of}
+use Rattle.script_text.proofs.ScriptRun.{script_is_whole}
+use Rattle.script_run.specs.Playing.{IsPlayOf, Writes, WritesText}
+
+-- what one more line prints
+pub lines_text-push : (setup : Setup) (played : Played) (lines : List Line) (l : Line)
+    → lines_text setup played (lines ++ l ∷ []) ≡ lines_text setup played lines ++ text_after setup (fold (after_line setup) played lines) l
+lines_text-push setup played [] l = append-nil (text_after setup played l)
+lines_text-push setup played (x ∷ xs) l =
+    ap (λ (more : List ℕ). text_after setup played x ++ more) (lines_text-push setup (after_line setup played x) xs l)
+    ∙ sym (append_assoc (text_after setup played x) (lines_text setup (after_line setup played x) xs) (text_after setup (fold (after_line setup) (after_line setup played x) xs) l))
+
+-- the first lines with the next one, and all with those after it
+pub front_is : (lines : List Line) (i : ℕ) (l : Line)
+    → i < length lines
+    → l ≡ get_or lines i l
+    → take (i + 1) lines ≡ take i lines ++ l ∷ []
+front_is lines i l within read = take_more lines i l within ∙ ap (λ (x : Line). take i lines ++ x ∷ []) (sym read)
+
+pub whole_is : (lines : List Line) (i : ℕ) (l : Line)
+    → i < length lines
+    → l ≡ get_or lines i l
+    → (take i lines ++ l ∷ []) ++ drop (i + 1) lines ≡ lines
+whole_is lines i l within read =
+    ap (λ (front : List Line). front ++ drop (i + 1) lines) (sym (front_is lines i l within read)) ∙ take-append-drop (i + 1) lines
+
+-- the text of a script that was read, as that of what the source had left
+pub play_of : (left : Option (List ℕ)) (bytes : List ℕ) (lines : List Line) (text : List ℕ)
+    → IsAllOf left bytes
+    → script_of bytes ≡ Ok lines
+    → IsScript lines
+    → length lines ≤ SCRIPT_LINES
+    → text ≡ play_text (setup_of lines) lines
+    → IfSome left (λ input. IsPlayOf input text)
+play_of None bytes lines text all read script few is = tt
+play_of (Some input) bytes lines text all read script few is =
+    let whole = script_is_whole lines script few in
+    let run = whole.made.played.run in
+    (lines, subst (λ (input : List ℕ). script_of input ≡ Ok lines) all read, script, is, run, IsKept-run (setup_of lines) (history_of (setup_of lines) lines) whole.good run)
+
+-- what is left of the sink after a text was written
+pub text_is_written : (answer : Status) (left before after : Option (List ℕ)) (text : List ℕ)
+    → IfSome left (λ input. IsPlayOf input text)
+    → WritesText text answer before after
+    → Writes answer left before after
+text_is_written status.Done left before after text play gains = (text, gains, play)
+text_is_written status.WriteFault left before after text play gains = (text, gains, play)
+text_is_written status.NoMemory left before after text play gains = inr (text, gains, play)
+text_is_written other left before after text play gains = gains
