@@ -1,9 +1,5 @@
-pub mod Words
-pub mod Forms
-pub mod Scripts
-pub mod Seats
+pub mod Commands
+pub mod Comments
+pub mod Stages
 pub mod Worlds
 pub mod Playing
-pub mod Commands
-pub mod Shown
-pub mod Comments

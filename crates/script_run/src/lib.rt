@@ -1,21 +1,14 @@
-//! Scripts: their reader, the world that a script runs in, `play`, and for now the top call.
+//! The world that a script runs in, `play`, and for now the top call.
 #![tactic(auto)]
 
 mod comments;
-mod fault;
-mod forms;
 mod playing;
-mod reader;
-mod script;
-mod seat;
-mod seat_sending;
-mod seat_taking;
-mod sent;
-mod show;
+mod stage;
 mod top;
-mod word;
 mod world;
 
 pub use playing::play;
 pub use run_model::Line;
+pub use script_text::{Script, ScriptFault, parse_script};
 pub use top::tact;
+pub use world::World;
