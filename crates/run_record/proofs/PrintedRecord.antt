@@ -1,9 +1,9 @@
 -- The lines of a record that was printed are read again, one after the other.
-use Rattle.std.proofs.Common.{◌≡◌, ℕ, zero, suc, ◌+◌, ◌*◌, ◌/◌, ◌%◌, ◌^◌, ◌<◌, ◌≤◌, ◌==◌, Bool, true, false, cond, List, [], ◌∷◌, ◌++◌, length, map, Some, Ok, refl, sym, ap, subst, ◌∙◌, append_assoc, mul-pos, arith}
+use Rattle.std.proofs.Common.{◌≡◌, ◌≢◌, ℕ, zero, suc, ◌+◌, ◌*◌, ◌/◌, ◌%◌, ◌^◌, ◌<◌, ◌≤◌, ◌==◌, Bool, true, false, cond, List, [], ◌∷◌, ◌++◌, length, map, Some, Ok, refl, sym, ap, subst, ◌∙◌, append_assoc, mul-pos, arith, Result, Err}
 use Rattle.std.specs.Prelude.{All, decimal, codes, nat_lt, sum}
 use Rattle.std.specs.List.{flat_map, range_with_len}
 use Rattle.std.proofs.lemmas.Bool.Decides.{nat_tests}
-use Rattle.std.proofs.lemmas.List.{append-nil, length_push}
+use Rattle.std.proofs.lemmas.List.{append-nil, length-append, length_push}
 use Rattle.std.proofs.lemmas.Fmt.{decimal_digit}
 use Rattle.std.proofs.lemmas.List.Concat.{flat_map-cons}
 use Rattle.std.proofs.lemmas.List.Folds.{flat_map-map}
@@ -13,16 +13,19 @@ use Rattle.tact_base.specs.declared.limits.TheConstants.{ALPHA_MAX, CONITS_MAX, 
 use Rattle.tact_base.proofs.SetupLemmas.{HasCounts, HasCounts-from_IsSetup}
 use Rattle.run_model.specs.Text as text
 use Rattle.run_model.specs.Text.{end_text, header_text, line_text}
+use Rattle.run_model.specs.declared.status.LineKind.{LineKind}
 use Rattle.run_record.specs.declared.body_lines.BodyLine.TheVariants as body
+use Rattle.run_record.specs.declared.fault.RecordFault.{RecordFault}
+use Rattle.run_record.specs.declared.fault.RecordFault.TheVariants as fault
 use Rattle.run_record.specs.declared.parts.Bound.{Bound}
 use Rattle.run_record.specs.declared.short.Short.{Short}
 use Rattle.run_record.specs.Records.{Held, IsHeld, IsShortOf}
-use Rattle.run_record.specs.RecordText.{record_text, short_line}
+use Rattle.run_record.specs.RecordText.{record_text, short_line, short_act_tokens}
 use Rattle.run_record.specs.Splitting.{raw_lines, tokens}
 use Rattle.run_record.specs.Fields.{Tokens, token_at, end_at}
 use Rattle.run_record.specs.Lines.{is_skipped}
 use Rattle.run_record.specs.CallTokens.{word_due}
-use Rattle.run_record.specs.RecordLines.{Stage, Before, Bounds, Entries, bound_fields, bound_line, header_line, loan_most, loans_at, number_due, read_from, read_next, record_of, with_bounds}
+use Rattle.run_record.specs.RecordLines.{Stage, Before, Bounds, Entries, bound_fields, bound_line, header_line, loan_most, loans_at, number_due, read_from, read_next, record_of, with_bounds, Reads}
 use Rattle.run_record.proofs.PrintedTokens.{line_good, line_lacks_feed, line_width, number_of-decimal, piece_ends, tokens_again}
 use Rattle.run_record.proofs.PrintedFields.{count_again, number_again}
 use Rattle.run_record.proofs.PrintedCalls.{end_again, entry_again, entry_tokens}
@@ -277,3 +280,55 @@ printed_again held is fits =
     ∙ setup_again s is.setup (entries ++ end)
     ∙ entries_again s has.replicas_high has.conits_high held.entries number [] end is.entries
     ∙ end_follows s has.replicas_high has.conits_high (number + length held.entries) held.entries fits
+
+-- ---- what a call that reads promises
+
+abbrev Told : Type 0
+Told = Result Held (ℕ × LineKind)
+
+held_or : Held → Told → Held
+held_or d (Ok held) = held
+held_or d (Err f) = d
+
+same_record : (a b : Held) → ◌≡◌ {A = Told} (Ok a) (Ok b) → ◌≡◌ {A = Result Held RecordFault} (Ok a) (Ok b)
+unfolding held_or
+same_record a b e = ap (λ (h : Held). Ok h) (ap (held_or a) e)
+
+no_fault : (place : ℕ) (kind : LineKind) (held : Held) (read : Told) → read ≡ Err (place, kind) → read ≡ Ok held → ⊥
+no_fault place kind held read p q = cc
+
+-- a record has no more entries than its text has bytes
+entries_short : (shorts : List Short) → length shorts ≤ length (flat_map short_line shorts)
+entries_short [] = omega arith
+entries_short (short ∷ shorts) =
+    let both = ap length (flat_map-cons short_line short shorts) ∙ length-append (short_line short) (flat_map short_line shorts) in
+    let here = length-append (line_text (codes "e" ∷ decimal short.replica ∷ decimal short.moment ∷ short_act_tokens short.act)) (10 ∷ []) in
+    omega (arith, entries_short shorts, both, here)
+
+few_entries : (held : Held) → length held.entries ≤ length (record_text held)
+few_entries held =
+    let s = header_text held.setup in
+    let entries = flat_map short_line held.entries in
+    omega (arith, entries_short held.entries, length-append (s ++ entries) (end_text (length held.entries)), length-append s entries)
+
+pub printed_is_told : (text : List ℕ) (result : Result Held RecordFault)
+    → length text < 2 ^ 64
+    → Reads result (record_of text)
+    → (held : Held)
+    → IsHeld held
+    → text ≡ record_text held
+    → result ≢ Err fault.NoMemory
+    → result ≡ Ok held
+printed_is_told text result long told held good spells enough =
+    let few : length held.entries < 2 ^ 64 = omega (arith, few_entries held, ap length spells, long) in
+    told_is result told (ap record_of spells ∙ printed_again held good few) enough
+  where
+    told_is : (result : Result Held RecordFault)
+        → Reads result (record_of text)
+        → record_of text ≡ Ok held
+        → result ≢ Err fault.NoMemory
+        → result ≡ Ok held
+    told_is (Ok other) told again enough = same_record other held (sym told ∙ again)
+    told_is (Err fault.NoMemory) told again enough = absurd (enough refl)
+    told_is (Err (fault.Text place kind)) told again enough = absurd (no_fault place kind held (record_of text) told again)
+    told_is (Err (fault.Bytes place kind)) told again enough = absurd told

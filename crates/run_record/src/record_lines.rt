@@ -1,10 +1,12 @@
 //! Records in text, read line by line.
-ghost use Rattle.std.specs.Prelude.{◌≡◌, ◌≤◌, ◌<◌, ◌+◌, ◌^◌, ℕ, [], IfErr, IfOk, IfSome, OnOk, Some, Err, Ok, Option, All, length};
+ghost use Rattle.std.specs.Prelude.{◌≡◌, ◌≢◌, ◌≤◌, ◌<◌, ◌+◌, ◌^◌, ℕ, [], IfErr, IfOk, IfSome, OnOk, Some, Err, Ok, Option, All, length};
 ghost use Rattle.std.specs.Option.{option_map};
 ghost use Rattle.tact_base.specs.Setup.{IsSetup};
 ghost use Rattle.run_record.specs.EntriesAt.{AreCounts};
 ghost use Rattle.run_record.specs.Records.{Held, IsHeld, IsShortOf};
+ghost use Rattle.run_record.specs.RecordText.{record_text};
 ghost use Rattle.run_record.specs.Splitting.{raw_lines, tokens};
+ghost use Rattle.run_record.specs.declared.fault.RecordFault.TheVariants as fault;
 ghost use Rattle.run_record.specs.RecordLines.{EndsBy, Stage, Bounds, Entries, Whole, Reads, numbered, read_from, read_next, record_of};
 
 use crate::body_lines::{BodyLine, body_line};
@@ -31,7 +33,17 @@ use tact_base::Items;
 pub fn parse_text(alloc: Global, bytes: &[u8]) -> Result<Record, RecordFault>
     // What is read is a record in range.
     ensures found { IfOk result IsHeld }
+    // The text that is printed of a record in range is read, if there is memory.
+    ensures again { (held : Held) → IsHeld held → bytes.now ≡ record_text held
+        → result ≢ Err fault.NoMemory → result ≡ Ok held }
     // It is what the text says; and a fault is the first of the text.
+    ensures exact { Reads result (record_of bytes.now) }
+{
+    record_of(alloc, bytes)
+}
+
+fn record_of(alloc: Global, bytes: &[u8]) -> Result<Record, RecordFault>
+    ensures found { IfOk result IsHeld }
     ensures exact { Reads result (record_of bytes.now) }
 {
     let (counts, number, rest) = read_header(bytes)?;
