@@ -1,2 +1,4 @@
 mod Totals
 mod Entering
+mod Seeing
+mod Turning

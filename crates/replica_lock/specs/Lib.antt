@@ -1,2 +1,4 @@
 pub mod Faults
 pub mod Locks
+pub mod Sessions
+pub mod Nodes

@@ -4,5 +4,11 @@
 mod fault;
 mod label;
 mod locked;
+mod node;
+mod session;
+mod turn;
 
 pub use fault::NodeFault;
+pub use node::Node;
+pub use session::Session;
+pub use turn::Turn;

@@ -11,11 +11,13 @@ ghost use Rattle.replica_lock.specs.Faults.{IsNodeFaultOf};
 ghost use Rattle.replica_lock.specs.Locks.{HasDrawn, HasEntered, IsLocked, IsOfDesk, IsWriteOrRead, made_place, one_more_at, part_in, turns_place};
 
 use crate::NodeFault;
+use crate::label::Label;
 use replica_core::Replica;
 use run_history::{Clerk, Desk, Note};
 use run_model::{Act, Entry, Reply, Request};
 use std::marker::Model;
 use tact_base::{CLIENTS, HISTORY_MAX, RoomyList, STAMP_MAX};
+use weight_ledger::Counted;
 
 /// The value behind a node's lock: its replica, the clerk that draws the replica's entries, the entries that were drawn
 /// with their ticks, and the totals by place that tallies outside add up.
@@ -46,7 +48,24 @@ impl Model for Locked {
     ghost invariant = { λ l. IsLocked (view l) × (l.conits ≡ l.replica.core.setup.conits) };
 }
 
+impl Counted for Locked {
+    type Label = Label;
+
+    ghost use Rattle.replica_lock.specs.Nodes.{label_of};
+
+    ghost label = { label_of };
+
+    ghost totals = { λ locked. locked.totals };
+}
+
 impl Locked {
+    // What it keeps.
+    pub fn stand(&self)
+        ensures { IsLocked self.now }
+    {
+        let _ = &self.conits;
+    }
+
     /// Answers a call of a client that writes or reads, for a session that has seen what a note has. The clerk learns the
     /// note; where it isn't refused the call is drawn and stored; then the note sees what the clerk has seen.
     pub fn call(
@@ -72,6 +91,7 @@ impl Locked {
           moment = moment_at (part_in self.old) moment;
           act = act.Call client (calls_in (part_in self.old) client) request reply;
         })) }
+        ensures rooms { OnOk result ((slice_index self.old.totals (turns_place self.old.core.setup.conits client) + 1 < 2 ^ 64) × (slice_index self.old.totals (made_place self.old.core.setup.conits client) + 1 < 2 ^ 64)) }
         ensures totals { OnOk result (self.new.totals ≡ one_more_at (made_place self.old.core.setup.conits client) (one_more_at (turns_place self.old.core.setup.conits client) self.old.totals)) }
         ensures fault { IfErr result (IsNodeFaultOf self.old.core) }
         ensures err { OnErr result ((self.new.core ≡ self.old.core) × (self.new.stored ≡ self.old.stored) × (self.new.totals ≡ self.old.totals)) }
@@ -167,6 +187,7 @@ impl Locked {
           moment = moment_at (part_in self.old) moment;
           act = act.Call client (calls_in (part_in self.old) client) request reply;
         })) }
+        ensures rooms { OnOk result ((slice_index self.old.totals (turns_place self.old.core.setup.conits client) + 1 < 2 ^ 64) × (slice_index self.old.totals (made_place self.old.core.setup.conits client) + 1 < 2 ^ 64)) }
         ensures totals { OnOk result (self.new.totals ≡ one_more_at (made_place self.old.core.setup.conits client) (one_more_at (turns_place self.old.core.setup.conits client) self.old.totals)) }
         ensures grows { IsPrefix self.old.clerk.seen self.new.clerk.seen }
         ensures run { IsRun desk.now.setup self.old.clerk.seen → IsRun desk.now.setup self.new.clerk.seen }

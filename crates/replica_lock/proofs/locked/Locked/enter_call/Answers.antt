@@ -73,3 +73,13 @@ returns-clause-entered c =
 
 pub returns-clause-grows : goal.returns-clause-grows
 returns-clause-grows c = rw (← c.self.view_is) (drawn-grows _ _ _ _ c.draw.ensures.drawn)
+
+pub returns-clause-rooms : goal.returns-clause-rooms
+returns-clause-rooms c =
+    let is = sym c.self.view_is in
+    let stands = stands-spelled _ c.call.new.self.core c.args.moment c.args.client c.args.request c.in_ok-reply.reply _ _ _ c.self.invariant.0 c.in_ok-reply.ensures.goes_on
+    (c.replica_number-replica.ensures ∙ ap (λ (v : LockedView). v.core.replica) is)
+    (c.moment_after-at.ensures ∙ ap (λ (v : LockedView). moment_at (part_in v) c.args.moment) is)
+    (c.calls_of-number.ensures ∙ ap (λ (v : LockedView). calls_in (part_in v) c.args.client) is) in
+    let due = goes_on-due c.call.new.self.core.setup _ _ c.call.new.self.core refl stands in
+    rw (← c.self.view_is) (has_room _ c.args.client c.self.invariant.0 c.requires.client due.room)
