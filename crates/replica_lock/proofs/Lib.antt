@@ -2,3 +2,4 @@ mod Totals
 mod Entering
 mod Seeing
 mod Turning
+mod Opening

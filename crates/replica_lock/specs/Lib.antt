@@ -2,3 +2,4 @@ pub mod Faults
 pub mod Locks
 pub mod Sessions
 pub mod Nodes
+pub mod Rosters

@@ -5,10 +5,12 @@ mod fault;
 mod label;
 mod locked;
 mod node;
+mod roster;
 mod session;
 mod turn;
 
-pub use fault::NodeFault;
+pub use fault::{NewFault, NodeFault, SessionFault};
 pub use node::Node;
+pub use roster::Roster;
 pub use session::Session;
 pub use turn::Turn;

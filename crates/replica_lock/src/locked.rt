@@ -1,5 +1,5 @@
 //! The value behind a node's lock, and the entries that are made with it.
-ghost use Rattle.std.specs.Prelude.{◌≡◌, ◌+◌, ◌*◌, ◌<◌, ◌≤◌, ◌^◌, true, false, length, slice_index, IfOk, IfErr, OnErr, OnOk};
+ghost use Rattle.std.specs.Prelude.{[], ◌≡◌, ◌+◌, ◌*◌, ◌<◌, ◌≤◌, ◌^◌, true, false, length, slice_index, IfOk, IfErr, OnErr, OnOk};
 ghost use Rattle.tact_base.specs.declared.limits.TheConstants.{CLIENTS, MOMENT_MAX};
 ghost use Rattle.run_model.specs.Histories.{moment_at, calls_in, IsPrefix};
 ghost use Rattle.run_model.specs.Ranges.{IsRequestInRange};
@@ -7,14 +7,16 @@ ghost use Rattle.run_model.specs.Runs.{IsDue, IsRun, WasSent};
 ghost use Rattle.run_model.specs.declared.entry.Act.TheVariants as act;
 ghost use Rattle.run_history.specs.Ticks.{entries_of};
 ghost use Rattle.replica_core.specs.States.{is_full};
+ghost use Rattle.weight_ledger.specs.Amounts.{zeros};
 ghost use Rattle.replica_lock.specs.Faults.{IsNodeFaultOf};
 ghost use Rattle.replica_lock.specs.Locks.{HasDrawn, HasEntered, IsLocked, IsOfDesk, IsWriteOrRead, made_place, one_more_at, part_in, turns_place};
 
-use crate::NodeFault;
+use crate::{NewFault, NodeFault};
 use crate::label::Label;
 use replica_core::Replica;
 use run_history::{Clerk, Desk, Note};
-use run_model::{Act, Entry, Reply, Request};
+use run_model::{Act, Config, Entry, Reply, Request};
+use std::alloc::{AllocError, Global};
 use std::marker::Model;
 use tact_base::{CLIENTS, HISTORY_MAX, RoomyList, STAMP_MAX};
 use weight_ledger::Counted;
@@ -59,6 +61,40 @@ impl Counted for Locked {
 }
 
 impl Locked {
+    /// The value of a node that made no entry.
+    pub fn new(alloc: Global, config: &Config, clerk: Clerk) -> Result<Locked, NewFault>
+        requires among { clerk.replica < config.now.replicas }
+        requires drawn { clerk.pairs ≡ [] }
+        ensures core { IfOk result (λ made. (made.core.setup ≡ config.now) × (made.core.replica ≡ clerk.replica)) }
+        ensures clerk { IfOk result (λ made. made.clerk ≡ clerk) }
+        ensures totals { IfOk result (λ made. made.totals ≡ zeros (config.now.conits + 2 * CLIENTS)) }
+        ensures refused { IfErr result (λ fault. fault.clerk ≡ clerk) }
+    {
+        let number = clerk.replica();
+        let conits = config.conits();
+        let Ok(replica) = Replica::new(alloc, config, number) else {
+            return Err(NewFault { clerk });
+        };
+        let Ok(totals) = zeros(alloc, conits as usize + 2 * CLIENTS as usize) else {
+            return Err(NewFault { clerk });
+        };
+        Ok(Locked {
+            replica,
+            clerk,
+            stored: RoomyList::new(alloc),
+            conits,
+            totals,
+        })
+    }
+
+    /// The clerk, where the value isn't needed any more.
+    pub fn into_clerk(self) -> Clerk
+        ensures { result ≡ self.clerk }
+    {
+        let Locked { clerk, .. } = self;
+        clerk
+    }
+
     // What it keeps.
     pub fn stand(&self)
         ensures { IsLocked self.now }
@@ -253,4 +289,11 @@ fn copied(reply: &Reply) -> Reply
         Ok(copy) => copy,
         Err(_) => unreachable!(),
     }
+}
+
+// So many zeros.
+fn zeros(alloc: Global, count: usize) -> Result<Vec<u64>, AllocError>
+    ensures { IfOk result (λ list. list.items ≡ zeros count) }
+{
+    vec![in alloc; 0; count]
 }
