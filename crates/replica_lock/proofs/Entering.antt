@@ -71,8 +71,7 @@ pub has_room : (locked : LockedView) (client : ℕ)
     → (get_or locked.totals (turns_place locked.core.setup.conits client) 0 + 1 < 2 ^ 64)
     × (get_or locked.totals (made_place locked.core.setup.conits client) 0 + 1 < 2 ^ 64)
 has_room locked client kept among few =
-    let size = length-map locked.stored (λ (pair : ℕ × Entry). pair.1) in
-    (
+    let size = length-map locked.stored (λ (pair : ℕ × Entry). pair.1) in (
       omega (arith, kept.turns client among, calls-few (part_in locked) client, few),
       omega (arith, sum_from-le (locked.core.setup.conits + CLIENTS) client locked.totals (omega (arith, kept.places, among)), kept.made, size, few),
     )

@@ -139,8 +139,7 @@ module _ (setup : Setup) (sound : IsSetup setup) where
       → IsFaultSeen session told
   IsFaultSeen-of locked session (fault.Full count stamp) kept replica seen run (full, count_is, stamp_is) =
       let part : part_of session.seen session.replica ≡ part_in locked = ap (part_of session.seen) replica ∙ ap (λ h. part_of h locked.core.replica) seen ∙ kept.own in
-      let size = full-count (part_in locked) session.seen locked.core run (sym (sym (ap (part_of session.seen) replica) ∙ part)) kept.stands.counts.count kept.stands.writes.clock full in
-      (
+      let size = full-count (part_in locked) session.seen locked.core run (sym (sym (ap (part_of session.seen) replica) ∙ part)) kept.stands.counts.count kept.stands.writes.clock full in (
         ap length part ∙ size,
         count_is ∙ kept.stands.counts.count ∙ size,
         stamp_is ∙ kept.stands.writes.clock ∙ ap clock (sym part),

@@ -1,6 +1,7 @@
 //! Nodes: clients that share a replica under a lock, every reply in one lawful history.
 #![tactic(auto)]
 
+mod ended;
 mod fault;
 mod label;
 mod locked;
@@ -9,6 +10,7 @@ mod roster;
 mod session;
 mod turn;
 
+pub use ended::{Ended, Stored};
 pub use fault::{NewFault, NodeFault, SessionFault};
 pub use node::Node;
 pub use roster::Roster;

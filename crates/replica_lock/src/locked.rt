@@ -1,5 +1,5 @@
 //! The value behind a node's lock, and the entries that are made with it.
-ghost use Rattle.std.specs.Prelude.{[], ◌≡◌, ◌+◌, ◌*◌, ◌<◌, ◌≤◌, ◌^◌, true, false, length, slice_index, IfOk, IfErr, OnErr, OnOk};
+ghost use Rattle.std.specs.Prelude.{[], ◌≡◌, ◌+◌, ◌*◌, ◌<◌, ◌≤◌, ◌^◌, true, false, length, slice_index, IfOk, IfErr, IsOk, OnErr, OnOk};
 ghost use Rattle.tact_base.specs.declared.limits.TheConstants.{CLIENTS, MOMENT_MAX};
 ghost use Rattle.run_model.specs.Histories.{moment_at, calls_in, IsPrefix};
 ghost use Rattle.run_model.specs.Ranges.{IsRequestInRange};
@@ -9,10 +9,11 @@ ghost use Rattle.run_history.specs.Ticks.{entries_of};
 ghost use Rattle.replica_core.specs.States.{is_full};
 ghost use Rattle.weight_ledger.specs.Amounts.{zeros};
 ghost use Rattle.replica_lock.specs.Faults.{IsNodeFaultOf};
+ghost use Rattle.replica_lock.specs.declared.fault.NodeFault.TheVariants as fault;
 ghost use Rattle.replica_lock.specs.Locks.{HasDrawn, HasEntered, IsLocked, IsOfDesk, IsWriteOrRead, made_place, one_more_at, part_in, turns_place};
 
-use crate::{NewFault, NodeFault};
 use crate::label::Label;
+use crate::{NewFault, NodeFault};
 use replica_core::Replica;
 use run_history::{Clerk, Desk, Note};
 use run_model::{Act, Config, Entry, Reply, Request};
@@ -129,6 +130,9 @@ impl Locked {
         })) }
         ensures rooms { OnOk result ((slice_index self.old.totals (turns_place self.old.core.setup.conits client) + 1 < 2 ^ 64) × (slice_index self.old.totals (made_place self.old.core.setup.conits client) + 1 < 2 ^ 64)) }
         ensures totals { OnOk result (self.new.totals ≡ one_more_at (made_place self.old.core.setup.conits client) (one_more_at (turns_place self.old.core.setup.conits client) self.old.totals)) }
+        ensures spare { self.old.spare ≤ self.new.spare + 1 }
+        ensures room { self.old.room ≤ self.new.room + 1 }
+        ensures enough { is_full self.old.core ≡ false → 0 < self.old.spare → 0 < self.old.room → IsOk result }
         ensures fault { IfErr result (IsNodeFaultOf self.old.core) }
         ensures err { OnErr result ((self.new.core ≡ self.old.core) × (self.new.stored ≡ self.old.stored) × (self.new.totals ≡ self.old.totals)) }
         ensures learnt { IsPrefix self.old.clerk.seen note.new.seen × IsPrefix note.old.seen note.new.seen }
@@ -141,6 +145,46 @@ impl Locked {
 }
 
 impl Locked {
+    /// Makes room for so many own writes and stored entries. Want of memory is its only error.
+    pub fn make_room(&mut self, count: u64) -> Result<(), NodeFault>
+        ensures kept { IsLocked self.new }
+        ensures value { self.new ≡ record self.old { spare = self.new.spare; room = self.new.room } }
+        ensures room { OnOk result ((count ≤ self.new.spare) × (count ≤ self.new.room)) }
+        ensures no_less { (self.old.spare ≤ self.new.spare) × (self.old.room ≤ self.new.room) }
+        ensures fault { IfErr result (λ told. told ≡ fault.NoMemory) }
+    {
+        self.stored.reserve(count)?;
+        self.replica.reserve(count)?;
+        Ok(())
+    }
+
+    /// The clerk learns what two notes have seen, of which the first then sees what the clerk has seen.
+    pub fn hear(&mut self, desk: &Desk, note: &mut Note, mut other: Note)
+        requires desk { IsOfDesk desk.now self.old }
+        requires note { note.old.table ≡ desk.now.table }
+        requires other { other.table ≡ desk.now.table }
+        ensures kept { IsLocked self.new }
+        ensures value { self.new ≡ record self.old { clerk = record self.old.clerk { seen = self.new.clerk.seen } } }
+        ensures note { (note.new.table ≡ note.old.table) × (note.new.seen ≡ self.new.clerk.seen) }
+        ensures run { IsRun desk.now.setup note.new.seen }
+        ensures learnt { IsPrefix self.old.clerk.seen note.new.seen × IsPrefix note.old.seen note.new.seen }
+        ensures heard { IsPrefix other.seen note.new.seen }
+    {
+        self.learn(desk, note);
+        self.learn(desk, &mut other);
+        self.tell(desk, note);
+    }
+
+    /// The clerk and the stored entries, where the node ends.
+    pub fn into_parts(self) -> (Clerk, RoomyList<(u64, Entry)>)
+        ensures clerk { result.0 ≡ self.clerk }
+        ensures stored { result.1.items ≡ self.stored }
+        ensures kept { IsLocked self }
+    {
+        let Locked { clerk, stored, .. } = self;
+        (clerk, stored)
+    }
+
     // The clerk learns what a note has seen.
     fn learn(&mut self, desk: &Desk, note: &mut Note)
         requires desk { IsOfDesk desk.now self.old }
@@ -227,6 +271,9 @@ impl Locked {
         ensures totals { OnOk result (self.new.totals ≡ one_more_at (made_place self.old.core.setup.conits client) (one_more_at (turns_place self.old.core.setup.conits client) self.old.totals)) }
         ensures grows { IsPrefix self.old.clerk.seen self.new.clerk.seen }
         ensures run { IsRun desk.now.setup self.old.clerk.seen → IsRun desk.now.setup self.new.clerk.seen }
+        ensures spare { self.old.spare ≤ self.new.spare + 1 }
+        ensures room { self.old.room ≤ self.new.room + 1 }
+        ensures enough { is_full self.old.core ≡ false → 0 < self.old.spare → 0 < self.old.room → IsOk result }
         ensures fault { IfErr result (IsNodeFaultOf self.old.core) }
         ensures err { OnErr result ((self.new.core ≡ self.old.core) × (self.new.stored ≡ self.old.stored) × (self.new.totals ≡ self.old.totals) × (self.new.clerk ≡ self.old.clerk)) }
     {
@@ -263,6 +310,7 @@ fn draw(clerk: &mut Clerk, stored: &mut RoomyList<(u64, Entry)>, desk: &Desk, en
     requires room { 0 < stored.old.room }
     ensures drawn { HasDrawn desk.now.setup clerk.old clerk.new entry }
     ensures stored { stored.new.items ≡ clerk.new.pairs }
+    ensures room { stored.old.room ≤ stored.new.room + 1 }
 {
     let tick = clerk.draw(desk, &entry);
     stored.push((tick, entry));

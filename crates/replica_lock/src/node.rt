@@ -1,17 +1,19 @@
 //! Nodes, which their clients share.
 ghost use Rattle.std.specs.Prelude.{◌≡◌, ◌<◌, ◌≤◌, [], ◌∷◌, ◌++◌, Contains, IfOk, IfErr, OnErr, OnOk};
 ghost use Rattle.tact_base.specs.declared.limits.TheConstants.{CLIENTS, MOMENT_MAX};
+ghost use Rattle.run_model.specs.Histories.{IsPrefix};
 ghost use Rattle.run_model.specs.Ranges.{IsRequestInRange};
 ghost use Rattle.replica_lock.specs.Locks.{IsLocked, IsWriteOrRead};
 ghost use Rattle.replica_lock.specs.Rosters.{IsRosterOf, IsSessionFaultOf};
 ghost use Rattle.replica_lock.specs.Sessions.{HasCalled, HasHeard, IsFaultSeen, IsSessionOf};
 
+use crate::ended::{Ended, Stored};
 use crate::locked::Locked;
-use crate::session::Session;
 use crate::roster::Roster;
+use crate::session::Session;
 use crate::turn::Turn;
 use crate::{NewFault, NodeFault, SessionFault};
-use run_history::{Clerk, Desk};
+use run_history::{Clerk, Desk, Note};
 use run_model::{Config, Reply, Request};
 use std::alloc::Global;
 use std::marker::Model;
@@ -121,6 +123,47 @@ impl<'d, G: Gate> Node<'d, G> {
             node: self,
             held,
             locked,
+        }
+    }
+
+    /// A note of what the session has seen. It waits for nobody.
+    pub fn note(&self, session: &mut Session) -> Note
+        requires { IsSessionOf self.now session.old }
+        ensures session { session.new ≡ session.old }
+        ensures desk { result.table ≡ self.now.desk.table }
+        ensures seen { result.seen ≡ session.old.seen }
+    {
+        session.note.twin(self.desk)
+    }
+
+    /// The session sees what a note has seen. It makes no entry, takes no memory and has no refusal.
+    pub fn hear<R: Wait>(&self, rt: &R, session: &mut Session, note: Note)
+        requires session { IsSessionOf self.now session.old }
+        requires note { note.table ≡ self.now.desk.table }
+        ensures heard { HasHeard self.now.desk.setup session.old session.new }
+        ensures note { IsPrefix note.seen session.new.seen }
+    {
+        let mut turn = self.turn(rt);
+        turn.hear(session, note);
+        turn.end();
+    }
+
+    /// Ends the node, and gives its clerk and the entries that it stored, which are what the clerk drew.
+    pub fn finish<R: Wait>(self, rt: &R, roster: Roster) -> Ended
+        requires roster { IsRosterOf self roster }
+        ensures clerk { (result.clerk.table ≡ self.entry.desk.table) × (result.clerk.replica ≡ self.entry.replica) }
+        ensures stored { result.stored ≡ result.clerk.pairs }
+    {
+        let Node {
+            desk: _,
+            cell,
+            gate: _,
+        } = self;
+        let Roster { tally, .. } = roster;
+        let (clerk, pairs) = cell.end(rt, tally).into_parts();
+        Ended {
+            clerk,
+            stored: Stored { pairs },
         }
     }
 

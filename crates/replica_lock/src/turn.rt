@@ -1,18 +1,21 @@
 //! Turns: the lock of a node, held over several calls.
-ghost use Rattle.std.specs.Prelude.{◌≡◌, ◌≢◌, ◌+◌, ◌*◌, ◌<◌, ◌≤◌, ◌^◌, slice_index, IfOk, IfErr, OnErr, OnOk};
+ghost use Rattle.std.specs.Prelude.{◌≡◌, ◌≢◌, ◌+◌, ◌*◌, ◌<◌, ◌≤◌, ◌^◌, slice_index, IfOk, IfErr, IsOk, OnErr, OnOk, false};
 ghost use Rattle.tact_base.specs.declared.limits.TheConstants.{CLIENTS, CONITS_MAX, MOMENT_MAX};
-ghost use Rattle.run_model.specs.Histories.{moment_at, calls_in};
+ghost use Rattle.run_model.specs.Histories.{moment_at, calls_in, IsPrefix};
 ghost use Rattle.run_model.specs.Ranges.{IsRequestInRange};
 ghost use Rattle.run_model.specs.declared.entry.Act.TheVariants as act;
+ghost use Rattle.replica_core.specs.States.{is_full};
 ghost use Rattle.replica_lock.specs.Faults.{IsNodeFaultOf};
+ghost use Rattle.replica_lock.specs.declared.fault.NodeFault.TheVariants as fault;
 ghost use Rattle.replica_lock.specs.Locks.{HasEntered, IsLocked, IsWriteOrRead, made_place, one_more_at, part_in, turns_place};
 ghost use Rattle.replica_lock.specs.Sessions.{HasCalled, HasHeard, IsFaultSeen, IsSessionOf};
 
+use crate::NodeFault;
 use crate::label::Label;
 use crate::locked::Locked;
 use crate::node::Node;
 use crate::session::Session;
-use crate::NodeFault;
+use run_history::Note;
 use run_model::{Reply, Request};
 use std::marker::Model;
 use tact_base::CLIENTS;
@@ -38,6 +41,36 @@ impl<'n, 'd, G: Gate> Model for Turn<'n, 'd, G> {
 }
 
 impl<'n, 'd, G: Gate> Turn<'n, 'd, G> {
+    /// Makes room for `count` writes and stored entries, which lasts until the turn made so many entries. `NoMemory` is
+    /// its only error; it leaves everything as it was, but for what room there is.
+    pub fn make_room(&mut self, count: u64) -> Result<(), NodeFault>
+        ensures node { self.new.node ≡ self.old.node }
+        ensures kept { IsLocked self.new.state }
+        ensures state { self.new.state ≡ record self.old.state { spare = self.new.state.spare; room = self.new.state.room } }
+        ensures room { OnOk result ((count ≤ self.new.state.spare) × (count ≤ self.new.state.room)) }
+        ensures no_less { (self.old.state.spare ≤ self.new.state.spare) × (self.old.state.room ≤ self.new.state.room) }
+        ensures fault { IfErr result (λ told. told ≡ fault.NoMemory) }
+    {
+        self.locked.make_room(count)
+    }
+
+    // The session learns what a note has seen, and all that the clerk has seen.
+    pub(crate) fn hear(&mut self, session: &mut Session, note: Note)
+        requires session { IsSessionOf self.old.node session.old }
+        requires note { note.table ≡ self.old.node.desk.table }
+        ensures node { self.new.node ≡ self.old.node }
+        ensures kept { IsLocked self.new.state }
+        ensures state { self.new.state ≡ record self.old.state { clerk = record self.old.state.clerk { seen = self.new.state.clerk.seen } } }
+        ensures seen { session.new.seen ≡ self.new.state.clerk.seen }
+        ensures heard { HasHeard self.old.node.desk.setup session.old session.new }
+        ensures note { IsPrefix note.seen session.new.seen }
+    {
+        let node = self.node;
+        self.locked.stand();
+        self.held.agree(&mut session.tally);
+        self.locked.hear(node.desk, &mut session.note, note);
+    }
+
     /// Answers a call of a session's client that writes or reads, as `Replica::call` does; draws it and stores it.
     pub fn call(
         &mut self,
@@ -60,6 +93,9 @@ impl<'n, 'd, G: Gate> Turn<'n, 'd, G> {
         ensures seen { session.new.seen ≡ self.new.state.clerk.seen }
         ensures called { IfOk result (HasCalled self.old.node.desk.setup session.old session.new moment request) }
         ensures refused { OnErr result (HasHeard self.old.node.desk.setup session.old session.new) }
+        ensures spare { self.old.state.spare ≤ self.new.state.spare + 1 }
+        ensures room { self.old.state.room ≤ self.new.state.room + 1 }
+        ensures enough { is_full self.old.state.core ≡ false → 0 < self.old.state.spare → 0 < self.old.state.room → IsOk result }
         ensures fault { IfErr result (IsNodeFaultOf self.old.state.core) }
         ensures fault_seen { IfErr result (IsFaultSeen session.new) }
         ensures err { OnErr result ((self.new.state.core ≡ self.old.state.core) × (self.new.state.stored ≡ self.old.state.stored) × (self.new.state.totals ≡ self.old.state.totals)) }

@@ -36,14 +36,13 @@ count_call-requires-clause-made c =
     rw c.self.invariant.1 (has_room _ c.args.client c.self.invariant.0 c.requires.client due.room).1
 
 pub invariant_of-self-2 : goal.invariant_of-self-2
-invariant_of-self-2 c = 
+invariant_of-self-2 c =
     let is = sym c.self.view_is in
     let stands = stands-spelled _ c.call.new.self.core c.args.moment c.args.client c.args.request c.in_ok-reply.reply _ _ _ c.self.invariant.0 c.in_ok-reply.ensures.goes_on
     (c.replica_number-replica.ensures ∙ ap (λ (v : LockedView). v.core.replica) is)
     (c.moment_after-at.ensures ∙ ap (λ (v : LockedView). moment_at (part_in v) c.args.moment) is)
     (c.calls_of-number.ensures ∙ ap (λ (v : LockedView). calls_in (part_in v) c.args.client) is) in
-    let totals = c.count_call.ensures ∙ ap (λ n. one_more_at (made_place n c.args.client) (one_more_at (turns_place n c.args.client) c.self.inside.totals.items)) c.self.invariant.1 in
-    (
+    let totals = c.count_call.ensures ∙ ap (λ n. one_more_at (made_place n c.args.client) (one_more_at (turns_place n c.args.client) c.self.inside.totals.items)) c.self.invariant.1 in (
       IsLocked-call _ _ _ c.args.client _ c.self.invariant.0 c.requires.client c.in_ok-reply.ensures.same c.draw.ensures.drawn c.draw.ensures.stored (quiet-call _ _ _ _ c.requires.plain) stands totals,
       c.self.invariant.1 ∙ sym (ap (λ (s : Setup). s.conits) c.in_ok-reply.ensures.same.0),
     )

@@ -7,8 +7,7 @@ use Rattle.replica_lock.proofs.locked.Locked.new.Goals as goal
 
 pub invariant_of-result : goal.invariant_of-result
 invariant_of-result c =
-    let conits = c.conits-conits.ensures.count ∙ ap (λ (s : Setup). s.conits) (sym c.in-Ok.ensures.setup.0) in
-    (
+    let conits = c.conits-conits.ensures.count ∙ ap (λ (s : Setup). s.conits) (sym c.in-Ok.ensures.setup.0) in (
       IsLocked-new _ (sym (c.in-Ok.ensures.setup.1 ∙ c.replica-number.ensures.replica)) c.in-Ok.ensures.stands c.requires.drawn c.new-2.ensures c.replica-number.ensures.own
           (c.in-Ok-zeros.ensures ∙ ap (λ n. zeros (n + 2 * CLIENTS)) conits),
       conits,
