@@ -8,6 +8,7 @@ ghost use Rattle.replica_lock.specs.Locks.{IsWriteOrRead};
 use run_history::{Clerk, Desk};
 use run_model::{Config, Request};
 use std::alloc::Global;
+use std::process::Abort;
 use std::test::Fail;
 use tact_base::{Needs, Op, Weights};
 
@@ -21,7 +22,7 @@ pub struct Opened {
 }
 
 /// Opens a desk.
-pub fn opened(alloc: Global) -> Result<Opened, Fail>
+pub fn open_two(alloc: Global) -> Result<Opened, Fail>
     ensures setup { IfOk result (λ made. made.desk.setup ≡ made.config) }
     ensures first { IfOk result (λ made. made.first ≡ fresh_clerk made.desk.table 0) }
     ensures second { IfOk result (λ made. made.second ≡ fresh_clerk made.desk.table 1) }
@@ -39,23 +40,23 @@ pub fn opened(alloc: Global) -> Result<Opened, Fail>
 }
 
 /// A write without weights, which adds 1 to key 7.
-pub fn plain_write() -> Result<Request, Fail>
-    ensures in_range { IfOk result (λ asked. (setup : Setup) → IsRequestInRange setup asked) }
-    ensures plain { IfOk result IsWriteOrRead }
+pub fn plain_write(rt: &impl Abort) -> Request
+    ensures in_range { (setup : Setup) → IsRequestInRange setup result }
+    ensures plain { IsWriteOrRead result }
 {
-    Ok(Request::Write {
-        weights: Weights::new(&[])?,
+    Request::Write {
+        weights: Weights::new(&[]).expect(rt, "no weights"),
         op: Op::Add { key: 7, delta: 1 },
-    })
+    }
 }
 
 /// A read of key 7 without needs.
-pub fn plain_read() -> Result<Request, Fail>
-    ensures in_range { IfOk result (λ asked. (setup : Setup) → IsRequestInRange setup asked) }
-    ensures plain { IfOk result IsWriteOrRead }
+pub fn plain_read(rt: &impl Abort) -> Request
+    ensures in_range { (setup : Setup) → IsRequestInRange setup result }
+    ensures plain { IsWriteOrRead result }
 {
-    Ok(Request::Read {
+    Request::Read {
         key: 7,
-        needs: Needs::new(&[])?,
-    })
+        needs: Needs::new(&[]).expect(rt, "no needs"),
+    }
 }

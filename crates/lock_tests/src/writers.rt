@@ -1,9 +1,11 @@
 //! Two threads write at one node.
-ghost use Rattle.std.specs.Prelude.{◌≡◌};
+ghost use Rattle.std.specs.Prelude.{◌≡◌, ◌<◌};
+ghost use Rattle.tact_base.specs.declared.limits.TheConstants.{CLIENTS};
+ghost use Rattle.replica_lock.specs.Rosters.{IsRosterOf};
 ghost use Rattle.replica_lock.specs.Sessions.{IsSessionOf};
 
-use crate::opened::{opened, plain_read, plain_write};
-use replica_lock::{Node, Session};
+use crate::opened::{open_two, plain_write};
+use replica_lock::{Node, Roster, Session};
 use run_model::Reply;
 use std::process::Abort;
 use std::sync::Wait;
@@ -18,18 +20,35 @@ fn write_often<R: Wait + Abort>(
     rt: &R,
     node: &Node<'_, FreeGate>,
     mut session: Session,
-) -> Result<[u64; WRITES], Fail>
+) -> [u64; WRITES]
     requires { IsSessionOf node.now session }
 {
     let mut indices = [0; WRITES];
     for place in 0..WRITES {
-        let reply = node.call(rt, &mut session, 3, plain_write()?)?;
-        let Reply::Done { index, .. } = reply else {
-            panic!(rt; "a write is done at once")
-        };
-        indices[place] = index;
+        indices[place] = write(rt, node, &mut session);
     }
-    Ok(indices)
+    indices
+}
+
+// Writes, and gives the index of the write.
+fn write<R: Wait + Abort>(rt: &R, node: &Node<'_, FreeGate>, session: &mut Session) -> u64
+    requires { IsSessionOf node.now session.old }
+    ensures { IsSessionOf node.now session.new }
+{
+    match node.call(rt, session, 3, plain_write(rt)) {
+        Ok(Reply::Done { index, .. }) => index,
+        _ => panic!(rt; "a write is done at once"),
+    }
+}
+
+// A session of a client that has none.
+fn session(rt: &impl Abort, node: &Node<'_, FreeGate>, roster: &mut Roster, client: u32) -> Session
+    requires roster { IsRosterOf node.now roster.old }
+    requires client { client < CLIENTS }
+    ensures session { IsSessionOf node.now result }
+    ensures roster { IsRosterOf node.now roster.new }
+{
+    node.session(roster, client).expect(rt, "a session")
 }
 
 // Each number below twice the count of writes stands once in one of the two.
@@ -44,7 +63,7 @@ fn stand_once(rt: &impl Abort, one: &[u64; WRITES], other: &[u64; WRITES]) {
 
 #[test]
 fn two_threads_write_at_a_node(rt: HostRuntime) -> Result<(), Fail> {
-    let made = opened(rt.alloc())?;
+    let made = open_two(rt.alloc())?;
     let Ok((node, mut roster)) = Node::new(
         rt.alloc(),
         &made.desk,
@@ -54,15 +73,15 @@ fn two_threads_write_at_a_node(rt: HostRuntime) -> Result<(), Fail> {
     ) else {
         panic!(rt; "no memory")
     };
-    let first = node.session(&mut roster, 0)?;
-    let second = node.session(&mut roster, 1)?;
+    let first = session(&rt, &node, &mut roster, 0);
+    let second = session(&rt, &node, &mut roster, 1);
     let (one, other) = thread::join(
         &rt,
         || write_often(&rt, &node, first),
         || write_often(&rt, &node, second),
     );
-    stand_once(&rt, &one?, &other?);
     let ended = node.finish(&rt, roster);
+    stand_once(&rt, &one, &other);
     assert_eq!(rt; ended.stored.pairs().len(), 2 * WRITES);
     Ok(())
 }
