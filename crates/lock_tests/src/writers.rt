@@ -4,7 +4,7 @@ ghost use Rattle.tact_base.specs.declared.limits.TheConstants.{CLIENTS};
 ghost use Rattle.replica_lock.specs.Rosters.{IsRosterOf};
 ghost use Rattle.replica_lock.specs.Sessions.{IsSessionOf};
 
-use crate::opened::{open_two, plain_write};
+use crate::opened::{Opened, open_two, plain_write};
 use replica_lock::{Node, Roster, Session};
 use run_model::Reply;
 use std::process::Abort;
@@ -63,22 +63,22 @@ fn stand_once(rt: &impl Abort, one: &[u64; WRITES], other: &[u64; WRITES]) {
 
 #[test]
 fn two_threads_write_at_a_node(rt: HostRuntime) -> Result<(), Fail> {
-    let made = open_two(rt.alloc())?;
-    let Ok((node, mut roster)) = Node::new(
-        rt.alloc(),
-        &made.desk,
-        &made.config,
-        made.first,
-        FreeGate::new(),
-    ) else {
+    let Opened {
+        desk,
+        config,
+        first,
+        second: _,
+    } = open_two(rt.alloc())?;
+    let Ok((node, mut roster)) = Node::new(rt.alloc(), &desk, &config, first, FreeGate::new())
+    else {
         panic!(rt; "no memory")
     };
-    let first = session(&rt, &node, &mut roster, 0);
-    let second = session(&rt, &node, &mut roster, 1);
+    let one = session(&rt, &node, &mut roster, 0);
+    let other = session(&rt, &node, &mut roster, 1);
     let (one, other) = thread::join(
         &rt,
-        || write_often(&rt, &node, first),
-        || write_often(&rt, &node, second),
+        || write_often(&rt, &node, one),
+        || write_often(&rt, &node, other),
     );
     let ended = node.finish(&rt, roster);
     stand_once(&rt, &one, &other);
