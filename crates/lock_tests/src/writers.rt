@@ -77,8 +77,12 @@ fn two_threads_write_at_a_node(rt: HostRuntime) -> Result<(), Fail> {
     let other = session(&rt, &node, &mut roster, 1);
     let (one, other) = thread::join(
         &rt,
-        || write_often(&rt, &node, one),
-        || write_often(&rt, &node, other),
+        || -> [u64; WRITES]
+            requires { IsSessionOf node one }
+        { write_often(&rt, &node, one) },
+        || -> [u64; WRITES]
+            requires { IsSessionOf node other }
+        { write_often(&rt, &node, other) },
     );
     let ended = node.finish(&rt, roster);
     stand_once(&rt, &one, &other);

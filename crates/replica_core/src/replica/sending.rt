@@ -1,5 +1,5 @@
 //! The message that a replica sends.
-ghost use Rattle.std.specs.Prelude.{max, ◌≡◌, ◌≢◌, ◌<◌, ◌≤◌, List, true, false, take, drop, length, map, slice_index, IfOk, IfErr, OnOk, OnErr};
+ghost use Rattle.std.specs.Prelude.{◌≡◌, ◌≢◌, ◌<◌, ◌≤◌, List, true, false, take, drop, length, map, slice_index, IfOk, IfErr, OnOk, OnErr};
 ghost use Rattle.tact_base.specs.declared.limits.TheConstants.{MOMENT_MAX};
 ghost use Rattle.tact_base.specs.Setup.{conits_of};
 ghost use Rattle.split_budget.specs.Budgets.{lent_to, returned_to};
@@ -29,7 +29,6 @@ impl Replica {
         requires other { to ≢ self.old.core.replica }
         requires firsts { length firsts.now ≡ self.old.core.setup.replicas }
         ensures goes_on { IfOk result (λ message. GoesOn self.old.core self.new.core moment (λ part. act.Send message)) }
-        ensures is { IfOk result (λ message. message ≡ next_message self.old.core (max moment self.old.core.counts.last) to firsts.now) }
         ensures due { IfOk result (λ message. (part : List Entry) → Stands part self.old.core
             → message ≡ message_of self.old.core.setup self.old.core.replica part (moment_at part moment) to firsts.now) }
         ensures same { IsSameReplica self.old.core self.new.core }
@@ -43,16 +42,6 @@ impl Replica {
         self.sends = self.sends.saturating_add(1);
         self.enter(moment);
         Ok(message)
-    }
-
-    /// The message that `send` would send now, of which it makes no entry. Want of memory is the only error.
-    pub fn message(&self, moment: u64, to: u32, firsts: &Numbers) -> Result<Message, NoMemory>
-        requires to { to < self.now.core.setup.replicas }
-        requires other { to ≢ self.now.core.replica }
-        requires firsts { length firsts.now ≡ self.now.core.setup.replicas }
-        ensures { IfOk result (λ message. message ≡ next_message self.now.core (max moment self.now.core.counts.last) to firsts.now) }
-    {
-        self.next_message(moment.max(self.last), to, firsts.items())
     }
 
     // The message that is sent at this moment, where these firsts are given.

@@ -48,6 +48,3 @@ returns-clause-due c =
     λ part stands.
     sent_is c
     ∙ sent_due part old stands may.kept.setup may.ok may.kept.places c.args.moment c.requires.moment c.args.to c.requires.to c.requires.other c.args.firsts.now
-
-pub returns-clause-is : goal.returns-clause-is
-returns-clause-is c = sent_is c
