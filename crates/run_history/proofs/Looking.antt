@@ -1,5 +1,5 @@
 -- The look keeps the history rule.
-use Rattle.std.proofs.Common.{◌≡◌, ℕ, List, All, slice_index, slice_set, refl, sym, subst}
+use Rattle.std.proofs.Common.{◌≡◌, ℕ, ◌<◌, List, All, slice_index, slice_set, refl, sym, subst, arith}
 use Rattle.std.proofs.lemmas.List.{set-get_or}
 use Rattle.std.proofs.lemmas.List.Elements.{All-weaker}
 use mathlib.Core.Option.{some}
@@ -67,6 +67,8 @@ module _ (setup : Setup) (words : List ℕ) (views : List View) (kept : IsOneHis
     fronts = fronts_after;
     parts = All-weaker (FitsPart words kept.seat_of history id view.seen) (λ (part : Part). part.pairs ≡ drawn_by history part.replica)
         (λ part fit. fit.drawn) view.parts fits.fitting;
+    among = All-weaker (FitsPart words kept.seat_of history id view.seen) (λ (part : Part). part.replica < setup.replicas)
+        (λ part fit. omega (arith, fit.born, kept.enrolled)) view.parts fits.fitting;
     apart = fits.apart;
     run = kept.run;
   }

@@ -1,5 +1,5 @@
 -- A seat that took in a note and then looked.
-use Rattle.std.proofs.Common.{◌≡◌, ℕ, List, [], ◌∷◌, ◌++◌, All, sym, ap, ◌∙◌, subst}
+use Rattle.std.proofs.Common.{◌≡◌, ℕ, ◌<◌, List, [], ◌∷◌, ◌++◌, All, sym, ap, ◌∙◌, subst}
 use Rattle.std.proofs.lemmas.List.{append-nil}
 use Rattle.std.proofs.lemmas.List.Elements.{All-head, All-tail}
 use Rattle.tact_base.specs.Setup.{Setup}
@@ -29,6 +29,11 @@ module _ (setup : Setup) (before other : View) (found : ℕ) (after : View) (not
 
   pub parts_after : after.parts ≡ before.parts
   parts_after = ap (λ (view : View). view.parts) looked.is ∙ both_parts
+
+  pub clerk_among : (replica : ℕ) → IsClerk replica before → replica < setup.replicas
+  clerk_among replica clerk =
+      let IsAmong : Part → Type 0 = λ part. part.replica < setup.replicas in
+      All-head IsAmong (part_with replica (first_pairs before.parts)) [] (subst (All IsAmong) (both_parts ∙ clerk.part) looked.among)
 
   pub clerk_after : (replica : ℕ) → IsClerk replica before → IsClerk replica after
   clerk_after replica clerk =

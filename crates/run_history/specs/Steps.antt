@@ -1,5 +1,5 @@
 -- What seats know, how views are cut and joined, and what the steps of the history table tell.
-use Rattle.std.specs.Prelude.{◌≡◌, ℕ, ◌+◌, true, false, nat_lt, if◌then◌else◌, List, [], ◌∷◌, ◌++◌, All, AllPairs, ◌≢◌, length}
+use Rattle.std.specs.Prelude.{◌≡◌, ℕ, ◌+◌, ◌<◌, true, false, nat_lt, if◌then◌else◌, List, [], ◌∷◌, ◌++◌, All, AllPairs, ◌≢◌, length}
 use Rattle.atomic_table.specs.Seated.{TableId}
 use Rattle.tact_base.specs.Setup.{Setup}
 use Rattle.run_model.specs.Histories.{part_of, IsPrefix}
@@ -95,6 +95,7 @@ pub record IsLooked (setup : Setup) (before : View) (found : ℕ) (after : View)
   pub front : IsPrefix before.seen after.seen
   pub fronts : All (λ old. IsPrefix old after.seen) before.olds
   pub parts : All (λ (part : Part). part.pairs ≡ drawn_by after.seen part.replica) before.parts
+  pub among : All (λ (part : Part). part.replica < setup.replicas) before.parts
   pub apart : AllPairs (λ (one other : Part). one.replica ≢ other.replica) before.parts
   pub run : IsRun setup after.seen
 

@@ -1,4 +1,4 @@
-ghost use Rattle.std.specs.Prelude.{◌≡◌, ◌∷◌, ◌++◌, []};
+ghost use Rattle.std.specs.Prelude.{◌≡◌, ◌<◌, ◌∷◌, ◌++◌, []};
 ghost use Rattle.run_model.specs.Histories.{part_of, IsPrefix};
 ghost use Rattle.run_model.specs.Runs.{IsDue, IsRun, WasSent};
 ghost use Rattle.run_history.specs.Steps.{part_with};
@@ -98,6 +98,7 @@ impl Clerk {
         requires note { note.table ≡ desk.now.table }
         ensures desk { self.new.table ≡ self.old.table }
         ensures replica { self.new.replica ≡ self.old.replica }
+        ensures among { self.new.replica < desk.now.setup.replicas }
         ensures drawn { self.new.pairs ≡ self.old.pairs }
         ensures mine { IsPrefix self.old.seen self.new.seen }
         ensures note { IsPrefix note.seen self.new.seen }

@@ -63,6 +63,7 @@ pub fn learn_as<T: Told>(table: &Table, seat: &mut Seat, note: Seat)
     requires note { IsNote note.me.0 }
     ensures seat { (seat.new.table_id ≡ seat.old.table_id) × (seat.new.me.1 ≡ seat.old.me.1) }
     ensures clerk { (replica : ℕ) → IsClerk replica seat.old.me.0 → IsClerk replica seat.new.me.0 }
+    ensures among { (replica : ℕ) → IsClerk replica seat.old.me.0 → replica < T.setup.replicas }
     ensures parts { seat.new.me.0.parts ≡ seat.old.me.0.parts }
     ensures seen { Meets T.setup seat.old.me.0 note.me.0 seat.new.me.0 }
 {

@@ -1,0 +1,7 @@
+//! Tests of nodes, with threads.
+#![tactic(auto)]
+
+#[cfg(test)]
+mod opened;
+#[cfg(test)]
+mod writers;

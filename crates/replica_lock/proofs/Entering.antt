@@ -1,0 +1,225 @@
+-- What stays true behind the lock when an entry is made.
+use Rattle.std.proofs.Common.{◌≡◌, ◌≢◌, ℕ, ◌+◌, ◌*◌, ◌<◌, ◌≤◌, ◌^◌, ◌==◌, true, false, cond, List, [], ◌∷◌, ◌++◌, drop, length, map, get_or, sum, sum_by, filter, refl, sym, ap, ◌∙◌, ⊎_elim, subst, IfOk, Result, arith}
+use Rattle.std.proofs.lemmas.Result.{IfOk-weaker}
+use Rattle.std.proofs.lemmas.Bool.{cases_eq, eq-eqb, ne_eqb}
+use Rattle.std.proofs.lemmas.List.{map-append, length_push, length-map, same_from_push}
+use Rattle.std.proofs.lemmas.List.Sums.{length-filter, count_by-le-length, sum_by_push}
+use Rattle.tact_base.specs.Setup.{Setup}
+use Rattle.tact_base.specs.declared.limits.TheConstants.{CLIENTS, HISTORY_MAX}
+use Rattle.run_model.specs.Histories.{part_of, calls_in, is_call_of, moment_at, IsPrefix}
+use Rattle.run_model.specs.Missing.{granted_by, used_by, granted_on, used_on, reserved}
+use Rattle.run_model.specs.Runs.{IsDue, IsRun, MayFollow}
+use Rattle.run_model.specs.declared.call.Reply.{Reply}
+use Rattle.run_model.specs.declared.call.Request.{Request}
+use Rattle.run_model.specs.declared.call.Request.TheVariants as request
+use Rattle.run_model.specs.declared.entry.Act.{Act}
+use Rattle.run_model.specs.declared.entry.Act.TheVariants as act
+use Rattle.run_model.specs.declared.entry.Entry.{Entry}
+use Rattle.run_model.proofs.PartLemmas.{calls_in-push, part_of-push_same}
+use Rattle.run_model.proofs.PrefixLemmas.{EachAfter-last, IsPrefix-trans}
+use Rattle.run_history.specs.Seats.{ClerkView}
+use Rattle.run_history.specs.Ticks.{entries_of}
+use Rattle.replica_core.specs.States.{Core}
+use Rattle.replica_core.specs.Stands.{Stands, GoesOn, IsSameReplica}
+use Rattle.replica_lock.specs.Locks.{HasDrawn, HasEntered, IsLocked, IsWriteOrRead, LockedView, made_place, one_more_at, part_in, turns_place}
+use Rattle.replica_lock.proofs.Totals.{counted, counted-places, counted-else, counted-turns, counted-made, sum_from-le}
+
+-- a call of a client
+abbrev pub call_entry : ℕ → ℕ → ℕ → ℕ → Request → Reply → Entry
+call_entry replica moment client number asked given = record { replica = replica; moment = moment; act = act.Call client number asked given }
+
+-- an entry that a replica goes on by is due
+pub goes_on-due : (setup : Setup) (part : List Entry) (entry : Entry) (core : Core)
+    → setup ≡ core.setup
+    → Stands (part ++ entry ∷ []) core
+    → IsDue setup part entry
+goes_on-due setup part entry core same stands =
+    subst (λ s. IsDue s part entry) (sym same) (EachAfter-last (MayFollow core.setup core.replica) part entry stands.is_part).1
+
+-- the call of a client, as its entry spells it
+pub spelled : (core : Core) (part : List Entry) (handed client : ℕ) (asked : Request) (given : Reply) (replica at number : ℕ)
+    → replica ≡ core.replica
+    → at ≡ moment_at part handed
+    → number ≡ calls_in part client
+    → call_entry core.replica (moment_at part handed) client (calls_in part client) asked given ≡ call_entry replica at client number asked given
+spelled core part handed client asked given replica at number replica_is at_is number_is = cc
+
+-- the replica stands for its part with the call
+pub stands-spelled : (before : LockedView) (new : Core) (handed client : ℕ) (asked : Request) (given : Reply) (replica at number : ℕ)
+    → IsLocked before
+    → GoesOn before.core new handed (λ part. act.Call client (calls_in part client) asked given)
+    → replica ≡ before.core.replica
+    → at ≡ moment_at (part_in before) handed
+    → number ≡ calls_in (part_in before) client
+    → Stands (part_in before ++ call_entry replica at client number asked given ∷ []) new
+stands-spelled before new handed client asked given replica at number kept goes replica_is at_is number_is =
+    subst (λ (e : Entry). Stands (part_in before ++ e ∷ []) new)
+    (spelled before.core (part_in before) handed client asked given replica at number replica_is at_is number_is)
+    (goes (part_in before) kept.stands)
+
+-- counts of a part are no more than its entries
+pub calls-few : (part : List Entry) (client : ℕ) → calls_in part client ≤ length part
+calls-few part client =
+    let test = λ (e : Entry). is_call_of client e.act in
+    omega (arith, length-filter test part, count_by-le-length test part)
+
+-- there is room for one more in the totals of a client
+pub has_room : (locked : LockedView) (client : ℕ)
+    → IsLocked locked
+    → client < CLIENTS
+    → length (part_in locked) < HISTORY_MAX
+    → (get_or locked.totals (turns_place locked.core.setup.conits client) 0 + 1 < 2 ^ 64)
+    × (get_or locked.totals (made_place locked.core.setup.conits client) 0 + 1 < 2 ^ 64)
+has_room locked client kept among few =
+    let size = length-map locked.stored (λ (pair : ℕ × Entry). pair.1) in (
+      omega (arith, kept.turns client among, calls-few (part_in locked) client, few),
+      omega (arith, sum_from-le (locked.core.setup.conits + CLIENTS) client locked.totals (omega (arith, kept.places, among)), kept.made, size, few),
+    )
+
+-- A client's call that neither reserves nor uses anything.
+pub record IsQuietCall (client : ℕ) (done : Act) : Type 0 where
+  pub calls : (one : ℕ) → is_call_of one done ≡ (client == one)
+  pub grants : (conit : ℕ) → granted_by conit done ≡ 0
+  pub uses : (conit : ℕ) → used_by conit done ≡ 0
+
+pub quiet-call : (client number : ℕ) (asked : Request) (given : Reply)
+    → IsWriteOrRead asked
+    → IsQuietCall client (act.Call client number asked given)
+quiet-call client number (request.Write weights op) given plain = record { calls = λ one. refl; grants = λ conit. refl; uses = λ conit. refl }
+quiet-call client number (request.Read key needs) given plain = record { calls = λ one. refl; grants = λ conit. refl; uses = λ conit. refl }
+quiet-call client number (request.Held weight op) given plain = elim plain [ ]
+quiet-call client number (request.Reserve conit amount) given plain = elim plain [ ]
+quiet-call client number (request.Release conit amount) given plain = elim plain [ ]
+
+-- a clerk's part with what it drew
+entries-push : (pairs : List (ℕ × Entry)) (tick : ℕ) (entry : Entry)
+    → entries_of (pairs ++ (tick, entry) ∷ []) ≡ entries_of pairs ++ entry ∷ []
+entries-push pairs tick entry = map-append (λ (pair : ℕ × Entry). pair.1) pairs ((tick, entry) ∷ [])
+
+-- One more entry of a client.
+module _ (before after : LockedView) (setup : Setup) (client : ℕ) (entry : Entry)
+    (kept : IsLocked before) (among : client < CLIENTS) (same : IsSameReplica before.core after.core)
+    (drawn : HasDrawn setup before.clerk after.clerk entry) (stored : after.stored ≡ after.clerk.pairs) where
+  pub part-after : part_in after ≡ part_in before ++ entry ∷ []
+  part-after =
+      ap entries_of (stored ∙ drawn.pairs) ∙ entries-push before.clerk.pairs (length drawn.front) entry
+      ∙ ap (λ pairs. entries_of pairs ++ entry ∷ []) kept.drawn
+
+  replica-after : after.clerk.replica ≡ after.core.replica
+  replica-after = drawn.replica ∙ kept.replica ∙ sym same.1
+
+  own-after : part_of after.clerk.seen after.core.replica ≡ part_in after
+  own-after = sym (ap (part_of after.clerk.seen) replica-after) ∙ drawn.own ∙ ap entries_of (sym stored)
+
+  pub IsLocked-call : IsQuietCall client entry.act
+      → Stands (part_in before ++ entry ∷ []) after.core
+      → after.totals ≡ counted before.core.setup.conits client before.totals kept.places among
+      → IsLocked after
+  IsLocked-call quiet stands totals =
+      let conits = before.core.setup.conits in
+      let width : after.core.setup.conits ≡ conits = ap (λ (s : Setup). s.conits) same.0 in
+      record {
+        replica = replica-after;
+        stands = subst (λ part. Stands part after.core) (sym part-after) stands;
+        drawn = sym stored;
+        own = own-after;
+        places = ap length totals ∙ counted-places conits client before.totals kept.places among ∙ ap (λ n. n + 2 * CLIENTS) (sym width);
+        allowances = λ conit within.
+            let here = counted-else conits client before.totals kept.places among conit (λ e. absurd (omega (arith, e, within, width))) (λ e. absurd (omega (arith, e, within, width))) in
+            let were = kept.allowances conit (omega (arith, within, width)) in
+            let grants = sum_by_push (λ (e : Entry). granted_by conit e.act) (part_in before) entry in
+            let uses = sum_by_push (λ (e : Entry). used_by conit e.act) (part_in before) entry in
+            let now : reserved (part_in before ++ entry ∷ []) conit ≡ reserved (part_in before) conit = omega (arith, grants, uses, quiet.grants conit, quiet.uses conit) in
+            ap (λ t. get_or t conit 0) totals ∙ here ∙ were ∙ sym now ∙ sym (ap (λ part. reserved part conit) part-after);
+        turns = λ one within. turns-after one within quiet totals width;
+        made =
+            ap (λ n. sum (drop (n + CLIENTS) after.totals)) width
+            ∙ ap (λ t. sum (drop (conits + CLIENTS) t)) totals
+            ∙ counted-made conits client before.totals kept.places among
+            ∙ ap (λ n. n + 1) kept.made
+            ∙ sym (ap length (stored ∙ drawn.pairs) ∙ length_push before.clerk.pairs (length drawn.front, entry) ∙ ap (λ pairs. length pairs + 1) kept.drawn);
+      }
+    where
+      turns-after : (one : ℕ)
+          → one < CLIENTS
+          → IsQuietCall client entry.act
+          → after.totals ≡ counted before.core.setup.conits client before.totals kept.places among
+          → after.core.setup.conits ≡ before.core.setup.conits
+          → get_or after.totals (turns_place after.core.setup.conits one) 0 ≡ calls_in (part_in after) one
+      turns-after one within quiet totals width =
+          let conits = before.core.setup.conits in
+          let moved : get_or after.totals (turns_place after.core.setup.conits one) 0 ≡ get_or (counted conits client before.totals kept.places among) (turns_place conits one) 0 =
+          ap (λ n. get_or after.totals (turns_place n one) 0) width ∙ ap (λ t. get_or t (turns_place conits one) 0) totals in
+          let pushed : calls_in (part_in after) one ≡ calls_in (part_in before) one + cond (client == one) 1 0 =
+          ap (λ part. calls_in part one) part-after ∙ calls_in-push (part_in before) entry one ∙ ap (λ b. calls_in (part_in before) one + cond b 1 0) (quiet.calls one) in
+          let were = kept.turns one within in
+          ⊎_elim
+          (λ (equal : one ≡ client).
+          let yes : (client == one) ≡ true = eq-eqb client one (sym equal) in
+          let step : calls_in (part_in after) one ≡ calls_in (part_in before) one + 1 = pushed ∙ ap (λ b. calls_in (part_in before) one + cond b 1 0) yes in
+          let here = ap (λ k. get_or (counted conits client before.totals kept.places among) (turns_place conits k) 0) equal ∙ counted-turns conits client before.totals kept.places among in
+          let again = ap (λ k. get_or before.totals (turns_place conits k) 0) equal in
+          omega (arith, moved, step, here, again, were))
+          (λ (other : one ≡ client → ⊥).
+          let no : (client == one) ≡ false = ne_eqb client one (λ e. other (sym e)) in
+          let step : calls_in (part_in after) one ≡ calls_in (part_in before) one + 0 = pushed ∙ ap (λ b. calls_in (part_in before) one + cond b 1 0) no in
+          let here = counted-else conits client before.totals kept.places among (turns_place conits one) (λ e. other (omega (arith, e))) (λ e. absurd (omega (arith, e, within))) in
+          omega (arith, moved, step, here, were))
+          (cases_eq one client)
+
+  -- what was seen before it has no other entry of the replica than those stored
+  pub HasEntered-drawn : entry.replica ≡ before.core.replica
+      → setup ≡ before.core.setup
+      → HasEntered before after before.clerk.seen entry
+  HasEntered-drawn replica setup_same =
+      let at : after.core.replica ≡ before.core.replica = same.1 in
+      let pushed = part_of-push_same drawn.front entry before.core.replica replica in
+      record {
+        front = drawn.front;
+        seen = drawn.seen;
+        mine = drawn.mine;
+        told = drawn.mine;
+        part = (same_from_push _ _ entry entry
+            (sym pushed ∙ sym (ap (λ h. part_of h before.core.replica) drawn.seen) ∙ ap (part_of after.clerk.seen) (sym at) ∙ own-after ∙ part-after)).0;
+        stored = stored ∙ drawn.pairs ∙ ap (λ pairs. pairs ++ (length drawn.front, entry) ∷ []) kept.drawn;
+        run = subst (λ s. IsRun s after.clerk.seen) setup_same drawn.run;
+      }
+
+-- a clerk that drew has seen what it had seen
+pub drawn-grows : (setup : Setup) (before after : ClerkView) (entry : Entry)
+    → HasDrawn setup before after entry
+    → IsPrefix before.seen after.seen
+drawn-grows setup before after entry drawn =
+    IsPrefix-trans before.seen drawn.front after.seen drawn.mine (entry ∷ [], drawn.seen)
+
+-- the same before the clerk learnt what a session had seen, of an entry that what it learnt doesn't change
+pub HasEntered-learnt : (before learnt after : LockedView) (known : List Entry) (entry : Entry)
+    → learnt ≡ record before { clerk = learnt.clerk }
+    → IsPrefix before.clerk.seen learnt.clerk.seen
+    → IsPrefix known learnt.clerk.seen
+    → HasEntered learnt after learnt.clerk.seen entry
+    → HasEntered before after known entry
+HasEntered-learnt before learnt after known entry value mine told entered =
+    let core : learnt.core ≡ before.core = ap (λ (v : LockedView). v.core) value in
+    let stored : learnt.stored ≡ before.stored = ap (λ (v : LockedView). v.stored) value in
+    record {
+      front = entered.front;
+      seen = entered.seen;
+      mine = IsPrefix-trans before.clerk.seen learnt.clerk.seen entered.front mine entered.mine;
+      told = IsPrefix-trans known learnt.clerk.seen entered.front told entered.mine;
+      part = sym (ap (λ (c : Core). part_of entered.front c.replica) core) ∙ entered.part ∙ ap entries_of stored;
+      stored = entered.stored ∙ ap (λ pairs. pairs ++ (length entered.front, entry) ∷ []) stored;
+      run = subst (λ (c : Core). IsRun c.setup after.clerk.seen) core entered.run;
+    }
+
+pub IfOk-learnt : {X F : Type 0} (result : Result X F) (before learnt after : LockedView) (known : List Entry) (entry_of : LockedView → X → Entry)
+    → learnt ≡ record before { clerk = learnt.clerk }
+    → ((x : X) → entry_of (record before { clerk = learnt.clerk }) x ≡ entry_of before x)
+    → IsPrefix before.clerk.seen learnt.clerk.seen
+    → IsPrefix known learnt.clerk.seen
+    → IfOk result (λ x. HasEntered learnt after learnt.clerk.seen (entry_of learnt x))
+    → IfOk result (λ x. HasEntered before after known (entry_of before x))
+IfOk-learnt result before learnt after known entry_of value same mine told entered =
+    IfOk-weaker result (λ x. HasEntered learnt after learnt.clerk.seen (entry_of learnt x)) (λ x. HasEntered before after known (entry_of before x))
+    (λ x at. subst (HasEntered before after known) (ap (λ v. entry_of v x) value ∙ same x) (HasEntered-learnt before learnt after known (entry_of learnt x) value mine told at))
+    entered

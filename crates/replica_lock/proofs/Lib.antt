@@ -1,0 +1,5 @@
+mod Totals
+mod Entering
+mod Seeing
+mod Turning
+mod Opening

@@ -1,0 +1,130 @@
+-- How nodes and sessions begin.
+use Rattle.std.proofs.Common.{◌≡◌, ◌≢◌, ℕ, ◌+◌, ◌-◌, ◌*◌, ◌<◌, ◌≤◌, List, [], ◌∷◌, ◌++◌, All, Contains, drop, length, replicate, get_or, sum, refl, sym, ap, ◌∙◌, subst, ⊎_elim, arith}
+use Rattle.std.proofs.lemmas.List.{drop-replicate, length-replicate, get_or-replicate, get_or-append-add}
+use Rattle.std.proofs.lemmas.List.Elements.{All-cons, All-nil, All-head, All-tail, Contains-push, Contains-append_left}
+use Rattle.std.proofs.lemmas.List.Folds.{sum_by-replicate}
+use Rattle.tact_base.specs.declared.limits.TheConstants.{CLIENTS, CONITS_MAX}
+use Rattle.run_model.specs.Histories.{part_of, calls_in}
+use Rattle.run_model.specs.Missing.{reserved}
+use Rattle.run_history.specs.Ticks.{entries_of}
+use Rattle.replica_core.specs.Stands.{Stands}
+use Rattle.weight_ledger.specs.Seen.{TallyView}
+use Rattle.weight_ledger.specs.Amounts.{zeros, all_owned, IsMoved, IsLeft}
+use Rattle.weight_ledger.proofs.Places.{get_or-zeros, length-zeros}
+use Rattle.replica_lock.specs.Locks.{IsLocked, LockedView, turns_place, made_place, part_in}
+use Rattle.replica_lock.specs.Rosters.{HasPlacesOf}
+use Rattle.replica_lock.specs.Sessions.{KeepsSession, SessionView}
+
+-- the value of a node that made no entry
+pub IsLocked-new : (locked : LockedView)
+    → locked.clerk.replica ≡ locked.core.replica
+    → Stands [] locked.core
+    → locked.clerk.pairs ≡ []
+    → locked.stored ≡ []
+    → part_of locked.clerk.seen locked.clerk.replica ≡ entries_of locked.clerk.pairs
+    → locked.totals ≡ zeros (locked.core.setup.conits + 2 * CLIENTS)
+    → IsLocked locked
+IsLocked-new locked replica stands drawn stored own totals =
+    let conits = locked.core.setup.conits in
+    let none : part_in locked ≡ [] = ap entries_of stored in
+    let rest = drop-replicate (conits + CLIENTS) (conits + 2 * CLIENTS) 0 in
+    let all = sum_by-replicate (λ (n : ℕ). n) (conits + 2 * CLIENTS - (conits + CLIENTS)) 0 in
+    record {
+      replica = replica;
+      stands = subst (λ part. Stands part locked.core) (sym none) stands;
+      drawn = drawn ∙ sym stored;
+      own = ap (part_of locked.clerk.seen) (sym replica) ∙ own ∙ ap entries_of (drawn ∙ sym stored);
+      places = ap length totals ∙ length-zeros (conits + 2 * CLIENTS);
+      allowances = λ conit within. ap (λ t. get_or t conit 0) totals ∙ get_or-zeros (conits + 2 * CLIENTS) conit ∙ sym (ap (λ part. reserved part conit) none);
+      turns = λ client within. ap (λ t. get_or t (turns_place conits client) 0) totals ∙ get_or-zeros (conits + 2 * CLIENTS) (turns_place conits client) ∙ sym (ap (λ part. calls_in part client) none);
+      made = ap (λ t. sum (drop (conits + CLIENTS) t)) totals ∙ ap sum rest ∙ omega (arith, all) ∙ sym (ap length stored);
+    }
+
+-- a client's places in the first tally
+pub places-first : (conits client : ℕ) (tally : TallyView)
+    → client < CLIENTS
+    → tally.amounts ≡ zeros (conits + 2 * CLIENTS)
+    → tally.owns ≡ all_owned conits (2 * CLIENTS)
+    → HasPlacesOf conits client tally
+places-first conits client tally among amounts owns =
+    let owned = λ (i : ℕ) (within : i < 2 * CLIENTS).
+    ap (λ t. get_or t (conits + i) 0) owns
+    ∙ ap (λ n. get_or (all_owned conits (2 * CLIENTS)) (n + i) 0) (sym (length-zeros conits))
+    ∙ get_or-append-add (zeros conits) (replicate (2 * CLIENTS) 1) i 0
+    ∙ get_or-replicate (2 * CLIENTS) i 1 0 within in
+    record {
+      owns_turns = λ none. absurd (omega (arith, owned client (omega (arith, among)), none));
+      owns_made = λ none. absurd (omega (arith, owned (CLIENTS + client) (omega (arith, among)), ap (λ n. get_or tally.owns n 0) (sum-split conits client), none));
+      turns = ap (λ t. get_or t (turns_place conits client) 0) amounts ∙ get_or-zeros (conits + 2 * CLIENTS) (turns_place conits client);
+      made = ap (λ t. get_or t (made_place conits client) 0) amounts ∙ get_or-zeros (conits + 2 * CLIENTS) (made_place conits client);
+    }
+  where
+    sum-split : (n i : ℕ) → n + (CLIENTS + i) ≡ n + CLIENTS + i
+    sum-split n i = omega arith
+
+-- a client's places are its own: what moves there goes to it alone
+module _ (conits client : ℕ) (before left gone : TallyView) where
+  abbrev pub own_places : List ℕ
+  own_places = turns_place conits client ∷ made_place conits client ∷ []
+
+  pub owns-both : HasPlacesOf conits client before → All (λ p. get_or before.owns p 0 ≢ 0) own_places
+  owns-both has =
+      All-cons (λ p. get_or before.owns p 0 ≢ 0) _ (made_place conits client ∷ []) has.owns_turns (All-cons (λ p. get_or before.owns p 0 ≢ 0) _ [] has.owns_made (All-nil (λ p. get_or before.owns p 0 ≢ 0)))
+
+  pub places-moved : HasPlacesOf conits client before
+      → All (IsMoved before left gone) own_places
+      → HasPlacesOf conits client gone
+  places-moved has moved =
+      let turns = All-head (IsMoved before left gone) _ (made_place conits client ∷ []) moved in
+      let made = All-head (IsMoved before left gone) _ [] (All-tail (IsMoved before left gone) _ (made_place conits client ∷ []) moved) in
+      record {
+        owns_turns = λ none. has.owns_turns (sym turns.got ∙ none);
+        owns_made = λ none. has.owns_made (sym made.got ∙ none);
+        turns = turns.all ∙ has.turns;
+        made = made.all ∙ has.made;
+      }
+
+  pub places-left : (other : ℕ)
+      → other < CLIENTS
+      → client < CLIENTS
+      → other ≢ client
+      → ((p : ℕ) → All (λ q. q ≢ p) own_places → IsLeft before left gone p)
+      → HasPlacesOf conits other before
+      → HasPlacesOf conits other left
+  places-left other among client_among apart others has =
+      let away : (p : ℕ) → turns_place conits client ≢ p → made_place conits client ≢ p → IsLeft before left gone p =
+      λ p not_turns not_made. others p (All-cons (λ q. q ≢ p) _ (made_place conits client ∷ []) not_turns (All-cons (λ q. q ≢ p) _ [] not_made (All-nil (λ q. q ≢ p)))) in
+      let turns = away (turns_place conits other) (λ e. apart (omega (arith, e))) (λ e. absurd (omega (arith, e, among))) in
+      let made = away (made_place conits other) (λ e. absurd (omega (arith, e, client_among))) (λ e. apart (omega (arith, e))) in
+      record {
+        owns_turns = λ none. has.owns_turns (sym turns.kept ∙ none);
+        owns_made = λ none. has.owns_made (sym made.kept ∙ none);
+        turns = turns.all ∙ has.turns;
+        made = made.all ∙ has.made;
+      }
+
+-- a session that begins
+pub KeepsSession-new : (session : SessionView) (tally : TallyView)
+    → session.client < CLIENTS
+    → session.conits ≤ CONITS_MAX
+    → session.calls ≡ 0
+    → session.made ≡ 0
+    → part_of session.seen session.replica ≡ []
+    → HasPlacesOf session.conits session.client tally
+    → KeepsSession session tally
+KeepsSession-new session tally among few calls made none has = record {
+  among = among;
+  few = few;
+  owns_turns = has.owns_turns;
+  owns_made = has.owns_made;
+  turns = has.turns ∙ sym calls;
+  made = has.made ∙ sym made;
+  calls = ap (λ part. calls_in part session.client) none ∙ sym calls;
+}
+
+-- who isn't in a list with one more isn't that one, and wasn't in the list
+pub not_itself : (clients : List ℕ) (client other : ℕ) → (Contains (clients ++ client ∷ []) other → ⊥) → other ≢ client
+not_itself clients client other out same = out (subst (Contains (clients ++ client ∷ [])) (sym same) (Contains-push clients client))
+
+pub not_before : (clients : List ℕ) (client other : ℕ) → (Contains (clients ++ client ∷ []) other → ⊥) → Contains clients other → ⊥
+not_before clients client other out before = out (Contains-append_left clients (client ∷ []) other before)

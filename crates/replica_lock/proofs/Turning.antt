@@ -1,0 +1,51 @@
+-- What a turn knows of a session of its node.
+use Rattle.std.proofs.Common.{◌≡◌, ◌≢◌, ℕ, ◌+◌, List, slice_index, sym, ap, ◌∙◌}
+use Rattle.tact_base.specs.Setup.{Setup}
+use Rattle.run_model.specs.Histories.{part_of, calls_in}
+use Rattle.run_model.specs.declared.entry.Entry.{Entry}
+use Rattle.atomic_table.specs.Seated.{TableId}
+use Rattle.run_history.specs.Seats.{DeskView}
+use Rattle.weight_ledger.specs.Seen.{HeldView, TallyView}
+use Rattle.replica_lock.specs.Locks.{IsLocked, LockedView, part_in, turns_place}
+use Rattle.replica_lock.specs.Nodes.{KeepsTurn, label_of}
+use Rattle.replica_lock.specs.Sessions.{IsSessionOf, KeepsSession, NodeView, SessionView}
+use Rattle.replica_lock.specs.declared.label.Label.{Label}
+
+-- the session's replica and turns are those of the value behind the lock
+pub record Tells (node : NodeView) (locked : LockedView) (session : SessionView) : Type 0 where
+  pub setup : node.desk.setup ≡ locked.core.setup
+  pub replica : session.replica ≡ locked.core.replica
+  pub calls : session.calls ≡ calls_in (part_in locked) session.client
+  pub known : calls_in (part_of session.seen session.replica) session.client ≡ session.calls
+
+pub tells : (node : NodeView) (held : HeldView Label) (locked : LockedView) (session : SessionView) (tally : TallyView)
+    → KeepsTurn node held locked
+    → IsLocked locked
+    → IsSessionOf node session
+    → KeepsSession session tally
+    → ((p : ℕ) → slice_index tally.owns p ≢ 0 → slice_index held.book p ≡ slice_index tally.amounts p)
+    → Tells node locked session
+tells node held locked session tally turn kept of keeps agrees =
+    let setup : node.desk.setup ≡ locked.core.setup = sym (ap (λ (d : DeskView). d.setup) (ap (λ (l : Label). l.desk) turn.label ∙ turn.keeps.desk_is)) in
+    let place = turns_place session.conits session.client in
+    record {
+      setup = setup;
+      replica = of.replica ∙ sym turn.replica ∙ sym (ap (λ (l : Label). l.replica) turn.label);
+      calls =
+          sym keeps.turns ∙ sym (agrees place keeps.owns_turns) ∙ sym (ap (λ t. slice_index t place) turn.totals)
+          ∙ ap (λ n. slice_index locked.totals (turns_place n session.client)) (of.conits ∙ ap (λ (s : Setup). s.conits) setup)
+          ∙ kept.turns session.client keeps.among;
+      known = keeps.calls;
+    }
+
+-- a session's view, part by part
+pub session_as : (replica conits client calls made : ℕ) (cell cell_as desk desk_as : TableId) (seen seen_as : List Entry)
+    → cell ≡ cell_as
+    → desk ≡ desk_as
+    → seen ≡ seen_as
+    → (let view : SessionView = record { cell = cell; desk = desk; conits = conits; replica = replica; client = client; calls = calls; made = made; seen = seen } in
+    view ≡ record { cell = cell_as; desk = desk_as; conits = conits; replica = replica; client = client; calls = calls; made = made; seen = seen_as })
+session_as replica conits client calls made cell cell_as desk desk_as seen seen_as cell_is desk_is seen_is =
+    ap (λ x. record { cell = x; desk = desk; conits = conits; replica = replica; client = client; calls = calls; made = made; seen = seen }) cell_is
+    ∙ ap (λ x. record { cell = cell_as; desk = x; conits = conits; replica = replica; client = client; calls = calls; made = made; seen = seen }) desk_is
+    ∙ ap (λ x. record { cell = cell_as; desk = desk_as; conits = conits; replica = replica; client = client; calls = calls; made = made; seen = x }) seen_is

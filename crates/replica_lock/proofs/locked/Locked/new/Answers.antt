@@ -1,0 +1,14 @@
+use Rattle.std.proofs.Common.{rules, ◌≡◌, ◌+◌, ◌*◌, [], refl, sym, ap, ◌∙◌, subst}
+use Rattle.tact_base.specs.Setup.{Setup}
+use Rattle.tact_base.specs.declared.limits.TheConstants.{CLIENTS}
+use Rattle.weight_ledger.specs.Amounts.{zeros}
+use Rattle.replica_lock.proofs.Opening.{IsLocked-new}
+use Rattle.replica_lock.proofs.locked.Locked.new.Goals as goal
+
+pub invariant_of-result : goal.invariant_of-result
+invariant_of-result c =
+    let conits = c.conits-conits.ensures.count ∙ ap (λ (s : Setup). s.conits) (sym c.in-Ok.ensures.setup.0) in (
+      IsLocked-new _ (sym (c.in-Ok.ensures.setup.1 ∙ c.replica-number.ensures.replica)) c.in-Ok.ensures.stands c.requires.drawn c.new-2.ensures c.replica-number.ensures.own
+          (c.in-Ok-zeros.ensures ∙ ap (λ n. zeros (n + 2 * CLIENTS)) conits),
+      conits,
+    )

@@ -1,0 +1,17 @@
+-- Why a node made no entry.
+use Rattle.std.specs.Prelude.{◌≡◌, true, false}
+use Rattle.replica_core.specs.States.{Core, is_full}
+use Rattle.replica_core.specs.declared.fault.CoreFault.{CoreFault}
+use Rattle.replica_core.specs.declared.fault.CoreFault.TheVariants as core_fault
+use Rattle.replica_lock.specs.declared.fault.NodeFault.{NodeFault}
+use Rattle.replica_lock.specs.declared.fault.NodeFault.TheVariants as fault
+
+-- a fault of a replica, as its node's
+abbrev pub node_fault : CoreFault → NodeFault
+node_fault (core_fault.Full count clock) = fault.Full count clock
+node_fault core_fault.NoMemory = fault.NoMemory
+
+-- full, with both numbers, exactly where the replica is full
+abbrev pub IsNodeFaultOf : Core → NodeFault → Type 0
+IsNodeFaultOf core (fault.Full count clock) = (is_full core ≡ true) × (count ≡ core.counts.count) × (clock ≡ core.writes.clock)
+IsNodeFaultOf core fault.NoMemory = is_full core ≡ false

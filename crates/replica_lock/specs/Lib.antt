@@ -1,0 +1,5 @@
+pub mod Faults
+pub mod Locks
+pub mod Sessions
+pub mod Nodes
+pub mod Rosters

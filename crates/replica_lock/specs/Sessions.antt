@@ -1,0 +1,105 @@
+-- What contracts see of nodes, of turns and of sessions, and what a session has seen after a call.
+use Rattle.std.specs.Prelude.{◌≡◌, ◌≢◌, ℕ, ◌+◌, ◌*◌, ◌<◌, ◌≤◌, List, [], ◌∷◌, ◌++◌, filter, length, slice_index}
+use Rattle.atomic_table.specs.Seated.{TableId}
+use Rattle.tact_base.specs.Setup.{Setup}
+use Rattle.tact_base.specs.declared.limits.TheConstants.{CLIENTS, CONITS_MAX, HISTORY_MAX}
+use Rattle.run_model.specs.Histories.{part_of, calls_in, is_call_of, moment_at, IsPrefix}
+use Rattle.run_model.specs.Promises.{IsKept}
+use Rattle.run_model.specs.Replies.{reply_of}
+use Rattle.run_model.specs.Runs.{IsRun}
+use Rattle.run_model.specs.Taking.{clock}
+use Rattle.run_model.specs.declared.call.Reply.{Reply}
+use Rattle.run_model.specs.declared.call.Request.{Request}
+use Rattle.run_model.specs.declared.entry.Act.TheVariants as act
+use Rattle.run_model.specs.declared.entry.Entry.{Entry}
+use Rattle.run_history.specs.Seats.{DeskView}
+use Rattle.weight_ledger.specs.Seen.{TallyView}
+use Rattle.replica_lock.specs.Locks.{LockedView, turns_place, made_place}
+use Rattle.replica_lock.specs.declared.fault.NodeFault.{NodeFault}
+use Rattle.replica_lock.specs.declared.fault.NodeFault.TheVariants as fault
+
+-- which cell a node has, its desk with the setup, and its replica
+pub record NodeView : Type 0 where
+  pub cell : TableId
+  pub desk : DeskView
+  pub replica : ℕ
+
+-- the node whose lock a turn holds, and what stands behind the lock
+pub record TurnView : Type 0 where
+  pub node : NodeView
+  pub state : LockedView
+
+-- Which node a session is of (its cell, the table of its desk, the count of its conits, its replica), which client it has, its turns and
+-- the entries made for it, and what it has seen of the history.
+pub record SessionView : Type 0 where
+  pub cell : TableId
+  pub desk : TableId
+  pub conits : ℕ
+  pub replica : ℕ
+  pub client : ℕ
+  pub calls : ℕ
+  pub made : ℕ
+  pub seen : List Entry
+
+-- a session is of a node
+pub record IsSessionOf (node : NodeView) (session : SessionView) : Type 0 where
+  pub cell : session.cell ≡ node.cell
+  pub desk : session.desk ≡ node.desk.table
+  pub conits : session.conits ≡ node.desk.setup.conits
+  pub replica : session.replica ≡ node.replica
+
+-- the calls of a client that a history has at a replica
+abbrev pub calls_of : List Entry → ℕ → ℕ → List Entry
+calls_of history replica client = filter (λ entry. is_call_of client entry.act) (part_of history replica)
+
+-- the calls of a session's client that it has seen
+abbrev pub own_calls : SessionView → List Entry
+own_calls session = calls_of session.seen session.replica session.client
+
+-- What a session's tally keeps: it owns the places of its client's turns and of the entries made for it, with these numbers there; and
+-- its turns are the calls of its client that it has seen.
+pub record KeepsSession (session : SessionView) (tally : TallyView) : Type 0 where
+  pub among : session.client < CLIENTS
+  pub few : session.conits ≤ CONITS_MAX
+  pub owns_turns : slice_index tally.owns (turns_place session.conits session.client) ≢ 0
+  pub owns_made : slice_index tally.owns (made_place session.conits session.client) ≢ 0
+  pub turns : slice_index tally.amounts (turns_place session.conits session.client) ≡ session.calls
+  pub made : slice_index tally.amounts (made_place session.conits session.client) ≡ session.made
+  pub calls : calls_in (part_of session.seen session.replica) session.client ≡ session.calls
+
+-- a call of a client, as the entry that follows a front of the history
+abbrev pub call_after : SessionView → List Entry → ℕ → Request → Reply → Entry
+call_after session front moment asked given = record {
+  replica = session.replica;
+  moment = moment_at (part_of front session.replica) moment;
+  act = act.Call session.client session.calls asked given;
+}
+
+-- What a session has seen after a call of its client that was answered: a run that keeps its promises, begins with all that the session
+-- had seen and ends with this call, whose reply is the one that is due there. Of the client's calls it has those that the session had
+-- seen, followed by this one.
+pub record HasCalled (setup : Setup) (before after : SessionView) (moment : ℕ) (asked : Request) (given : Reply) : Type 0 where
+  pub front : List Entry
+  pub seen : after.seen ≡ front ++ call_after before front moment asked given ∷ []
+  pub told : IsPrefix before.seen front
+  pub due : given ≡ reply_of setup before.replica (part_of front before.replica) (moment_at (part_of front before.replica) moment) asked
+  pub calls : own_calls after ≡ own_calls before ++ call_after before front moment asked given ∷ []
+  pub run : IsRun setup after.seen
+  pub promised : IsKept setup after.seen
+  pub counts : after ≡ record before { calls = before.calls + 1; made = before.made + 1; seen = after.seen }
+
+-- What a session has seen after a call that was refused: a run that begins with all that it had seen, and has the same calls of the
+-- client.
+pub record HasHeard (setup : Setup) (before after : SessionView) : Type 0 where
+  pub value : after ≡ record before { seen = after.seen }
+  pub told : IsPrefix before.seen after.seen
+  pub calls : own_calls after ≡ own_calls before
+  pub run : IsRun setup after.seen
+  pub promised : IsKept setup after.seen
+
+-- what a refusal says of what its session has seen: full, where the replica made as many entries as it may, with both numbers
+abbrev pub IsFaultSeen : SessionView → NodeFault → Type 0
+IsFaultSeen session (fault.Full count stamp) =
+    let part = part_of session.seen session.replica in
+    (length part ≡ HISTORY_MAX) × (count ≡ HISTORY_MAX) × (stamp ≡ clock part)
+IsFaultSeen session fault.NoMemory = Unit {0}

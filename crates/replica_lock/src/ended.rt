@@ -1,0 +1,37 @@
+use run_history::Clerk;
+use run_model::Entry;
+use std::marker::Model;
+use tact_base::RoomyList;
+
+/// The entries that a node stored, each with its tick.
+#[derive(Drop)]
+pub struct Stored {
+    pub(crate) pairs: RoomyList<(u64, Entry)>,
+}
+
+impl Model for Stored {
+    ghost use Rattle.std.specs.Prelude.{ℕ, List};
+    ghost use Rattle.run_model.specs.declared.entry.Entry.{Entry};
+
+    ghost Value = { List (ℕ × Entry) };
+
+    ghost view = { λ s. s.pairs.items };
+}
+
+impl Stored {
+    ghost use Rattle.std.specs.Prelude.{◌≡◌, length};
+
+    /// The entries with their ticks, in the order in which they were drawn.
+    pub fn pairs(&self) -> &[(u64, Entry)]
+        ensures { result.now ≡ self.now }
+    {
+        self.pairs.items()
+    }
+}
+
+/// What a node leaves: the clerk, with its part of the history, and the entries that it stored.
+#[derive(Drop)]
+pub struct Ended {
+    pub clerk: Clerk,
+    pub stored: Stored,
+}

@@ -1,0 +1,347 @@
+//! The value behind a node's lock, and the entries that are made with it.
+ghost use Rattle.std.specs.Prelude.{[], ◌≡◌, ◌+◌, ◌*◌, ◌<◌, ◌≤◌, ◌^◌, true, false, length, slice_index, IfOk, IfErr, IsOk, OnErr, OnOk};
+ghost use Rattle.tact_base.specs.declared.limits.TheConstants.{CLIENTS, MOMENT_MAX};
+ghost use Rattle.run_model.specs.Histories.{moment_at, calls_in, IsPrefix};
+ghost use Rattle.run_model.specs.Ranges.{IsRequestInRange};
+ghost use Rattle.run_model.specs.Runs.{IsDue, IsRun, WasSent};
+ghost use Rattle.run_model.specs.declared.entry.Act.TheVariants as act;
+ghost use Rattle.run_history.specs.Ticks.{entries_of};
+ghost use Rattle.replica_core.specs.States.{is_full};
+ghost use Rattle.weight_ledger.specs.Amounts.{zeros};
+ghost use Rattle.replica_lock.specs.Faults.{IsNodeFaultOf};
+ghost use Rattle.replica_lock.specs.declared.fault.NodeFault.TheVariants as fault;
+ghost use Rattle.replica_lock.specs.Locks.{HasDrawn, HasEntered, IsLocked, IsOfDesk, IsWriteOrRead, made_place, one_more_at, part_in, turns_place};
+
+use crate::label::Label;
+use crate::{NewFault, NodeFault};
+use replica_core::Replica;
+use run_history::{Clerk, Desk, Note};
+use run_model::{Act, Config, Entry, Reply, Request};
+use std::alloc::{AllocError, Global};
+use std::marker::Model;
+use tact_base::{CLIENTS, HISTORY_MAX, RoomyList, STAMP_MAX};
+use weight_ledger::Counted;
+
+/// The value behind a node's lock: its replica, the clerk that draws the replica's entries, the entries that were drawn
+/// with their ticks, and the totals by place that tallies outside add up.
+#[derive(Drop)]
+pub struct Locked {
+    replica: Replica,
+    clerk: Clerk,
+    stored: RoomyList<(u64, Entry)>,
+    conits: u32,
+    totals: Vec<u64>,
+}
+
+impl Model for Locked {
+    ghost use Rattle.std.specs.Prelude.{◌≡◌};
+    ghost use Rattle.replica_lock.specs.Locks.{IsLocked, LockedView};
+
+    ghost Value = { LockedView };
+
+    ghost view = { λ l. record {
+      core = l.replica.core;
+      clerk = l.clerk;
+      stored = l.stored.items;
+      totals = l.totals.items;
+      spare = l.replica.spare;
+      room = l.stored.room;
+    } };
+
+    ghost invariant = { λ l. IsLocked (view l) × (l.conits ≡ l.replica.core.setup.conits) };
+}
+
+impl Counted for Locked {
+    type Label = Label;
+
+    ghost use Rattle.replica_lock.specs.Nodes.{label_of};
+
+    ghost label = { label_of };
+
+    ghost totals = { λ locked. locked.totals };
+}
+
+impl Locked {
+    /// The value of a node that made no entry.
+    pub fn new(alloc: Global, config: &Config, clerk: Clerk) -> Result<Locked, NewFault>
+        requires among { clerk.replica < config.now.replicas }
+        requires drawn { clerk.pairs ≡ [] }
+        ensures core { IfOk result (λ made. (made.core.setup ≡ config.now) × (made.core.replica ≡ clerk.replica)) }
+        ensures clerk { IfOk result (λ made. made.clerk ≡ clerk) }
+        ensures totals { IfOk result (λ made. made.totals ≡ zeros (config.now.conits + 2 * CLIENTS)) }
+        ensures refused { IfErr result (λ fault. fault.clerk ≡ clerk) }
+    {
+        let number = clerk.replica();
+        let conits = config.conits();
+        let Ok(replica) = Replica::new(alloc, config, number) else {
+            return Err(NewFault { clerk });
+        };
+        let Ok(totals) = zeros(alloc, conits as usize + 2 * CLIENTS as usize) else {
+            return Err(NewFault { clerk });
+        };
+        Ok(Locked {
+            replica,
+            clerk,
+            stored: RoomyList::new(alloc),
+            conits,
+            totals,
+        })
+    }
+
+    /// The clerk, where the value isn't needed any more.
+    pub fn into_clerk(self) -> Clerk
+        ensures { result ≡ self.clerk }
+    {
+        let Locked { clerk, .. } = self;
+        clerk
+    }
+
+    // What it keeps.
+    pub fn stand(&self)
+        ensures { IsLocked self.now }
+    {
+        let _ = &self.conits;
+    }
+
+    /// Answers a call of a client that writes or reads, for a session that has seen what a note has. The clerk learns the
+    /// note; where it isn't refused the call is drawn and stored; then the note sees what the clerk has seen.
+    pub fn call(
+        &mut self,
+        desk: &Desk,
+        note: &mut Note,
+        moment: u64,
+        client: u32,
+        request: Request,
+    ) -> Result<Reply, NodeFault>
+        requires desk { IsOfDesk desk.now self.old }
+        requires note { note.old.table ≡ desk.now.table }
+        requires moment { moment ≤ MOMENT_MAX }
+        requires client { client < CLIENTS }
+        requires in_range { IsRequestInRange self.old.core.setup request }
+        requires plain { IsWriteOrRead request }
+        ensures kept { IsLocked self.new }
+        ensures label { (self.new.core.setup ≡ self.old.core.setup) × (self.new.core.replica ≡ self.old.core.replica) × (self.new.clerk.table ≡ self.old.clerk.table) }
+        ensures note { (note.new.table ≡ note.old.table) × (note.new.seen ≡ self.new.clerk.seen) }
+        ensures run { IsRun desk.now.setup note.new.seen }
+        ensures entered { IfOk result (λ reply. HasEntered self.old self.new note.old.seen (record {
+          replica = self.old.core.replica;
+          moment = moment_at (part_in self.old) moment;
+          act = act.Call client (calls_in (part_in self.old) client) request reply;
+        })) }
+        ensures rooms { OnOk result ((slice_index self.old.totals (turns_place self.old.core.setup.conits client) + 1 < 2 ^ 64) × (slice_index self.old.totals (made_place self.old.core.setup.conits client) + 1 < 2 ^ 64)) }
+        ensures totals { OnOk result (self.new.totals ≡ one_more_at (made_place self.old.core.setup.conits client) (one_more_at (turns_place self.old.core.setup.conits client) self.old.totals)) }
+        ensures spare { self.old.spare ≤ self.new.spare + 1 }
+        ensures room { self.old.room ≤ self.new.room + 1 }
+        ensures enough { is_full self.old.core ≡ false → 0 < self.old.spare → 0 < self.old.room → IsOk result }
+        ensures fault { IfErr result (IsNodeFaultOf self.old.core) }
+        ensures err { OnErr result ((self.new.core ≡ self.old.core) × (self.new.stored ≡ self.old.stored) × (self.new.totals ≡ self.old.totals)) }
+        ensures learnt { IsPrefix self.old.clerk.seen note.new.seen × IsPrefix note.old.seen note.new.seen }
+    {
+        self.learn(desk, note);
+        let answer = self.enter_call(desk, moment, client, request);
+        self.tell(desk, note);
+        answer
+    }
+}
+
+impl Locked {
+    /// Makes room for so many own writes and stored entries. Want of memory is its only error.
+    pub fn make_room(&mut self, count: u64) -> Result<(), NodeFault>
+        ensures kept { IsLocked self.new }
+        ensures value { self.new ≡ record self.old { spare = self.new.spare; room = self.new.room } }
+        ensures room { OnOk result ((count ≤ self.new.spare) × (count ≤ self.new.room)) }
+        ensures no_less { (self.old.spare ≤ self.new.spare) × (self.old.room ≤ self.new.room) }
+        ensures fault { IfErr result (λ told. told ≡ fault.NoMemory) }
+    {
+        self.stored.reserve(count)?;
+        self.replica.reserve(count)?;
+        Ok(())
+    }
+
+    /// The clerk learns what two notes have seen, of which the first then sees what the clerk has seen.
+    pub fn hear(&mut self, desk: &Desk, note: &mut Note, mut other: Note)
+        requires desk { IsOfDesk desk.now self.old }
+        requires note { note.old.table ≡ desk.now.table }
+        requires other { other.table ≡ desk.now.table }
+        ensures kept { IsLocked self.new }
+        ensures value { self.new ≡ record self.old { clerk = record self.old.clerk { seen = self.new.clerk.seen } } }
+        ensures note { (note.new.table ≡ note.old.table) × (note.new.seen ≡ self.new.clerk.seen) }
+        ensures run { IsRun desk.now.setup note.new.seen }
+        ensures learnt { IsPrefix self.old.clerk.seen note.new.seen × IsPrefix note.old.seen note.new.seen }
+        ensures heard { IsPrefix other.seen note.new.seen }
+    {
+        self.learn(desk, note);
+        self.learn(desk, &mut other);
+        self.tell(desk, note);
+    }
+
+    /// The clerk and the stored entries, where the node ends.
+    pub fn into_parts(self) -> (Clerk, RoomyList<(u64, Entry)>)
+        ensures clerk { result.0 ≡ self.clerk }
+        ensures stored { result.1.items ≡ self.stored }
+        ensures kept { IsLocked self }
+    {
+        let Locked { clerk, stored, .. } = self;
+        (clerk, stored)
+    }
+
+    // The clerk learns what a note has seen.
+    fn learn(&mut self, desk: &Desk, note: &mut Note)
+        requires desk { IsOfDesk desk.now self.old }
+        requires note { note.old.table ≡ desk.now.table }
+        ensures kept { IsLocked self.new }
+        ensures note { note.new ≡ note.old }
+        ensures value { self.new ≡ record self.old { clerk = self.new.clerk } }
+        ensures clerk { self.new.clerk ≡ record self.old.clerk { seen = self.new.clerk.seen } }
+        ensures mine { IsPrefix self.old.clerk.seen self.new.clerk.seen }
+        ensures told { IsPrefix note.old.seen self.new.clerk.seen }
+        ensures run { IsRun desk.now.setup self.new.clerk.seen }
+    {
+        self.clerk.learn(desk, note.twin(desk));
+    }
+
+    // A note sees what the clerk has seen.
+    fn tell(&mut self, desk: &Desk, note: &mut Note)
+        requires { self.old.clerk.table ≡ desk.now.table }
+        ensures value { self.new ≡ self.old }
+        ensures note { note.new ≡ record { table = desk.now.table; seen = self.old.clerk.seen } }
+    {
+        *note = self.clerk.note(desk);
+    }
+}
+
+impl Locked {
+    // Whether an entry may follow.
+    fn may_enter(&self) -> Result<(), NodeFault>
+        ensures ok { OnOk result (is_full self.now.core ≡ false) }
+        ensures err { OnErr result (is_full self.now.core ≡ true) }
+        ensures fault { IfErr result (IsNodeFaultOf self.now.core) }
+    {
+        let count = self.replica.count();
+        let clock = self.replica.clock();
+        if count >= HISTORY_MAX || clock >= STAMP_MAX {
+            return Err(NodeFault::Full { count, clock });
+        }
+        Ok(())
+    }
+
+    // The number of its replica.
+    fn replica_number(&self) -> u32
+        ensures { result ≡ self.now.core.replica }
+    {
+        self.clerk.replica()
+    }
+
+    // The moment of an entry that is made now, where this one is handed.
+    fn moment_after(&self, handed: u64) -> u64
+        ensures { result ≡ moment_at (part_in self.now) handed }
+    {
+        handed.max(self.replica.last())
+    }
+
+    // How many calls of a client its part has.
+    fn calls_of(&self, client: u32) -> u64
+        requires { client < CLIENTS }
+        ensures { result ≡ calls_in (part_in self.now) client }
+    {
+        self.replica.calls(client)
+    }
+
+    // Answers a call of a client that writes or reads.
+    fn enter_call(
+        &mut self,
+        desk: &Desk,
+        moment: u64,
+        client: u32,
+        request: Request,
+    ) -> Result<Reply, NodeFault>
+        requires desk { IsOfDesk desk.now self.old }
+        requires moment { moment ≤ MOMENT_MAX }
+        requires client { client < CLIENTS }
+        requires in_range { IsRequestInRange self.old.core.setup request }
+        requires plain { IsWriteOrRead request }
+        ensures kept { IsLocked self.new }
+        ensures label { (self.new.core.setup ≡ self.old.core.setup) × (self.new.core.replica ≡ self.old.core.replica) × (self.new.clerk.table ≡ self.old.clerk.table) }
+        ensures entered { IfOk result (λ reply. HasEntered self.old self.new self.old.clerk.seen (record {
+          replica = self.old.core.replica;
+          moment = moment_at (part_in self.old) moment;
+          act = act.Call client (calls_in (part_in self.old) client) request reply;
+        })) }
+        ensures rooms { OnOk result ((slice_index self.old.totals (turns_place self.old.core.setup.conits client) + 1 < 2 ^ 64) × (slice_index self.old.totals (made_place self.old.core.setup.conits client) + 1 < 2 ^ 64)) }
+        ensures totals { OnOk result (self.new.totals ≡ one_more_at (made_place self.old.core.setup.conits client) (one_more_at (turns_place self.old.core.setup.conits client) self.old.totals)) }
+        ensures grows { IsPrefix self.old.clerk.seen self.new.clerk.seen }
+        ensures run { IsRun desk.now.setup self.old.clerk.seen → IsRun desk.now.setup self.new.clerk.seen }
+        ensures spare { self.old.spare ≤ self.new.spare + 1 }
+        ensures room { self.old.room ≤ self.new.room + 1 }
+        ensures enough { is_full self.old.core ≡ false → 0 < self.old.spare → 0 < self.old.room → IsOk result }
+        ensures fault { IfErr result (IsNodeFaultOf self.old.core) }
+        ensures err { OnErr result ((self.new.core ≡ self.old.core) × (self.new.stored ≡ self.old.stored) × (self.new.totals ≡ self.old.totals) × (self.new.clerk ≡ self.old.clerk)) }
+    {
+        self.may_enter()?;
+        let replica = self.replica_number();
+        let at = self.moment_after(moment);
+        let number = self.calls_of(client);
+        self.stored.reserve(1)?;
+        let reply = self.replica.call(moment, client, &request)?;
+        let answer = copied(&reply);
+        let entry = Entry {
+            replica,
+            moment: at,
+            act: Act::Call {
+                client,
+                number,
+                request,
+                reply,
+            },
+        };
+        draw(&mut self.clerk, &mut self.stored, desk, entry);
+        count_call(&mut self.totals, self.conits, client);
+        Ok(answer)
+    }
+}
+
+// Draws an entry, and stores it with its tick.
+fn draw(clerk: &mut Clerk, stored: &mut RoomyList<(u64, Entry)>, desk: &Desk, entry: Entry)
+    requires desk { clerk.old.table ≡ desk.now.table }
+    requires replica { entry.replica ≡ clerk.old.replica }
+    requires drawn { clerk.old.pairs ≡ stored.old.items }
+    requires due { IsDue desk.now.setup (entries_of stored.old.items) entry }
+    requires sent { WasSent clerk.old.seen entry.act }
+    requires room { 0 < stored.old.room }
+    ensures drawn { HasDrawn desk.now.setup clerk.old clerk.new entry }
+    ensures stored { stored.new.items ≡ clerk.new.pairs }
+    ensures room { stored.old.room ≤ stored.new.room + 1 }
+{
+    let tick = clerk.draw(desk, &entry);
+    stored.push((tick, entry));
+}
+
+// Counts a call among a client's turns, and among the entries made for it.
+fn count_call(totals: &mut Vec<u64>, conits: u32, client: u32)
+    requires client { client < CLIENTS }
+    requires places { length totals.old.items ≡ conits + 2 * CLIENTS }
+    requires turns { slice_index totals.old.items (turns_place conits client) + 1 < 2 ^ 64 }
+    requires made { slice_index totals.old.items (made_place conits client) + 1 < 2 ^ 64 }
+    ensures { totals.new.items ≡ one_more_at (made_place conits client) (one_more_at (turns_place conits client) totals.old.items) }
+{
+    let place = conits as usize + client as usize;
+    totals[place] += 1;
+    totals[place + CLIENTS as usize] += 1;
+}
+
+// The same reply, which takes no memory.
+fn copied(reply: &Reply) -> Reply
+    ensures { result ≡ reply.now }
+{
+    match reply.clone() {
+        Ok(copy) => copy,
+        Err(_) => unreachable!(),
+    }
+}
+
+// So many zeros.
+fn zeros(alloc: Global, count: usize) -> Result<Vec<u64>, AllocError>
+    ensures { IfOk result (λ list. list.items ≡ zeros count) }
+{
+    vec![in alloc; 0; count]
+}

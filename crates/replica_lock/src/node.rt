@@ -1,0 +1,191 @@
+//! Nodes, which their clients share.
+ghost use Rattle.std.specs.Prelude.{◌≡◌, ◌<◌, ◌≤◌, [], ◌∷◌, ◌++◌, Contains, IfOk, IfErr, OnErr, OnOk};
+ghost use Rattle.tact_base.specs.declared.limits.TheConstants.{CLIENTS, MOMENT_MAX};
+ghost use Rattle.run_model.specs.Histories.{IsPrefix};
+ghost use Rattle.run_model.specs.Ranges.{IsRequestInRange};
+ghost use Rattle.replica_lock.specs.Locks.{IsLocked, IsWriteOrRead};
+ghost use Rattle.replica_lock.specs.Rosters.{IsRosterOf, IsSessionFaultOf};
+ghost use Rattle.replica_lock.specs.Sessions.{HasCalled, HasHeard, IsFaultSeen, IsSessionOf};
+
+use crate::ended::{Ended, Stored};
+use crate::locked::Locked;
+use crate::roster::Roster;
+use crate::session::Session;
+use crate::turn::Turn;
+use crate::{NewFault, NodeFault, SessionFault};
+use run_history::{Clerk, Desk, Note};
+use run_model::{Config, Reply, Request};
+use std::alloc::Global;
+use std::marker::Model;
+use std::sync::Wait;
+use tact_base::{CLIENTS, Items};
+use tact_io::Gate;
+use weight_ledger::{Cell, CellFault};
+
+/// A replica that its clients share under a lock, with its part of the history. Its calls wait for the lock, and promise
+/// what they say where they return.
+pub struct Node<'d, G: Gate> {
+    pub(crate) desk: &'d Desk,
+    pub(crate) cell: Cell<Locked>,
+    pub(crate) gate: G,
+}
+
+impl<'d, G: Gate> Model for Node<'d, G> {
+    ghost use Rattle.replica_lock.specs.Nodes.{KeepsNode};
+    ghost use Rattle.replica_lock.specs.Sessions.{NodeView};
+
+    ghost Value = { NodeView };
+
+    ghost view = { λ n. record { cell = n.cell.id; desk = n.desk.now; replica = n.cell.label.replica } };
+
+    ghost invariant = { λ n. KeepsNode n.desk.now n.cell };
+}
+
+impl<'d, G: Gate> Node<'d, G> {
+    /// The node of a clerk that drew nothing, and its roster. The setup is that of the clerk's desk. Each call of a
+    /// client passes the gate once. Want of memory is the only error, and gives the clerk back, which may have seen more.
+    pub fn new(
+        alloc: Global,
+        desk: &'d Desk,
+        config: &Config,
+        mut clerk: Clerk,
+        gate: G,
+    ) -> Result<(Node<'d, G>, Roster), NewFault>
+        requires setup { desk.now.setup ≡ config.now }
+        requires clerk { clerk.table ≡ desk.now.table }
+        requires drawn { clerk.pairs ≡ [] }
+        ensures node { IfOk result (λ made. (made.0.desk ≡ desk.now) × (made.0.replica ≡ clerk.replica)) }
+        ensures roster { IfOk result (λ made. IsRosterOf made.0 made.1) }
+        ensures clients { IfOk result (λ made. made.1.clients ≡ []) }
+        ensures refused { IfErr result (λ fault. fault.clerk ≡ record clerk { seen = fault.clerk.seen }) }
+    {
+        let seen = clerk.note(desk);
+        clerk.learn(desk, seen);
+        let note = clerk.note(desk);
+        let replica = clerk.replica();
+        let conits = config.conits();
+        let locked = Locked::new(alloc, config, clerk)?;
+        match Cell::new(alloc, locked, conits, 2 * CLIENTS) {
+            Ok((cell, tally)) => {
+                let roster = Roster {
+                    replica,
+                    conits,
+                    clients: Items::new(alloc),
+                    note,
+                    tally,
+                };
+                Ok((Node { desk, cell, gate }, roster))
+            }
+            Err(CellFault { value }) => Err(NewFault {
+                clerk: value.into_clerk(),
+            }),
+        }
+    }
+
+    /// A session for a client that has none yet. `Taken` comes exactly where it has one. Both errors leave the roster as
+    /// it was.
+    pub fn session(&self, roster: &mut Roster, client: u32) -> Result<Session, SessionFault>
+        requires roster { IsRosterOf self.now roster.old }
+        requires client { client < CLIENTS }
+        ensures of { IfOk result (IsSessionOf self.now) }
+        ensures fresh { IfOk result (λ session. (session.client ≡ client) × (session.calls ≡ 0) × (session.made ≡ 0)) }
+        ensures clients { OnOk result (roster.new ≡ record roster.old { clients = roster.old.clients ++ client ∷ [] }) }
+        ensures free { OnOk result (Contains roster.old.clients client → ⊥) }
+        ensures fault { IfErr result (IsSessionFaultOf roster.old.clients client) }
+        ensures err { OnErr result (roster.new ≡ roster.old) }
+    {
+        if roster.has(client) {
+            return Err(SessionFault::Taken { client });
+        }
+        roster.clients.push(client)?;
+        let conits = roster.conits;
+        let places = [conits + client, conits + CLIENTS + client];
+        let tally = self.cell.split_own(&mut roster.tally, &places);
+        Ok(Session {
+            replica: roster.replica,
+            conits: roster.conits,
+            client,
+            calls: 0,
+            made: 0,
+            note: roster.note.twin(self.desk),
+            tally,
+        })
+    }
+
+    /// Takes the lock, which it holds until the turn ends.
+    pub fn turn<R: Wait>(&self, rt: &R) -> Turn<'_, 'd, G>
+        ensures node { result.node ≡ self.now }
+        ensures kept { IsLocked result.state }
+    {
+        let (held, locked) = self.cell.lock(rt);
+        locked.stand();
+        Turn {
+            node: self,
+            held,
+            locked,
+        }
+    }
+
+    /// A note of what the session has seen. It waits for nobody.
+    pub fn note(&self, session: &mut Session) -> Note
+        requires { IsSessionOf self.now session.old }
+        ensures session { session.new ≡ session.old }
+        ensures desk { result.table ≡ self.now.desk.table }
+        ensures seen { result.seen ≡ session.old.seen }
+    {
+        session.note.twin(self.desk)
+    }
+
+    /// The session sees what a note has seen. It makes no entry, takes no memory and has no refusal.
+    pub fn hear<R: Wait>(&self, rt: &R, session: &mut Session, note: Note)
+        requires session { IsSessionOf self.now session.old }
+        requires note { note.table ≡ self.now.desk.table }
+        ensures heard { HasHeard self.now.desk.setup session.old session.new }
+        ensures note { IsPrefix note.seen session.new.seen }
+    {
+        let mut turn = self.turn(rt);
+        turn.hear(session, note);
+        turn.end();
+    }
+
+    /// Ends the node, and gives its clerk and the entries that it stored, which are what the clerk drew.
+    pub fn finish<R: Wait>(self, rt: &R, roster: Roster) -> Ended
+        requires roster { IsRosterOf self roster }
+        ensures clerk { (result.clerk.table ≡ self.entry.desk.table) × (result.clerk.replica ≡ self.entry.replica) }
+        ensures stored { result.stored ≡ result.clerk.pairs }
+    {
+        let Node {
+            desk: _,
+            cell,
+            gate: _,
+        } = self;
+        let Roster { tally, .. } = roster;
+        let (clerk, pairs) = cell.end(rt, tally).into_parts();
+        Ended {
+            clerk,
+            stored: Stored { pairs },
+        }
+    }
+
+    /// Answers a call that writes or reads, in a turn of its own.
+    pub fn call<R: Wait>(
+        &self,
+        rt: &R,
+        session: &mut Session,
+        moment: u64,
+        request: Request,
+    ) -> Result<Reply, NodeFault>
+        requires session { IsSessionOf self.now session.old }
+        requires moment { moment ≤ MOMENT_MAX }
+        requires in_range { IsRequestInRange self.now.desk.setup request }
+        requires plain { IsWriteOrRead request }
+        ensures called { IfOk result (HasCalled self.now.desk.setup session.old session.new moment request) }
+        ensures refused { OnErr result (HasHeard self.now.desk.setup session.old session.new) }
+        ensures fault { IfErr result (IsFaultSeen session.new) }
+    {
+        let mut turn = self.turn(rt);
+        let answer = turn.call(session, moment, request);
+        turn.end();
+        answer
+    }
+}

@@ -1,0 +1,68 @@
+use crate::label::Label;
+use run_history::Note;
+use std::marker::Model;
+use weight_ledger::Tally;
+
+/// A client's place at a node: the right to its calls, one after another, and what it has seen of the history. It may go
+/// to another thread, and can't be copied or made but by its node.
+#[derive(Drop)]
+pub struct Session {
+    pub(crate) replica: u32,
+    pub(crate) conits: u32,
+    pub(crate) client: u32,
+    pub(crate) calls: u64,
+    pub(crate) made: u64,
+    pub(crate) note: Note,
+    pub(crate) tally: Tally<Label>,
+}
+
+impl Model for Session {
+    ghost use Rattle.replica_lock.specs.Sessions.{KeepsSession, SessionView};
+
+    ghost Value = { SessionView };
+
+    ghost view = { λ s. record {
+      cell = s.tally.id;
+      desk = s.note.table;
+      conits = s.conits;
+      replica = s.replica;
+      client = s.client;
+      calls = s.calls;
+      made = s.made;
+      seen = s.note.seen;
+    } };
+
+    ghost invariant = { λ s. KeepsSession (view s) s.tally };
+}
+
+impl Session {
+    ghost use Rattle.std.specs.Prelude.{◌≡◌};
+
+    /// The number of its client.
+    pub fn client(&self) -> u32
+        ensures { result ≡ self.now.client }
+    {
+        self.client
+    }
+
+    /// The number of its replica.
+    pub fn replica(&self) -> u32
+        ensures { result ≡ self.now.replica }
+    {
+        self.replica
+    }
+
+    /// How many calls its client made.
+    pub fn calls(&self) -> u64
+        ensures { result ≡ self.now.calls }
+    {
+        self.calls
+    }
+
+    /// How many entries were made for its client.
+    pub fn made(&self) -> u64
+        ensures { result ≡ self.now.made }
+    {
+        self.made
+    }
+}

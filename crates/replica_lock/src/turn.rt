@@ -1,0 +1,157 @@
+//! Turns: the lock of a node, held over several calls.
+ghost use Rattle.std.specs.Prelude.{◌≡◌, ◌≢◌, ◌+◌, ◌*◌, ◌<◌, ◌≤◌, ◌^◌, slice_index, IfOk, IfErr, IsOk, OnErr, OnOk, false};
+ghost use Rattle.tact_base.specs.declared.limits.TheConstants.{CLIENTS, CONITS_MAX, MOMENT_MAX};
+ghost use Rattle.run_model.specs.Histories.{moment_at, calls_in, IsPrefix};
+ghost use Rattle.run_model.specs.Ranges.{IsRequestInRange};
+ghost use Rattle.run_model.specs.declared.entry.Act.TheVariants as act;
+ghost use Rattle.replica_core.specs.States.{is_full};
+ghost use Rattle.replica_lock.specs.Faults.{IsNodeFaultOf};
+ghost use Rattle.replica_lock.specs.declared.fault.NodeFault.TheVariants as fault;
+ghost use Rattle.replica_lock.specs.Locks.{HasEntered, IsLocked, IsWriteOrRead, made_place, one_more_at, part_in, turns_place};
+ghost use Rattle.replica_lock.specs.Sessions.{HasCalled, HasHeard, IsFaultSeen, IsSessionOf};
+
+use crate::NodeFault;
+use crate::label::Label;
+use crate::locked::Locked;
+use crate::node::Node;
+use crate::session::Session;
+use run_history::Note;
+use run_model::{Reply, Request};
+use std::marker::Model;
+use tact_base::CLIENTS;
+use tact_io::Gate;
+use weight_ledger::{Held, Tally};
+
+/// The lock of a node, held over several calls. It can't be dropped: `end` gives the lock back.
+pub struct Turn<'n, 'd, G: Gate> {
+    pub(crate) node: &'n Node<'d, G>,
+    pub(crate) held: Held<'n, Locked>,
+    pub(crate) locked: Locked,
+}
+
+impl<'n, 'd, G: Gate> Model for Turn<'n, 'd, G> {
+    ghost use Rattle.replica_lock.specs.Nodes.{KeepsTurn};
+    ghost use Rattle.replica_lock.specs.Sessions.{TurnView};
+
+    ghost Value = { TurnView };
+
+    ghost view = { λ t. record { node = t.node.now; state = t.locked } };
+
+    ghost invariant = { λ t. KeepsTurn t.node.now t.held t.locked };
+}
+
+impl<'n, 'd, G: Gate> Turn<'n, 'd, G> {
+    /// Makes room for `count` writes and stored entries, which lasts until the turn made so many entries. `NoMemory` is
+    /// its only error; it leaves everything as it was, but for what room there is.
+    pub fn make_room(&mut self, count: u64) -> Result<(), NodeFault>
+        ensures node { self.new.node ≡ self.old.node }
+        ensures kept { IsLocked self.new.state }
+        ensures state { self.new.state ≡ record self.old.state { spare = self.new.state.spare; room = self.new.state.room } }
+        ensures room { OnOk result ((count ≤ self.new.state.spare) × (count ≤ self.new.state.room)) }
+        ensures no_less { (self.old.state.spare ≤ self.new.state.spare) × (self.old.state.room ≤ self.new.state.room) }
+        ensures fault { IfErr result (λ told. told ≡ fault.NoMemory) }
+    {
+        self.locked.make_room(count)
+    }
+
+    // The session learns what a note has seen, and all that the clerk has seen.
+    pub(crate) fn hear(&mut self, session: &mut Session, note: Note)
+        requires session { IsSessionOf self.old.node session.old }
+        requires note { note.table ≡ self.old.node.desk.table }
+        ensures node { self.new.node ≡ self.old.node }
+        ensures kept { IsLocked self.new.state }
+        ensures state { self.new.state ≡ record self.old.state { clerk = record self.old.state.clerk { seen = self.new.state.clerk.seen } } }
+        ensures seen { session.new.seen ≡ self.new.state.clerk.seen }
+        ensures heard { HasHeard self.old.node.desk.setup session.old session.new }
+        ensures note { IsPrefix note.seen session.new.seen }
+    {
+        let node = self.node;
+        self.locked.stand();
+        self.held.agree(&mut session.tally);
+        self.locked.hear(node.desk, &mut session.note, note);
+    }
+
+    /// Answers a call of a session's client that writes or reads, as `Replica::call` does; draws it and stores it.
+    pub fn call(
+        &mut self,
+        session: &mut Session,
+        moment: u64,
+        request: Request,
+    ) -> Result<Reply, NodeFault>
+        requires session { IsSessionOf self.old.node session.old }
+        requires moment { moment ≤ MOMENT_MAX }
+        requires in_range { IsRequestInRange self.old.node.desk.setup request }
+        requires plain { IsWriteOrRead request }
+        ensures node { self.new.node ≡ self.old.node }
+        ensures kept { IsLocked self.new.state }
+        ensures entered { IfOk result (λ reply. HasEntered self.old.state self.new.state session.old.seen (record {
+          replica = self.old.state.core.replica;
+          moment = moment_at (part_in self.old.state) moment;
+          act = act.Call session.old.client (calls_in (part_in self.old.state) session.old.client) request reply;
+        })) }
+        ensures totals { OnOk result (self.new.state.totals ≡ one_more_at (made_place session.old.conits session.old.client) (one_more_at (turns_place session.old.conits session.old.client) self.old.state.totals)) }
+        ensures seen { session.new.seen ≡ self.new.state.clerk.seen }
+        ensures called { IfOk result (HasCalled self.old.node.desk.setup session.old session.new moment request) }
+        ensures refused { OnErr result (HasHeard self.old.node.desk.setup session.old session.new) }
+        ensures spare { self.old.state.spare ≤ self.new.state.spare + 1 }
+        ensures room { self.old.state.room ≤ self.new.state.room + 1 }
+        ensures enough { is_full self.old.state.core ≡ false → 0 < self.old.state.spare → 0 < self.old.state.room → IsOk result }
+        ensures fault { IfErr result (IsNodeFaultOf self.old.state.core) }
+        ensures fault_seen { IfErr result (IsFaultSeen session.new) }
+        ensures err { OnErr result ((self.new.state.core ≡ self.old.state.core) × (self.new.state.stored ≡ self.old.state.stored) × (self.new.state.totals ≡ self.old.state.totals)) }
+    {
+        let node = self.node;
+        node.gate.reached(session.replica, session.client);
+        self.locked.stand();
+        self.held.agree(&mut session.tally);
+        let answer = self.locked.call(
+            node.desk,
+            &mut session.note,
+            moment,
+            session.client,
+            request,
+        );
+        match answer {
+            Ok(reply) => {
+                count(
+                    &mut self.held,
+                    &mut session.tally,
+                    session.conits,
+                    session.client,
+                );
+                session.calls += 1;
+                session.made += 1;
+                Ok(reply)
+            }
+            Err(fault) => Err(fault),
+        }
+    }
+
+    /// Gives the lock back.
+    pub fn end(self) {
+        let Turn {
+            node: _,
+            held,
+            locked,
+        } = self;
+        held.end(locked);
+    }
+}
+
+// Counts a call among a client's turns and among the entries made for it, in the totals and in the tally that owns them.
+fn count(held: &mut Held<'_, Locked>, tally: &mut Tally<Label>, conits: u32, client: u32)
+    requires cell { tally.old.id ≡ held.old.cell.id }
+    requires client { client < CLIENTS }
+    requires few { conits ≤ CONITS_MAX }
+    requires places { (held.old.cell.shared ≡ conits) × (held.old.cell.owned ≡ 2 * CLIENTS) }
+    requires turns { (slice_index tally.old.owns (turns_place conits client) ≢ 0) × (slice_index held.old.book (turns_place conits client) + 1 < 2 ^ 64) }
+    requires made { (slice_index tally.old.owns (made_place conits client) ≢ 0) × (slice_index held.old.book (made_place conits client) + 1 < 2 ^ 64) }
+    ensures book { held.new ≡ record held.old { book = one_more_at (made_place conits client) (one_more_at (turns_place conits client) held.old.book) } }
+    ensures id { tally.new ≡ record tally.old { amounts = tally.new.amounts } }
+    ensures turns { slice_index tally.new.amounts (turns_place conits client) ≡ slice_index tally.old.amounts (turns_place conits client) + 1 }
+    ensures made { slice_index tally.new.amounts (made_place conits client) ≡ slice_index tally.old.amounts (made_place conits client) + 1 }
+{
+    let place = conits + client;
+    held.raise(tally, place, 1);
+    held.raise(tally, place + CLIENTS, 1);
+}
