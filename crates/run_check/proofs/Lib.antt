@@ -8,3 +8,4 @@ pub mod AtReplica
 pub mod Passing
 pub mod FirstsApart
 pub mod Going
+pub mod OneVerdict

@@ -8,7 +8,8 @@ ghost use Rattle.run_record.specs.Records.{Held};
 ghost use Rattle.run_record.specs.declared.short.Short.{Short};
 ghost use Rattle.run_check.specs.Expanded.{expanded};
 ghost use Rattle.run_check.specs.Causes.{Fails};
-ghost use Rattle.run_check.specs.Verdicts.{AreLawful, IsLawfulShort, IsRecordOf, IsFirstBad};
+ghost use Rattle.run_check.specs.Verdicts.{AreLawful, IsLawfulShort, IsRecordOf, IsFirstBad, IsVerdictOf};
+ghost use Rattle.run_check.specs.declared.verdict.Verdict.{Verdict};
 
 /// A record is that of a run exactly where each of its entries is lawful after those before it. That run is the
 /// one that its entries tell, so it keeps its promises.
@@ -26,4 +27,9 @@ pub fn lawful_entries_fail_no_test()
         → IsLawfulShort setup history short → Fails setup history short cause → ⊥ }
     ensures bad { (held : Held) (place : ℕ) (cause : Cause) (history : List Entry)
         → IsFirstBad held place cause → IsRecordOf held history → ⊥ }
+{}
+
+/// Of a record one verdict is due, and no other.
+pub fn one_verdict_is_due()
+    ensures { (held : Held) (one other : Verdict) → IsVerdictOf held one → IsVerdictOf held other → one ≡ other }
 {}

@@ -11,6 +11,6 @@ mod summary;
 mod verdict;
 
 pub use check::check_record;
-pub use laws::{lawful_entries_fail_no_test, lawful_records_are_those_of_runs};
+pub use laws::{lawful_entries_fail_no_test, lawful_records_are_those_of_runs, one_verdict_is_due};
 pub use printing::put_verdict;
 pub use verdict::{Summary, Verdict};

@@ -1,0 +1,5 @@
+//! Tests of the checker of records. Nothing else stands here: its crate is proved once without them.
+#![tactic(auto)]
+
+#[cfg(test)]
+mod verdicts;
