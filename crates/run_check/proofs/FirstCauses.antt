@@ -1,11 +1,10 @@
 -- Which test is the first that fails.
 use Rattle.std.proofs.Common.{◌≡◌, ◌≢◌, ℕ, ◌<◌, ◌≤◌, List, length, Option, None, Some, refl, sym, ap, ◌∙◌, subst, ⊎_elim, arith}
-use Rattle.std.specs.Prelude.{slice_index, MatchOption}
+use Rattle.std.specs.Prelude.{MatchOption}
 use Rattle.std.proofs.lemmas.Bool.{cases_lt}
 use Rattle.tact_base.specs.Setup.{Setup}
 use Rattle.run_model.specs.Histories.{part_of, last_moment, sent_in, calls_in}
 use Rattle.run_model.specs.Loans.{home, free}
-use Rattle.run_model.specs.Messages.{first_for}
 use Rattle.run_model.specs.Replies.{reply_of}
 use Rattle.run_model.specs.declared.call.Reply.{Reply}
 use Rattle.run_model.specs.declared.call.Request.{Request}
@@ -13,7 +12,6 @@ use Rattle.run_model.specs.declared.cause.Cause.{Cause}
 use Rattle.run_model.specs.declared.cause.Cause.TheVariants as cause
 use Rattle.run_model.specs.declared.entry.Entry.{Entry}
 use Rattle.run_model.specs.declared.entry.Message.{Message}
-use Rattle.run_record.specs.declared.short.Short.{Short}
 use Rattle.run_record.specs.declared.short.ShortAct.{ShortAct}
 use Rattle.run_record.specs.declared.short.ShortAct.TheVariants as told
 use Rattle.run_check.specs.declared.refusal.At.{At}

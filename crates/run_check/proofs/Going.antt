@@ -1,12 +1,11 @@
 -- The checker goes through a record entry by entry.
-use Rattle.std.proofs.Common.{◌≡◌, ℕ, ◌+◌, ◌<◌, ◌≤◌, Bool, true, false, List, [], ◌∷◌, ◌++◌, length, get_or, take, drop, map, Option, None, Some, Result, refl, sym, ap, ◌∙◌, subst, append_assoc, arith}
+use Rattle.std.proofs.Common.{◌≡◌, ℕ, ◌+◌, ◌<◌, ◌≤◌, false, List, [], ◌∷◌, ◌++◌, length, get_or, take, drop, None, Some, Result, refl, sym, ap, ◌∙◌, subst, arith}
 use Rattle.std.specs.List.{slice_get}
 use Rattle.std.specs.Result.{OnOk, IfErr}
 use Rattle.std.proofs.lemmas.List.{take-append-drop, drop_more, length-take, take_all, take_more}
 use Rattle.std.proofs.lemmas.Option.{slice_get_within, get_or_from_slice_get}
 use Rattle.std.proofs.lemmas.Result.{on_ok_weaker}
-use Rattle.std.proofs.lemmas.List.{append-nil}
-use Rattle.tact_base.specs.Setup.{Setup, IsSetup}
+use Rattle.tact_base.specs.Setup.{Setup}
 use Rattle.run_model.specs.Histories.{part_of, sent_in, sent_by_act}
 use Rattle.run_model.specs.declared.cause.Cause.{Cause}
 use Rattle.run_model.specs.declared.entry.Act.{Act}
@@ -15,7 +14,7 @@ use Rattle.run_model.specs.declared.entry.Entry.{Entry}
 use Rattle.run_model.specs.declared.entry.Message.{Message}
 use Rattle.run_model.proofs.PartLemmas.{part_of-push_cases, sent_in-push_none}
 use Rattle.run_model.proofs.PrefixLemmas.{EachAfter-nil, EachAfter-push}
-use Rattle.run_record.specs.Records.{Held, short_act_of, short_of}
+use Rattle.run_record.specs.Records.{Held, short_act_of}
 use Rattle.run_record.specs.declared.short.Short.{Short}
 use Rattle.run_record.specs.declared.short.ShortAct.{ShortAct}
 use Rattle.replica_set.specs.Sets.{SetState}

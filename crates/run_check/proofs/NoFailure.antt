@@ -1,12 +1,12 @@
 -- A lawful entry fails no test.
-use Rattle.std.proofs.Common.{◌≡◌, ◌≢◌, ℕ, ◌<◌, ◌≤◌, List, ◌∷◌, ◌++◌, length, map, Option, None, Some, refl, sym, ap, ◌∙◌, subst, arith}
+use Rattle.std.proofs.Common.{◌≡◌, ◌≢◌, ℕ, ◌<◌, ◌≤◌, List, length, Option, None, Some, refl, sym, ap, ◌∙◌, subst, arith}
 use Rattle.std.specs.Prelude.{slice_index, MatchOption}
 use Rattle.std.specs.Option.{option_map}
 use Rattle.std.proofs.lemmas.Option.{same_Some}
 use Rattle.tact_base.proofs.ListLemmas.{get_or-map_range}
-use Rattle.tact_base.specs.Setup.{Setup, replicas_of}
-use Rattle.run_model.specs.Histories.{part_of, EachAfter}
-use Rattle.run_model.specs.Messages.{first_for, message_of}
+use Rattle.tact_base.specs.Setup.{Setup}
+use Rattle.run_model.specs.Histories.{part_of}
+use Rattle.run_model.specs.Messages.{first_for}
 use Rattle.run_model.specs.Runs.{IsActDue, IsLawful}
 use Rattle.run_model.specs.declared.call.Reply.{Reply}
 use Rattle.run_model.specs.declared.cause.Cause.{Cause}
@@ -17,10 +17,9 @@ use Rattle.run_model.specs.declared.entry.Entry.{Entry}
 use Rattle.run_model.specs.declared.entry.Message.{Message}
 use Rattle.run_record.specs.Records.{Held, short_act_of, short_of}
 use Rattle.run_record.specs.declared.short.Short.{Short}
-use Rattle.run_record.specs.declared.short.ShortAct.{ShortAct}
 use Rattle.run_record.specs.declared.short.ShortAct.TheVariants as told_act
 use Rattle.run_check.specs.Expanded.{message_sent, whole_act, entry_with, whole_entry, expanded}
-use Rattle.run_check.specs.Causes.{numbers_of, firsts_of, lent_of, returned_of, replies_of, taken_of, Differ, Passes, Fails}
+use Rattle.run_check.specs.Causes.{numbers_of, firsts_of, lent_of, returned_of, replies_of, taken_of, Fails}
 use Rattle.run_check.specs.Verdicts.{IsLawfulShort, IsFirstBad, IsRecordOf}
 use Rattle.run_check.proofs.Records.{record_is_lawful}
 

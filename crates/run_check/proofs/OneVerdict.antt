@@ -4,19 +4,17 @@ use Rattle.std.specs.Prelude.{MatchOption}
 use Rattle.std.proofs.lemmas.Bool.{cases_eq, cases_lt}
 use Rattle.std.proofs.lemmas.Option.{same_Some}
 use Rattle.tact_base.specs.Setup.{Setup}
-use Rattle.run_model.specs.declared.call.Reply.{Reply}
 use Rattle.run_model.specs.declared.cause.Cause.{Cause}
 use Rattle.run_model.specs.declared.cause.Cause.TheVariants as cause
 use Rattle.run_model.specs.declared.entry.Entry.{Entry}
 use Rattle.run_model.specs.declared.entry.Message.{Message}
 use Rattle.run_record.specs.Records.{Held}
 use Rattle.run_record.specs.declared.short.Short.{Short}
-use Rattle.run_check.specs.declared.verdict.Summary.{Summary}
 use Rattle.run_check.specs.declared.verdict.Verdict.{Verdict}
 use Rattle.run_check.specs.declared.verdict.Verdict.TheVariants.{Run, Bad}
 use Rattle.run_check.specs.Expanded.{expanded}
-use Rattle.run_check.specs.Causes.{firsts_of, taken_of, Fails, place_of_test, IsFirstCause}
-use Rattle.run_check.specs.Verdicts.{AreLawful, IsFirstBad, IsVerdictOf}
+use Rattle.run_check.specs.Causes.{taken_of, Fails, place_of_test, IsFirstCause}
+use Rattle.run_check.specs.Verdicts.{IsFirstBad, IsVerdictOf}
 use Rattle.run_check.proofs.NoFailure.{lawful_never_fails, bad_is_no_record}
 use Rattle.run_check.proofs.Records.{lawful_is_record}
 

@@ -3,12 +3,11 @@ use Rattle.std.proofs.Common.{◌≡◌, List, Some, [], ◌∷◌, ◌++◌, ma
 use Rattle.std.proofs.lemmas.List.{map_push}
 use Rattle.tact_base.proofs.ListLemmas.{from_right}
 use Rattle.tact_base.specs.Setup.{Setup}
-use Rattle.run_model.specs.Histories.{EachAfter}
 use Rattle.run_model.specs.Runs.{IsLawful, IsRun}
 use Rattle.run_model.specs.declared.entry.Entry.{Entry}
 use Rattle.run_model.proofs.PrefixLemmas.{EachAfter-nil, EachAfter-prefix, EachAfter-last, EachAfter-push, IsPrefix-append}
 use Rattle.run_model.proofs.RunInduction.{over_runs}
-use Rattle.run_record.specs.Records.{Held, short_of, held_of}
+use Rattle.run_record.specs.Records.{Held, short_of}
 use Rattle.run_record.specs.declared.short.Short.{Short}
 use Rattle.run_check.specs.Expanded.{whole_entry, expanded}
 use Rattle.run_check.specs.Verdicts.{IsLawfulShort, AreLawful, IsRecordOf}

@@ -1,5 +1,4 @@
 -- The request of a record's entry is in range of its setup.
-use Rattle.std.proofs.Common.{◌≡◌, ℕ}
 use Rattle.tact_base.specs.Setup.{Setup}
 use Rattle.run_model.specs.CallBytes.{IsRequestOf}
 use Rattle.run_model.specs.Ranges.{IsRequestInRange}

@@ -1,5 +1,5 @@
 -- A run has no more entries than its replicas may have, and so no clock comes to its end.
-use Rattle.std.proofs.Common.{◌≡◌, ℕ, zero, suc, add-one, ◌+◌, ◌*◌, ◌<◌, ◌≤◌, ◌==◌, nat_lt, Bool, true, false, cond, List, [], ◌∷◌, ◌++◌, length, filter, sum_by, All, refl, sym, ap, ◌∙◌, subst, ⊎_elim, arith}
+use Rattle.std.proofs.Common.{◌≡◌, ℕ, zero, suc, add-one, ◌+◌, ◌*◌, ◌<◌, ◌≤◌, ◌==◌, nat_lt, Bool, true, false, cond, List, [], ◌∷◌, length, All, refl, ap, ⊎_elim, arith}
 use Rattle.std.specs.List.{count_by}
 use Rattle.std.proofs.lemmas.Bool.{cases_eq, cases_lt, eq-eqb, lt-ltb, le-ltb}
 use Rattle.std.proofs.lemmas.List.{length_push}
@@ -10,7 +10,7 @@ use Rattle.tact_base.specs.Setup.{Setup, IsSetup}
 use Rattle.tact_base.proofs.SetupLemmas.{HasCounts-from_IsSetup}
 use Rattle.run_model.specs.Histories.{part_of}
 use Rattle.run_model.specs.Ranges.{IsEntryInRange}
-use Rattle.run_model.specs.Runs.{IsLawful, IsRun}
+use Rattle.run_model.specs.Runs.{IsRun}
 use Rattle.run_model.specs.Taking.{clock}
 use Rattle.run_model.specs.declared.entry.Entry.{Entry}
 use Rattle.run_model.proofs.ClockBound.{clock-run}

@@ -1,12 +1,11 @@
 -- An entry of a run is what its record says of it, made whole.
-use Rattle.std.proofs.Common.{◌≡◌, ℕ, List, [], ◌∷◌, ◌++◌, length, Contains, Option, None, Some, refl, sym, ap, ◌∙◌, subst}
+use Rattle.std.proofs.Common.{◌≡◌, ℕ, List, [], ◌∷◌, ◌++◌, Contains, Option, Some, refl, sym, ap, ◌∙◌}
 use Rattle.std.specs.List.{slice_get, cons_option}
 use Rattle.std.specs.Option.{option_map}
 use Rattle.std.proofs.lemmas.List.Sums.{fold_push}
 use Rattle.std.proofs.lemmas.Option.{slice_get-get_or}
 use Rattle.tact_base.specs.Setup.{Setup}
 use Rattle.run_model.specs.Histories.{part_of, sent_in}
-use Rattle.run_model.specs.Messages.{message_of}
 use Rattle.run_model.specs.Runs.{IsActDue, IsLawful, IsRun, WasSent}
 use Rattle.run_model.specs.declared.entry.Act.{Act}
 use Rattle.run_model.specs.declared.entry.Act.TheVariants as act
@@ -16,7 +15,7 @@ use Rattle.run_model.proofs.Sound.{HaveTheirPlaces}
 use Rattle.run_model.proofs.SoundRuns.{Sound-run}
 use Rattle.run_record.specs.Records.{short_act_of, short_of}
 use Rattle.run_record.specs.declared.short.Short.{Short}
-use Rattle.run_check.specs.Expanded.{message_sent, whole_act, entry_with, whole_entry, with_short, expanded}
+use Rattle.run_check.specs.Expanded.{whole_act, entry_with, whole_entry, with_short, expanded}
 use Rattle.run_check.specs.Verdicts.{IsLawfulShort}
 
 -- one more entry of a record

@@ -13,7 +13,7 @@ use Rattle.run_model.specs.declared.entry.Entry.{Entry}
 use Rattle.run_model.specs.declared.entry.Message.{Message}
 use Rattle.run_record.specs.declared.short.Short.{Short}
 use Rattle.run_record.specs.declared.short.ShortAct.{ShortAct}
-use Rattle.run_record.specs.declared.short.ShortAct.TheVariants.{Call, Send, Take, Lend, Back, Restart}
+use Rattle.run_record.specs.declared.short.ShortAct.TheVariants.{Call, Send, Take, Lend, Back}
 use Rattle.run_check.specs.Expanded.{message_sent}
 
 -- the number that an act tells, and the due one: how many calls its client made before, or how many messages the replica sent

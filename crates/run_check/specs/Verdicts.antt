@@ -1,5 +1,5 @@
 -- What is said of a record: that it is a run's, or its first unlawful entry.
-use Rattle.std.specs.Prelude.{◌≡◌, ℕ, Bool, true, false, List, ◌∷◌, ◌++◌, length, count_by, Option, Some}
+use Rattle.std.specs.Prelude.{◌≡◌, ℕ, Bool, true, false, List, ◌∷◌, ◌++◌, length, count_by, Some}
 use Rattle.tact_base.specs.Setup.{Setup}
 use Rattle.run_model.specs.Call.{is_waiting}
 use Rattle.run_model.specs.Histories.{EachAfter}

@@ -1,4 +1,4 @@
-use Rattle.std.proofs.Common.{ℕ, arith, ◌≡◌, ◌≢◌, Some, sym, ap, ◌∙◌, subst, rules}
+use Rattle.std.proofs.Common.{ℕ, arith, ◌≡◌, ◌≢◌, Some, sym, ap, ◌∙◌, subst}
 use Rattle.std.proofs.lemmas.Bool.{false≢true}
 use Rattle.run_model.specs.Histories.{part_of, calls_in}
 use Rattle.run_model.specs.Replies.{reply_of}
@@ -9,7 +9,7 @@ use Rattle.run_check.specs.Causes.{IsFirstCause}
 use Rattle.run_check.specs.Checking.{short_at}
 use Rattle.run_check.proofs.AtReplica.{calls_are, is_memory}
 use Rattle.run_check.proofs.FirstCauses.{number_is_first, reply_is_first}
-use Rattle.run_check.proofs.Passing.{call_passes, moment_is}
+use Rattle.run_check.proofs.Passing.{call_passes}
 use Rattle.run_check.proofs.RequestRange.{request_in_range}
 use Rattle.run_check.proofs.judging.judge_call.Goals as goal
 

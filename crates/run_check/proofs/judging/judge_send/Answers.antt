@@ -1,8 +1,6 @@
-use Rattle.std.proofs.Common.{◌≡◌, ℕ, List, length, sym, ap, ◌∙◌, subst, subst₂, arith}
+use Rattle.std.proofs.Common.{◌≡◌, ℕ, List, length, sym, ap, ◌∙◌, subst₂, arith}
 use Rattle.tact_base.proofs.SetupLemmas.{HasCounts-from_IsSetup}
-use Rattle.run_model.specs.Histories.{part_of, sent_in, moment_at}
-use Rattle.run_model.specs.Messages.{message_of}
-use Rattle.run_model.specs.declared.entry.Message.{Message}
+use Rattle.run_model.specs.Histories.{part_of, sent_in}
 use Rattle.run_check.specs.Checking.{IsApart}
 use Rattle.run_check.proofs.AtReplica.{is_memory}
 use Rattle.run_check.proofs.FirstCauses.{first_is_first}

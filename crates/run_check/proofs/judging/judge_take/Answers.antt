@@ -1,10 +1,8 @@
 use Rattle.std.proofs.Common.{◌≡◌, List, Some, sym, ap, ◌∙◌}
 use Rattle.std.specs.List.{slice_get}
 use Rattle.run_model.specs.declared.entry.Message.{Message}
-use Rattle.run_model.specs.declared.cause.Cause.TheVariants as cause
 use Rattle.run_model.specs.Histories.{part_of, sent_in}
 use Rattle.run_check.proofs.AtReplica.{is_memory, message_fits}
-use Rattle.run_check.proofs.FirstCauses.{no_send_is_first, other_is_first}
 use Rattle.run_check.proofs.Passing.{take_passes}
 use Rattle.run_check.proofs.judging.judge_take.Goals as goal
 

@@ -1,4 +1,4 @@
-use Rattle.std.proofs.Common.{◌≡◌, ℕ, List, codes, decimal, [], ◌∷◌, ◌++◌, refl, ap, ◌∙◌, rules}
+use Rattle.std.proofs.Common.{◌≡◌, ℕ, List, codes, decimal, [], ◌∷◌, ◌++◌, ap, ◌∙◌, rules}
 use Rattle.std.specs.Fmt.{digits}
 use Rattle.run_model.specs.Text.{line_text, spaced, reply_tokens}
 use Rattle.run_model.specs.declared.call.Reply.{Reply}
