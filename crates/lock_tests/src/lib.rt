@@ -4,4 +4,6 @@
 #[cfg(test)]
 mod opened;
 #[cfg(test)]
+mod turns;
+#[cfg(test)]
 mod writers;

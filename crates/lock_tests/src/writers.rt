@@ -31,7 +31,7 @@ fn write_often<R: Wait + Abort>(
 }
 
 // Writes, and gives the index of the write.
-fn write<R: Wait + Abort>(rt: &R, node: &Node<'_, FreeGate>, session: &mut Session) -> u64
+pub fn write<R: Wait + Abort>(rt: &R, node: &Node<'_, FreeGate>, session: &mut Session) -> u64
     requires { IsSessionOf node.now session.old }
     ensures { IsSessionOf node.now session.new }
 {
@@ -42,7 +42,12 @@ fn write<R: Wait + Abort>(rt: &R, node: &Node<'_, FreeGate>, session: &mut Sessi
 }
 
 // A session of a client that has none.
-fn session(rt: &impl Abort, node: &Node<'_, FreeGate>, roster: &mut Roster, client: u32) -> Session
+pub fn session(
+    rt: &impl Abort,
+    node: &Node<'_, FreeGate>,
+    roster: &mut Roster,
+    client: u32,
+) -> Session
     requires roster { IsRosterOf node.now roster.old }
     requires client { client < CLIENTS }
     ensures session { IsSessionOf node.now result }
