@@ -1,0 +1,8 @@
+//! The commands on records, and what all commands have in common: an input is read to its end, something is
+//! made of it, and a text is written.
+#![tactic(auto)]
+
+mod job;
+mod packing;
+
+pub use packing::{pack, unpack};
