@@ -4,6 +4,5 @@ pub mod Scripts
 pub mod Seats
 pub mod Worlds
 pub mod Playing
-pub mod Commands
 pub mod Shown
 pub mod Comments

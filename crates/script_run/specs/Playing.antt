@@ -27,7 +27,7 @@ HasCause status.TooLong left rest reads reads' writes writes' = IfSome left (λ 
 HasCause status.ReadFault left rest reads reads' writes writes' = HasRisen reads reads'
 HasCause status.WriteFault left rest reads reads' writes writes' = HasRisen writes writes'
 HasCause status.NoMemory left rest reads reads' writes writes' = Unit {0}
-HasCause (status.Usage kind) left rest reads reads' writes writes' = ⊥
+HasCause other left rest reads reads' writes writes' = ⊥
 
 -- A text is that of the script which an input is, and the history that it tells is a run that keeps its promises.
 abbrev pub IsPlayOf : List ℕ → List ℕ → Type 0

@@ -1,4 +1,4 @@
-//! Scripts: their reader, the world that a script runs in, `play`, and for now the top call.
+//! Scripts: their reader, the world that a script runs in, and `play`.
 #![tactic(auto)]
 
 mod comments;
@@ -12,10 +12,8 @@ mod seat_sending;
 mod seat_taking;
 mod sent;
 mod show;
-mod top;
 mod word;
 mod world;
 
 pub use playing::play;
 pub use run_model::Line;
-pub use top::tact;

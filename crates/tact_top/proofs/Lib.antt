@@ -1,1 +1,2 @@
 mod ByteFaults
+mod Played

@@ -4,5 +4,9 @@
 
 mod job;
 mod packing;
+mod playing;
+mod top;
+mod words;
 
 pub use packing::{pack, unpack};
+pub use top::tact;
