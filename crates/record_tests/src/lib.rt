@@ -3,3 +3,5 @@
 
 #[cfg(test)]
 mod record_bytes;
+#[cfg(test)]
+mod record_text;

@@ -9,7 +9,7 @@ use std::test::Fail;
 use tact_base::{Bytes, Covers, Numbers, WriteList};
 
 // Two replicas and a conit, and an entry of each kind.
-const WORKED: [u8; 240] = *b"TACT\x01\x02\x01\
+pub(crate) const WORKED: [u8; 240] = *b"TACT\x01\x02\x01\
     \0\0\0\0\0\0\0\x0a\0\0\0\0\0\0\0\0\0\0\0\0\0\0\0\x0a\
     \0\0\0\0\0\0\0\x0a\0\0\0\0\0\0\0\x0a\0\0\0\0\0\0\0\0\
     \x01\0\0\0\0\0\0\0\0\0\0\0\0\0\0\0\0\0\0\
@@ -23,7 +23,7 @@ const WORKED: [u8; 240] = *b"TACT\x01\x02\x01\
     \xff\0\0\0\0\0\0\0\x06";
 
 // The same as text.
-const WORKED_TEXT: &[u8] = b"tact 1 2 1\nbound 0 0 10 0 10\nbound 1 0 10 10 0\n\
+pub(crate) const WORKED_TEXT: &[u8] = b"tact 1 2 1\nbound 0 0 10 0 10\nbound 1 0 10 10 0\n\
     e 0 0 call 0 0 write add 7 1 0:5:1 = done 0 1\n\
     e 0 1 send 1 0 0 0\n\
     e 1 2 take 0 0\n\
@@ -56,7 +56,7 @@ fn changed(alloc: Global, bytes: &[u8], at: usize, byte: u8) -> Result<Vec<u8>, 
 }
 
 // A record as bytes, and as text.
-fn spellings(alloc: Global, held: &Record) -> Result<(Bytes, Bytes), Fail> {
+pub(crate) fn spellings(alloc: Global, held: &Record) -> Result<(Bytes, Bytes), Fail> {
     let mut bytes = Bytes::new(alloc);
     bytes_of(held, &mut bytes)?;
     let mut text = Bytes::new(alloc);

@@ -14,3 +14,8 @@ pub mod RecordReader
 pub mod Loops
 pub mod TextBounds
 pub mod TextLines
+pub mod PrintedTokens
+pub mod PrintedFields
+pub mod PrintedCalls
+pub mod PrintedWidths
+pub mod PrintedRecord

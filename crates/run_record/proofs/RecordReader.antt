@@ -9,7 +9,7 @@ use Rattle.tact_base.specs.Setup.{Setup, IsSetup}
 use Rattle.tact_base.proofs.SetupLemmas.{HasCounts-from_IsSetup}
 use Rattle.run_model.specs.declared.status.ByteKind.TheVariants as kind
 use Rattle.run_model.specs.Bytes.{◌>>=◌, Field, StandsAt, number_bytes, any_number_at}
-use Rattle.run_model.proofs.ByteLemmas.{AreBytes, stands_within}
+use Rattle.run_model.proofs.ByteLemmas.{AreBytes, stands_within, ok_is}
 use Rattle.run_model.proofs.Readers.{Reader, Then, Made, IsNumber, SpelledAs, any_number, and_then, making, said, found}
 use Rattle.run_record.specs.declared.fault.RecordFault.{RecordFault}
 use Rattle.run_record.specs.declared.fault.RecordFault.TheVariants as fault
@@ -247,3 +247,39 @@ spelled_is_read bytes result fits long told held good spells enough =
     told_is (Err fault.NoMemory) told again enough = absurd (enough refl)
     told_is (Err (fault.Bytes place kind)) told again enough = absurd (never (record_at bytes) (fault.Bytes place kind) told again)
     told_is (Err (fault.Text place kind)) told again enough = absurd (never (record_at bytes) (fault.Text place kind) told again)
+
+-- ---- no two records stand at the front of the same bytes
+
+stands_counted : (bytes : List ℕ) (held : Held)
+    → StandsAt (record_bytes held) bytes 0
+    → length held.entries ≤ length bytes
+stands_counted bytes held stands =
+    let within = stands_within (record_bytes held) bytes 0 stands (omega arith) in
+    let first = length-append (setup_bytes held.setup) (flat_map short_bytes held.entries ++ 255 ∷ number_bytes (length held.entries)) in
+    let second = length-append (flat_map short_bytes held.entries) (255 ∷ number_bytes (length held.entries)) in
+    omega (arith, within, first, second, entries_long held.entries)
+
+body_at_front : (bytes : List ℕ) (held : Held)
+    → AreBytes bytes
+    → length bytes < 2 ^ 64
+    → IsHeld held
+    → StandsAt (record_bytes held) bytes 0
+    → body_at bytes 0 ≡ Ok (held, 0 + length (record_bytes held))
+body_at_front bytes held fits long good stands =
+    let few : length held.entries < 2 ^ 64 = omega (arith, stands_counted bytes held stands, long) in
+    is_ok (body_at bytes 0) (held, 0 + length (record_bytes held)) (body_reader.again bytes 0 held (record_bytes held) fits (omega arith) ((good, few), refl) stands)
+
+same_record : (a b : Held) (m n : ℕ) → ◌≡◌ {A = Part Held} (Ok (a, m)) (Ok (b, n)) → a ≡ b
+same_record a b m n e = ap (λ (r : Held × ℕ). r.0) (ok_is (a, m) (b, n) (ap ok_of e))
+
+pub one_record : (bytes : List ℕ)
+    → AreBytes bytes
+    → length bytes < 2 ^ 64
+    → (a b : Held)
+    → IsHeld a
+    → IsHeld b
+    → StandsAt (record_bytes a) bytes 0
+    → StandsAt (record_bytes b) bytes 0
+    → a ≡ b
+one_record bytes fits long a b good_a good_b stands_a stands_b =
+    same_record a b (0 + length (record_bytes a)) (0 + length (record_bytes b)) (sym (body_at_front bytes a fits long good_a stands_a) ∙ body_at_front bytes b fits long good_b stands_b)

@@ -11,6 +11,7 @@ use Rattle.std.proofs.lemmas.Grind.{get_or_after_one}
 use Rattle.tact_base.specs.declared.limits.TheConstants.{LIST_MAX}
 use Rattle.tact_base.specs.declared.conit_list.ListFault.{ListFault}
 use Rattle.tact_base.specs.ConitList.{IsConitList, list_fault}
+use Rattle.tact_base.proofs.ConitListLemmas.{IsConitList-limits, IsConitList-rising}
 use Rattle.run_record.specs.Fields.{◌>>=◌, Tokens, Field}
 use Rattle.run_record.specs.Lists.{list_at}
 use Rattle.run_record.proofs.FieldLemmas.{bind_ok, ok_is}
@@ -74,6 +75,30 @@ module _ {T : Type 0} (conit : T → ℕ) (in_limits : T → Bool) (conits : ℕ
       none_passes (λ x. not (in_limits x)) xs nothing (λ k within. ap not (rising_each xs least k nothing rising within).1) in
       let long : ltb LIST_MAX (length xs) ≡ false = le-ltb _ _ few in
       (rw (long, ordered, inside) refl, λ k d within. (rising_each xs least k d rising within).0)
+
+  rise_from : (xs : List T) (least : ℕ)
+      → ((k : ℕ) (d : T) → k < length xs → conit (get_or xs k d) < conits)
+      → ((k : ℕ) (d : T) → k < length xs → in_limits (get_or xs k d) ≡ true)
+      → ((k : ℕ) (d : T) → suc k < length xs → conit (get_or xs k d) < conit (get_or xs (suc k) d))
+      → ((d : T) → 0 < length xs → least ≤ conit (get_or xs 0 d))
+      → AreRising least xs
+  rise_from [] least below limits rising first = tt
+  rise_from (x ∷ xs) least below limits rising first = (
+    record { reached = first x (omega arith); below = below 0 x (omega arith); limits = limits 0 x (omega arith) },
+    rise_from xs (suc (conit x)) (λ k d within. below (suc k) d (omega arith)) (λ k d within. limits (suc k) d (omega arith))
+        (λ k d within. rising (suc k) d (omega arith)) (λ d some. rising 0 d (omega arith)),
+  )
+
+  -- a list as its type has it rises
+  pub kept_rises : (xs : List T)
+      → IsConitList conit in_limits xs
+      → All (λ x. conit x < conits) xs
+      → AreRising 0 xs
+  kept_rises xs kept below =
+      rise_from xs 0 (λ k d within. below k d within)
+      (λ k d within. IsConitList-limits conit in_limits xs kept k d within)
+      (λ k d within. rw add-one at (IsConitList-rising conit in_limits xs kept k d (omega arith)))
+      (λ d some. omega arith)
 
   -- items that are read one by one
   module _ (item : ℕ → Tokens → Field T) (ends : Tokens → Bool)

@@ -78,7 +78,7 @@ bounds_of s = map (at_row s) (range_with_len 0 (s.replicas * s.conits))
 abbrev bound_with : ℕ → List ℕ → Bound
 bound_with alpha loans = record { alpha = alpha; loans = loans }
 
-bound_at_row : (s : Setup) (place : ℕ) → bound_of s (place / s.conits, place % s.conits) ≡ at_row s place
+pub bound_at_row : (s : Setup) (place : ℕ) → bound_of s (place / s.conits, place % s.conits) ≡ at_row s place
 bound_at_row s place =
     let at = div-add-mod' place s.conits in
     let same : bound_of s (place / s.conits, place % s.conits) ≡ bound_with (get_or s.alphas place 0) (slice_range s.loans (place * s.replicas) (place * s.replicas + s.replicas)) =

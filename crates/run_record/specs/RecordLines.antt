@@ -119,7 +119,8 @@ with_body setup entries body.End = Whole (record { setup = setup; entries = entr
 unfoldable pub line_after : Stage → Tokens → Result Stage LineKind
 line_after Before tokens = header_line tokens >>= λ counts. Ok (Bounds counts [])
 line_after (Bounds counts bounds) tokens =
-    bound_line counts.replicas (length bounds / counts.conits) (length bounds % counts.conits) tokens >>= λ bound. Ok (with_bounds counts (bounds ++ bound ∷ []))
+    bound_line counts.replicas (length bounds / counts.conits) (length bounds % counts.conits) tokens
+    >>= λ bound. Ok (with_bounds counts (bounds ++ bound ∷ []))
 line_after (Entries setup entries) tokens =
     body_line setup.replicas setup.conits (length entries) tokens >>= λ said. Ok (with_body setup entries said)
 line_after (Whole held) tokens = Err AfterEnd

@@ -12,6 +12,7 @@ mod get_acts;
 mod get_record;
 mod get_setup;
 mod held;
+mod laws;
 mod line_fault;
 mod lines;
 mod lists;
@@ -31,6 +32,7 @@ pub use fields::{
 };
 pub use get_record::parse_bytes;
 pub use held::Record;
+pub use laws::{one_record_at_front, printed_is_read};
 pub use line_fault::LineFault;
 pub use lines::{fault_of_bytes, is_skipped};
 pub use lists::{ListEnd, firsts_at, needs_at, numbers_at, weight_at, weights_at};

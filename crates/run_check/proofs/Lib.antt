@@ -1,0 +1,10 @@
+pub mod WholeEntries
+pub mod Records
+pub mod NoFailure
+pub mod RunLength
+pub mod FirstCauses
+pub mod RequestRange
+pub mod AtReplica
+pub mod Passing
+pub mod FirstsApart
+pub mod Going

@@ -1,0 +1,28 @@
+use Rattle.std.proofs.Common.{subst}
+use Rattle.replica_core.specs.Lending.{IsReturnFault}
+use Rattle.replica_set.specs.Sets.{HoldsAt}
+use Rattle.run_check.proofs.AtReplica.{returning_isnt_full, returning_isnt_home, free_told}
+use Rattle.run_check.proofs.FirstCauses.{free_is_first}
+use Rattle.run_check.proofs.Passing.{back_passes}
+use Rattle.run_check.proofs.judging.judge_back.Goals as goal
+
+pub unreachable-requires : goal.unreachable-requires
+unreachable-requires g c =
+    returning_isnt_home g.history c.args.set.now c.requires.0 c.args.at c.requires.1.1.replica c.args.owner c.args.conit c.args.amount c.in-Err-Home.field-0-0 c.in-Err-Home.field-0-1
+    (subst (λ f. HoldsAt c.args.set.now c.args.at.replica (λ core. IsReturnFault core c.args.owner c.args.conit c.args.amount f)) c.in-Err-Home.field-0-is c.in-Err-Home.ensures.fault)
+
+pub unreachable-requires-in-Err-Full : goal.unreachable-requires-in-Err-Full
+unreachable-requires-in-Err-Full g c =
+    returning_isnt_full g.history c.args.set.now c.requires.0 c.args.at c.requires.1.1.replica c.requires.1.0 c.args.owner c.args.conit c.args.amount c.in-Err-Full.field-0-0 c.in-Err-Full.field-0-1
+    (subst (λ f. HoldsAt c.args.set.now c.args.at.replica (λ core. IsReturnFault core c.args.owner c.args.conit c.args.amount f)) c.in-Err-Full.field-0-is c.in-Err-Full.ensures.fault)
+
+pub returns-in-Ok-clause-ok : goal.returns-in-Ok-clause-ok
+returns-in-Ok-clause-ok g c =
+    back_passes g.history c.args.set.now c.requires.0 c.args.at c.requires.1.1.replica c.requires.1.0 c.give_back.new.self c.in-Ok.ensures.setup
+    c.args.owner c.args.conit c.args.amount (c.in-Ok.ensures.goes_on g.history c.requires.0.stands)
+
+pub returns-in-Err-Free-clause-err : goal.returns-in-Err-Free-clause-err
+returns-in-Err-Free-clause-err g c =
+    let told = free_told g.history c.args.set.now c.requires.0 c.args.at c.requires.1.1.replica c.args.owner c.args.conit c.args.amount c.in-Err-Free.field-0-0 c.in-Err-Free.free
+    (subst (λ f. HoldsAt c.args.set.now c.args.at.replica (λ core. IsReturnFault core c.args.owner c.args.conit c.args.amount f)) c.in-Err-Free.field-0-is c.in-Err-Free.ensures.fault) in
+    free_is_first c.args.set.now.setup g.history c.args.at c.requires.1.0 c.args.owner c.args.conit c.args.amount c.in-Err-Free.free told.0 told.1

@@ -1,0 +1,5 @@
+pub mod Expanded
+pub mod Causes
+pub mod Verdicts
+pub mod VerdictText
+pub mod Checking

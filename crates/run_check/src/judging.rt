@@ -1,0 +1,258 @@
+//! One entry of a record after those before it, by the kind of its act. Each function is called where the
+//! replica has room and the moment doesn't run back.
+ghost use Rattle.std.specs.Prelude.{◌≡◌, ◌↔◌, ◌<◌, ◌≤◌, ℕ, List, IsTrue, length, OnOk, IfErr, MatchOption, None, Some, slice_get};
+ghost use Rattle.tact_base.specs.declared.limits.TheConstants.{HISTORY_MAX, REPLICAS_MAX};
+ghost use Rattle.run_model.specs.Histories.{part_of, sent_in};
+ghost use Rattle.run_model.specs.declared.entry.Entry.{Entry};
+ghost use Rattle.run_record.specs.Records.{IsShortOf};
+ghost use Rattle.run_record.specs.declared.short.ShortAct.{ShortAct};
+ghost use Rattle.run_record.specs.declared.short.ShortAct.TheVariants as told;
+ghost use Rattle.run_check.specs.Expanded.{with_short};
+ghost use Rattle.run_check.specs.Checking.{Follow, IsInTime, HasPassed, IsRefusalOf, IsApart, short_at};
+
+use crate::refusal::{At, Refusal};
+use replica_core::{CoreFault, LoanFault};
+use replica_set::ReplicaSet;
+use run_model::{Cause, Message, Reply, Request};
+use tact_base::{HISTORY_MAX, Items, Numbers};
+
+// Whether a replica has room for an entry at a moment.
+pub(crate) fn test_time(set: &ReplicaSet, at: At) -> Result<(), Refusal>
+    ghost history: { List Entry }
+    requires follow { Follow history set.now }
+    requires replica { at.replica < set.now.setup.replicas }
+    ensures ok { OnOk result (IsInTime history at) }
+    ensures err { (act : ShortAct) → IfErr result (IsRefusalOf set.now.setup history (short_at at act)) }
+{
+    let replica = set.at(at.replica);
+    if replica.count() >= HISTORY_MAX {
+        return Err(Refusal::Unlawful(Cause::Full {
+            replica: at.replica,
+        }));
+    }
+    let last = replica.last();
+    if at.moment < last {
+        return Err(Refusal::Unlawful(Cause::Moment {
+            told: at.moment,
+            last,
+        }));
+    }
+    Ok(())
+}
+
+// A call of a client.
+pub(crate) fn judge_call(
+    set: &mut ReplicaSet,
+    at: At,
+    client: u32,
+    number: u64,
+    request: &Request,
+    reply: &Reply,
+) -> Result<(), Refusal>
+    ghost history: { List Entry }
+    requires follow { Follow history set.old }
+    requires in_time { IsInTime history at }
+    requires in_range { IsShortOf set.old.setup (short_at at (told.Call client number request.now reply.now)) }
+    ensures ok { OnOk result (HasPassed set.old.setup history (short_at at (told.Call client number request.now reply.now)) set.new) }
+    ensures err { IfErr result (IsRefusalOf set.old.setup history (short_at at (told.Call client number request.now reply.now))) }
+{
+    let calls = set.at(at.replica).calls(client);
+    if number != calls {
+        return Err(Refusal::Unlawful(Cause::Number {
+            told: number,
+            due: calls,
+        }));
+    }
+    let due = match set.call(at.replica, at.moment, client, request) {
+        Ok(due) => due,
+        Err(fault) => return Err(want_of_memory(fault)),
+    };
+    if !are_same(reply, &due) {
+        return Err(Refusal::Unlawful(Cause::Reply {
+            told: reply.clone()?,
+            due,
+        }));
+    }
+    Ok(())
+}
+
+// A message sent, which is kept among those of its sender.
+pub(crate) fn judge_send(
+    set: &mut ReplicaSet,
+    messages: &mut Items<Message>,
+    at: At,
+    to: u32,
+    number: u64,
+    firsts: &Numbers,
+) -> Result<(), Refusal>
+    ghost history: { List Entry }
+    requires follow { Follow history set.old }
+    requires in_time { IsInTime history at }
+    requires in_range { IsShortOf set.old.setup (short_at at (told.Send to number firsts.now)) }
+    requires sent { messages.old ≡ sent_in (part_of history at.replica) }
+    ensures ok { OnOk result (HasPassed set.old.setup history (short_at at (told.Send to number firsts.now)) set.new) }
+    ensures sent { OnOk result (messages.new ≡ sent_in (part_of (with_short set.old.setup history (short_at at (told.Send to number firsts.now))) at.replica)) }
+    ensures err { IfErr result (IsRefusalOf set.old.setup history (short_at at (told.Send to number firsts.now))) }
+{
+    let due = messages.len() as u64;
+    if number != due {
+        return Err(Refusal::Unlawful(Cause::Number { told: number, due }));
+    }
+    let message = match set.send(at.replica, at.moment, to, firsts) {
+        Ok(message) => message,
+        Err(fault) => return Err(want_of_memory(fault)),
+    };
+    if let Some(apart) = first_apart(firsts.items(), message.firsts.items()) {
+        return Err(Refusal::Unlawful(Cause::First {
+            origin: apart.origin,
+            told: apart.told,
+            due: apart.due,
+        }));
+    }
+    messages.push(message)?;
+    Ok(())
+}
+
+// Where two lists of numbers by origin differ first.
+#[derive(Clone, Copy)]
+struct Apart {
+    origin: u32,
+    told: u64,
+    due: u64,
+}
+
+fn first_apart(told: &[u64], due: &[u64]) -> Option<Apart>
+    requires same { length due.now ≡ length told.now }
+    requires few { length told.now ≤ REPLICAS_MAX }
+    ensures { MatchOption result (told.now ≡ due.now) (λ apart. IsApart told.now due.now apart.origin apart.told apart.due) }
+{
+    for origin in 0..told.len() {
+        let (one, other) = (told[origin], due[origin]);
+        if one != other {
+            return Some(Apart {
+                origin: origin as u32,
+                told: one,
+                due: other,
+            });
+        }
+    }
+    None
+}
+
+// A message taken, which is one of those that its sender sent.
+pub(crate) fn judge_take(
+    set: &mut ReplicaSet,
+    messages: &[Message],
+    at: At,
+    from: u32,
+    number: u64,
+) -> Result<(), Refusal>
+    ghost history: { List Entry }
+    requires follow { Follow history set.old }
+    requires in_time { IsInTime history at }
+    requires in_range { IsShortOf set.old.setup (short_at at (told.Take from number)) }
+    requires sent { messages.now ≡ sent_in (part_of history from) }
+    ensures ok { OnOk result (HasPassed set.old.setup history (short_at at (told.Take from number)) set.new) }
+    ensures err { IfErr result (IsRefusalOf set.old.setup history (short_at at (told.Take from number))) }
+{
+    let Some(message) = message_at(messages, number) else {
+        return Err(Refusal::Unlawful(Cause::NoSend { from, number }));
+    };
+    if message.to != at.replica {
+        return Err(Refusal::Unlawful(Cause::NotAddressed { to: message.to }));
+    }
+    match set.take(at.replica, at.moment, message) {
+        Ok(()) => Ok(()),
+        Err(fault) => Err(want_of_memory(fault)),
+    }
+}
+
+// The message of a number.
+fn message_at(messages: &[Message], number: u64) -> Option<&Message>
+    ensures { MatchOption result (slice_get messages.now number ≡ None) (λ message. slice_get messages.now number ≡ Some message.now) }
+{
+    messages.get(number as usize)
+}
+
+// A loan.
+pub(crate) fn judge_lend(
+    set: &mut ReplicaSet,
+    at: At,
+    to: u32,
+    conit: u32,
+    amount: u64,
+) -> Result<(), Refusal>
+    ghost history: { List Entry }
+    requires follow { Follow history set.old }
+    requires in_time { IsInTime history at }
+    requires in_range { IsShortOf set.old.setup (short_at at (told.Lend to conit amount)) }
+    ensures ok { OnOk result (HasPassed set.old.setup history (short_at at (told.Lend to conit amount)) set.new) }
+    ensures err { IfErr result (IsRefusalOf set.old.setup history (short_at at (told.Lend to conit amount))) }
+{
+    match set.lend(at.replica, at.moment, to, conit, amount) {
+        Ok(()) => Ok(()),
+        Err(LoanFault::Home { home, .. }) => {
+            Err(Refusal::Unlawful(Cause::Home { amount, home }))
+        }
+        Err(LoanFault::Free { .. }) => unreachable!(),
+        Err(LoanFault::Full { .. }) => unreachable!(),
+    }
+}
+
+// An amount given back.
+pub(crate) fn judge_back(
+    set: &mut ReplicaSet,
+    at: At,
+    owner: u32,
+    conit: u32,
+    amount: u64,
+) -> Result<(), Refusal>
+    ghost history: { List Entry }
+    requires follow { Follow history set.old }
+    requires in_time { IsInTime history at }
+    requires in_range { IsShortOf set.old.setup (short_at at (told.Back owner conit amount)) }
+    ensures ok { OnOk result (HasPassed set.old.setup history (short_at at (told.Back owner conit amount)) set.new) }
+    ensures err { IfErr result (IsRefusalOf set.old.setup history (short_at at (told.Back owner conit amount))) }
+{
+    match set.give_back(at.replica, at.moment, owner, conit, amount) {
+        Ok(()) => Ok(()),
+        Err(LoanFault::Free { free, .. }) => {
+            Err(Refusal::Unlawful(Cause::Free { amount, free }))
+        }
+        Err(LoanFault::Home { .. }) => unreachable!(),
+        Err(LoanFault::Full { .. }) => unreachable!(),
+    }
+}
+
+// A new beginning.
+pub(crate) fn judge_restart(set: &mut ReplicaSet, at: At) -> Result<(), Refusal>
+    ghost history: { List Entry }
+    requires follow { Follow history set.old }
+    requires in_time { IsInTime history at }
+    requires in_range { IsShortOf set.old.setup (short_at at told.Restart) }
+    ensures ok { OnOk result (HasPassed set.old.setup history (short_at at told.Restart) set.new) }
+    ensures err { IfErr result (IsRefusalOf set.old.setup history (short_at at told.Restart)) }
+{
+    match set.restart(at.replica, at.moment) {
+        Ok(()) => Ok(()),
+        Err(fault) => Err(want_of_memory(fault)),
+    }
+}
+
+// Whether two replies are the same.
+fn are_same(one: &Reply, other: &Reply) -> bool
+    ensures { IsTrue result ↔ (one.now ≡ other.now) }
+{
+    one == other
+}
+
+// The fault of a replica that isn't full.
+fn want_of_memory(fault: CoreFault) -> Refusal
+    requires { fault ≡ CoreFault.NoMemory }
+    ensures { result ≡ Refusal.NoMemory }
+{
+    match fault {
+        CoreFault::NoMemory => Refusal::NoMemory,
+        CoreFault::Full { .. } => unreachable!(),
+    }
+}
