@@ -1,3 +1,4 @@
 pub mod NewSet
 pub mod OneReplica
 pub mod SentMessages
+pub mod StandingRuns

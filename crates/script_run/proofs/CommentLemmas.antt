@@ -1,17 +1,18 @@
 -- The comment that shows a replica: its tokens as they are put one after another, and the part that it stands for.
-use Rattle.std.proofs.Common.{◌≡◌, ℕ, ◌+◌, ◌-◌, ◌<◌, List, [], ◌∷◌, ◌++◌, length, get_or, map, codes, decimal, Option, None, Some, append_assoc, refl, sym, ap, ap₂, ◌∙◌, arith}
+use Rattle.std.proofs.Common.{◌≡◌, ℕ, ◌+◌, ◌-◌, ◌<◌, List, [], ◌∷◌, ◌++◌, length, get_or, take, flat_map, map, codes, decimal, Option, None, Some, append_assoc, refl, sym, ap, ap₂, ◌∙◌, arith}
 use Rattle.std.specs.List.{range_with_len, last_or}
 use Rattle.std.specs.Option.{option_map}
 use Rattle.std.specs.Prelude.{slice_get}
 use Rattle.std.proofs.lemmas.Grind.{flat_map-append}
-use Rattle.std.proofs.lemmas.List.{append-nil}
+use Rattle.std.proofs.lemmas.List.{append-nil, take_more}
 use Rattle.tact_base.proofs.ListLemmas.{get_or-map_range, map_range_agree}
 use Rattle.tact_base.proofs.RangeLists.{map_more}
 use Rattle.tact_base.specs.Setup.{Setup, replicas_of}
 use Rattle.tact_base.specs.WriteOrder.{committed_to, tentative_past}
+use Rattle.tact_base.specs.declared.conit_list.Need.{Need}
 use Rattle.tact_base.specs.declared.write.Write.{Write}
 use Rattle.run_model.specs.Histories.{part_of}
-use Rattle.run_model.specs.ScriptRuns.{comment, place_token, show_text}
+use Rattle.run_model.specs.ScriptRuns.{comment, place_token, show_text, need_text}
 use Rattle.run_model.specs.Order.{point, seen}
 use Rattle.run_model.specs.Taking.{have, log_of, clock}
 use Rattle.run_model.specs.Text.{spaced}
@@ -20,7 +21,8 @@ use Rattle.replica_core.specs.Seen.{last_one}
 use Rattle.replica_core.specs.Stands.{Stands}
 use Rattle.replica_core.specs.States.{Core, log_at}
 use Rattle.replica_core.specs.declared.last_one.LastOne.{LastOne}
-use Rattle.script_run.specs.Comments.{have_tokens, last_token, writes_tokens, state_tokens, shown_core}
+use Rattle.reference_book.specs.Books.{errors_of}
+use Rattle.script_run.specs.Comments.{have_tokens, last_token, writes_tokens, state_tokens, shown_core, need_comment}
 
 -- one more token
 pub spaced_map_more : (f : ℕ → List ℕ) (n : ℕ)
@@ -106,3 +108,22 @@ module _ (history : List Entry) (core : Core) (stands : Stands (part_of history 
       ∙ ap (λ (time : ℕ). text haves (state time core.writes.point (writes_tokens core.writes.point core.writes.seen))) stands.writes.clock
       ∙ ap₂ (λ (at : ℕ) (writes : List Write). text haves (state (clock part) at (writes_tokens at writes))) stands.writes.point stands.writes.seen
       ∙ ap (λ (last : List ℕ). text haves (state (clock part) upto (tokens upto all last))) (last_token-is (committed_to upto all))
+
+-- The comment on a need is that of the script's meaning.
+pub need_comment-is : (setup : Setup) (history : List Entry) (replica moment : ℕ) (need : Need)
+    → need_comment (errors_of setup history replica moment need.conit) need ≡ need_text setup history replica moment need
+need_comment-is setup history replica moment need = refl
+
+-- one more of them
+pub needs_more : (text : Need → List ℕ) (needs : List Need) (at : ℕ) (d : Need) (old out : List ℕ)
+    → at < length needs
+    → out ≡ old ++ flat_map text (take at needs)
+    → out ++ text (get_or needs at d) ≡ old ++ flat_map text (take (at + 1) needs)
+needs_more text needs at d old out within grown =
+    let need = get_or needs at d in
+    ap (λ (front : List ℕ). front ++ text need) grown
+    ∙ append_assoc old (flat_map text (take at needs)) (text need)
+    ∙ ap (λ (more : List ℕ). old ++ more)
+    (ap (λ (last : List ℕ). flat_map text (take at needs) ++ last) (sym (append-nil (text need)))
+    ∙ sym (flat_map-append text (take at needs) (need ∷ []))
+    ∙ ap (flat_map text) (sym (take_more needs at d within)))

@@ -7,10 +7,21 @@ use Rattle.tact_base.specs.WriteOrder.{committed_to, tentative_past}
 use Rattle.tact_base.specs.declared.conit_list.Need.{Need}
 use Rattle.tact_base.specs.declared.write.Write.{Write}
 use Rattle.run_model.specs.ScriptRuns.{comment, bounded_token}
+use Rattle.run_model.specs.Histories.{part_of}
+use Rattle.run_model.specs.Runs.{IsRun}
+use Rattle.run_model.specs.declared.entry.Entry.{Entry}
 use Rattle.replica_core.specs.Seen.{last_one}
+use Rattle.replica_core.specs.Stands.{Stands}
 use Rattle.replica_core.specs.States.{Core, log_at}
 use Rattle.replica_core.specs.declared.last_one.LastOne.{LastOne}
+use Rattle.reference_book.specs.Books.{BookState, IsBookOf}
 use Rattle.reference_book.specs.declared.errors.Errors.{Errors}
+
+-- a history is a run, of which the book has all accepted writes, and the replica stands for its part of it
+pub record TellsTruth (kept : BookState) (core : Core) (history : List Entry) : Type 0 where
+  pub run : IsRun core.setup history
+  pub book : IsBookOf core.setup history kept
+  pub stands : Stands (part_of history core.replica) core
 
 -- how many writes of each origin a replica has
 abbrev pub have_tokens : Core → List (List ℕ)

@@ -1,8 +1,4 @@
-pub mod Words
-pub mod Forms
-pub mod Scripts
-pub mod Seats
+pub mod Comments
+pub mod Stages
 pub mod Worlds
 pub mod Playing
-pub mod Shown
-pub mod Comments

@@ -7,8 +7,9 @@ use Rattle.run_model.specs.declared.status.Status.TheVariants as status
 use Rattle.run_model.specs.Promises.{IsKept}
 use Rattle.run_model.specs.Runs.{IsRun}
 use Rattle.run_model.specs.ScriptRuns.{history_of, play_text}
-use Rattle.script_run.specs.Forms.{setup_of}
-use Rattle.script_run.specs.Scripts.{script_of, IsScript}
+use Rattle.script_text.specs.Setups.{setup_of}
+use Rattle.script_text.specs.Texts.{script_of}
+use Rattle.script_text.specs.Scripts.{IsScript}
 use Rattle.tact_io.specs.Faults.{HasRisen}
 use Rattle.tact_io.specs.Sink.{Gains, GainsPart}
 use Rattle.tact_io.specs.Source.{IsAtEnd}

@@ -1,15 +1,16 @@
 //! The comments of `play`: on a replica that is shown, on a need of a read, on a conit's true value, and on a loan or
 //! a return over its limit. Where one of the private calls fails, the text still begins with what it was.
-ghost use Rattle.std.specs.Prelude.{◌≡◌, ◌∷◌, ◌++◌, [], ℕ, List, map, codes, decimal, OnOk, OnErr};
+ghost use Rattle.std.specs.Prelude.{◌≡◌, ◌<◌, ◌∷◌, ◌++◌, [], List, All, length, codes, decimal, OnOk, OnErr};
 ghost use Rattle.std.specs.Fmt.{signed_decimal};
+ghost use Rattle.std.specs.List.{flat_map};
 ghost use Rattle.run_model.specs.Histories.{part_of};
-ghost use Rattle.run_model.specs.ScriptRuns.{bounded_token, show_text};
+ghost use Rattle.run_model.specs.ScriptRuns.{bounded_token, show_text, need_text};
 ghost use Rattle.run_model.specs.Text.{spaced, BeginsWith};
 ghost use Rattle.run_model.specs.declared.entry.Entry.{Entry};
 ghost use Rattle.replica_core.specs.Stands.{Stands};
-ghost use Rattle.script_run.specs.Comments.{have_tokens, last_token, writes_tokens, state_tokens, shown_core, need_comment, reference_comment, refusal_comment};
+ghost use Rattle.script_run.specs.Comments.{TellsTruth, have_tokens, last_token, writes_tokens, state_tokens, shown_core, need_comment, reference_comment, refusal_comment};
 
-use reference_book::Errors;
+use reference_book::{Book, Errors};
 use replica_core::{LastOne, Replica};
 use run_model::{Config, all_or_nothing, put_number, put_row, put_token};
 use tact_base::{Bytes, Need, NoMemory, print_number, print_signed};
@@ -42,6 +43,27 @@ pub(crate) fn need(errors: &Errors, need: &Need, out: &mut Bytes) -> Result<(), 
 {
     let start = out.len();
     let done = print_need(errors, need, out);
+    all_or_nothing(done, start, out)
+}
+
+/// Appends the comments on the needs of a read that a replica answered at a moment, with their line feeds, by the
+/// book of all writes accepted up to the answer. `NoMemory` leaves `out` as it was.
+pub(crate) fn needs(
+    book: &Book,
+    view: &Replica,
+    moment: u64,
+    needs: &[Need],
+    out: &mut Bytes,
+) -> Result<(), NoMemory>
+    requires conits { view.now.core.setup.conits ≡ book.now.conits }
+    requires replicas { view.now.core.setup.replicas ≡ length book.now.logs }
+    requires needs { All (λ need. need.conit < book.now.conits) needs.now }
+    ensures of_history { OnOk result ((history : List Entry) → TellsTruth book.now view.now.core history
+        → out.new ≡ out.old ++ flat_map (need_text view.now.core.setup history view.now.core.replica moment) needs.now) }
+    ensures err { OnErr result (out.new ≡ out.old) }
+{
+    let start = out.len();
+    let done = print_needs(book, view, moment, needs, out);
     all_or_nothing(done, start, out)
 }
 
@@ -163,6 +185,28 @@ fn print_need(errors: &Errors, need: &Need, out: &mut Bytes) -> Result<(), NoMem
     put_row(b"need", &[u64::from(need.conit)], out)?;
     put_bounds(errors, need, out)?;
     out.push(b'\n')
+}
+
+#[tactic(auto, using(run_model::proofs::TextLemmas::begins_grown, run_model::proofs::TextLemmas::always_err))]
+fn print_needs(
+    book: &Book,
+    view: &Replica,
+    moment: u64,
+    needs: &[Need],
+    out: &mut Bytes,
+) -> Result<(), NoMemory>
+    requires conits { view.now.core.setup.conits ≡ book.now.conits }
+    requires replicas { view.now.core.setup.replicas ≡ length book.now.logs }
+    requires needs { All (λ need. need.conit < book.now.conits) needs.now }
+    ensures of_history { OnOk result ((history : List Entry) → TellsTruth book.now view.now.core history
+        → out.new ≡ out.old ++ flat_map (need_text view.now.core.setup history view.now.core.replica moment) needs.now) }
+    ensures err { OnErr result (BeginsWith out.old out.new) }
+{
+    for need in needs {
+        let errors = book.errors(view, moment, need.conit);
+        print_need(&errors, need, out)?;
+    }
+    Ok(())
 }
 
 // The three errors with their bounds.

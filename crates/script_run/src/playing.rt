@@ -1,18 +1,16 @@
 //! `play`: a script in, the text of its run out.
-ghost use Rattle.std.specs.Prelude.{◌≡◌, ◌≤◌, ◌⊎◌, [], ◌∷◌, ◌++◌, length, replicate, IfOk, OnOk};
-ghost use Rattle.run_model.specs.ScriptRuns.{not_played, played_by, lines_text, play_text};
+ghost use Rattle.std.specs.Prelude.{◌≡◌, ◌≤◌, ◌⊎◌, [], ◌++◌, false, length, IfOk, OnOk};
+ghost use Rattle.run_model.specs.ScriptRuns.{not_played, lines_text, play_text};
 ghost use Rattle.run_model.specs.declared.status.Status.TheVariants.{Done, NoMemory as OutOfMemory};
 ghost use Rattle.tact_base.specs.declared.limits.TheConstants.{SCRIPT_LINES};
 ghost use Rattle.tact_io.specs.Faults.{HasRisen};
-ghost use Rattle.script_run.specs.Forms.{setup_of};
+ghost use Rattle.script_text.specs.Scripts.{IsScript};
+ghost use Rattle.script_text.specs.Setups.{setup_of};
 ghost use Rattle.script_run.specs.Playing.{Completes, HasCause, IsWritten, Writes, WritesText};
-ghost use Rattle.script_run.specs.Scripts.{IsScript};
-ghost use Rattle.script_run.specs.Worlds.{IsWorld, Plays, HasSent, sent_counts};
 
-use crate::fault::ScriptFault;
-use crate::script::{Script, parse_script};
 use crate::world::World;
 use run_model::{InputKind, Line, Status, end_of, head_of};
+use script_text::{Script, ScriptFault, parse_script};
 use std::alloc::Global;
 use tact_base::{Bytes, INPUT_MAX, NoMemory};
 use tact_io::{OutFault, ReadEnd, Sink, Source, read_all, write_all};
@@ -80,46 +78,24 @@ fn text_of(alloc: Global, script: &Script) -> Result<Bytes, NoMemory>
     let mut text = Bytes::new(alloc);
     head_of(script.config(), &mut text)?;
     let mut world = World::new(alloc, script.config())?;
-    run_script(&mut world, script.lines(), &mut text)?;
-    end_of(world.count(), &mut text)?;
+    step_all(&mut world, script.lines(), &mut text)?;
+    end_of(world.entries().len() as u64, &mut text)?;
     Ok(text)
 }
 
 // Does what the lines of a script say, in a world in which nothing has happened.
-fn run_script(world: &mut World, lines: &[Line], text: &mut Bytes) -> Result<(), NoMemory>
+fn step_all(world: &mut World, lines: &[Line], text: &mut Bytes) -> Result<(), NoMemory>
     requires script { IsScript lines.now }
     requires few { length lines.now ≤ SCRIPT_LINES }
-    requires world { IsWorld world.old }
-    requires config { world.old.config ≡ setup_of lines.now }
-    requires sent { sent_counts world.old ≡ replicate world.old.config.replicas 0 }
-    requires plays { Plays world.old not_played }
-    ensures plays { OnOk result (Plays world.new (played_by (setup_of lines.now) lines.now)) }
+    requires setup { world.old.setup ≡ setup_of lines.now }
+    requires lines { world.old.lines ≡ [] }
+    requires unspent { world.old.spent ≡ false }
+    ensures setup { world.new.setup ≡ world.old.setup }
+    ensures lines { OnOk result (world.new.lines ≡ lines.now) }
+    ensures unspent { OnOk result (world.new.spent ≡ false) }
     ensures text { OnOk result (text.new ≡ text.old ++ lines_text (setup_of lines.now) not_played lines.now) }
 {
-    match lines {
-        [] => Ok(()),
-        [first, later @ ..] => {
-            run_lines(world, first, later, text)?;
-            Ok(())
-        }
-    }
-}
-
-// Does what the lines of a script after its first one say.
-fn run_lines(
-    world: &mut World,
-    first: &Line,
-    later: &[Line],
-    text: &mut Bytes,
-) -> Result<(), NoMemory>
-    requires script { IsScript (first.now ∷ later.now) }
-    requires world { HasSent world.old (first.now ∷ []) }
-    requires plays { Plays world.old not_played }
-    requires few { length (first.now ∷ later.now) ≤ SCRIPT_LINES }
-    ensures plays { OnOk result (Plays world.new (played_by (setup_of (first.now ∷ later.now)) (first.now ∷ later.now))) }
-    ensures text { OnOk result (text.new ≡ text.old ++ lines_text (setup_of (first.now ∷ later.now)) not_played (first.now ∷ later.now)) }
-{
-    for line in later {
+    for line in lines {
         world.step(line, text)?;
     }
     Ok(())

@@ -5,7 +5,7 @@ use Rattle.run_model.specs.declared.status.InputKind.TheVariants as input
 use Rattle.run_model.specs.declared.status.Status.{Status}
 use Rattle.run_model.specs.declared.status.Status.TheVariants as status
 use Rattle.script_run.specs.Playing.{IsPlayOf}
-use Rattle.script_run.specs.Scripts.{script_of}
+use Rattle.script_text.specs.Texts.{script_of}
 
 -- the text of the run of the script that the input is, which is a run that keeps its promises
 abbrev pub IsPlayed : List ℕ → Status → List ℕ → Type 0

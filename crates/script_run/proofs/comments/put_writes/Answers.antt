@@ -1,4 +1,4 @@
-use Rattle.std.proofs.Common.{ap, ◌∙◌, length}
+use Rattle.std.proofs.Common.{ap, length}
 use Rattle.std.proofs.lemmas.Result.{on_ok_weaker}
 use Rattle.script_run.proofs.CommentLemmas.{grown_by_writes}
 use Rattle.script_run.proofs.comments.put_writes.Goals as goal

@@ -1,8 +1,8 @@
-use Rattle.std.proofs.Common.{◌≡◌, ℕ, List, Ok, subst, ◌∙◌}
+use Rattle.std.proofs.Common.{◌≡◌, ℕ, List, Ok, ◌∙◌, subst}
 use Rattle.run_model.specs.ScriptRuns.{play_text}
-use Rattle.script_run.specs.Forms.{setup_of}
-use Rattle.script_run.specs.Scripts.{script_of}
-use Rattle.script_run.proofs.LineLemmas.{play_of, text_is_written}
+use Rattle.script_text.specs.Setups.{setup_of}
+use Rattle.script_text.specs.Texts.{script_of}
+use Rattle.script_run.proofs.Played.{play_of, text_is_written}
 use Rattle.script_run.proofs.playing.play.Goals as goal
 
 pub returns-in-Ok-text_of-clause-written : goal.returns-in-Ok-text_of-clause-written

@@ -1,0 +1,35 @@
+use Rattle.std.proofs.Common.{◌++◌, refl, sym, ap, ap₂, ◌∙◌, subst}
+use Rattle.std.proofs.lemmas.Result.{on_ok_weaker}
+use Rattle.tact_base.specs.Setup.{Setup}
+use Rattle.std.specs.Result.{OnOk}
+use Rattle.run_model.specs.ScriptRuns.{Played, passes, show_text}
+use Rattle.run_model.specs.declared.script_line.Line.{Line}
+use Rattle.run_model.specs.declared.script_line.Line.TheVariants as line
+use Rattle.script_run.specs.Stages.{Enters, Steps}
+use Rattle.script_run.proofs.Stepping.{enters_twice, steps_by_entries, steps_by_comment}
+use Rattle.script_run.proofs.stage.Stage.step.Goals as goal
+
+pub returns-in_ok-pass-in-Sync-clause-steps : goal.returns-in_ok-pass-in-Sync-clause-steps
+returns-in_ok-pass-in-Sync-clause-steps c =
+    let old = c.args.self.now in
+    let mid = c.pass.new.self in
+    let one = c.in_ok-pass-in-Sync.ensures.enters in
+    subst (λ (l : Line). OnOk c.pass-in-Sync.result (Steps old c.pass-in-Sync.new.self l c.args.out.now c.pass-in-Sync.new.out)) (sym c.in-Sync.is)
+    (on_ok_weaker c.pass-in-Sync.result
+    (λ two. steps_by_entries old c.pass-in-Sync.new.self (line.Sync c.in-Sync.first c.in-Sync.second) c.args.out.now c.pass-in-Sync.new.out refl
+    (subst (λ (p : Played). Enters old c.pass-in-Sync.new.self p c.args.out.now c.pass-in-Sync.new.out)
+    (ap₂ (λ (s : Setup) (p : Played). passes s p c.in-Sync.second c.in-Sync.first) one.goes.setup one.goes.played)
+    (enters_twice old mid c.pass-in-Sync.new.self _ _ c.args.out.now c.pass.new.out c.pass-in-Sync.new.out one two)))
+    c.pass-in-Sync.ensures.enters)
+
+pub returns-in-Show-clause-steps : goal.returns-in-Show-clause-steps
+returns-in-Show-clause-steps c =
+    let old = c.args.self.now in
+    let keeps = c.requires.keeps in
+    subst (λ (l : Line). OnOk c.show.result (Steps old old l c.args.out.now c.show.new.out)) (sym c.in-Show.is)
+    (on_ok_weaker c.show.result
+    (λ told. steps_by_comment old old (line.Show c.in-Show.replica) c.args.out.now c.show.new.out refl
+    (record { keeps = keeps; setup = refl; played = refl })
+    (told old.entries (keeps.stands.parts c.in-Show.replica c.at-view.result.now.core c.at-view.ensures)
+    ∙ ap (λ (s : Setup). c.args.out.now ++ show_text s old.entries c.in-Show.replica) c.config.ensures))
+    c.show.ensures.of_history)

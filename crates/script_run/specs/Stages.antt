@@ -1,0 +1,94 @@
+-- What a script plays on: what it keeps of what was played, and what a step of it leaves.
+use Rattle.std.specs.Prelude.{◌≡◌, ℕ, ◌<◌, ◌≤◌, List, ◌∷◌, [], ◌++◌, length, map, slice_get, slice_index_or, Option, Some}
+use Rattle.std.specs.Option.{option_and_then}
+use Rattle.tact_base.specs.Setup.{Setup}
+use Rattle.tact_base.specs.declared.conit_list.Need.{Need}
+use Rattle.tact_base.specs.declared.limits.TheConstants.{MOMENT_MAX}
+use Rattle.run_model.specs.Histories.{part_of, sent_in, sent_by_act}
+use Rattle.run_model.specs.Runs.{IsRun}
+use Rattle.run_model.specs.ScriptRuns.{Played, zeros, after_line, entries_text, text_after}
+use Rattle.run_model.specs.declared.call.Reply.{Reply}
+use Rattle.run_model.specs.declared.call.Reply.TheVariants as reply
+use Rattle.run_model.specs.declared.call.Request.{Request}
+use Rattle.run_model.specs.declared.call.Request.TheVariants as request
+use Rattle.run_model.specs.declared.entry.Act.{Act}
+use Rattle.run_model.specs.declared.entry.Act.TheVariants as act
+use Rattle.run_model.specs.declared.entry.Entry.{Entry}
+use Rattle.run_model.specs.declared.entry.Message.{Message}
+use Rattle.run_model.specs.declared.script_line.Line.{Line}
+use Rattle.run_model.specs.declared.script_line.Line.TheVariants as line
+use Rattle.reference_book.specs.Books.{IsBookOf}
+use Rattle.replica_set.specs.Sets.{StandsFor}
+use Rattle.script_text.specs.Fronts.{HasItsMessage}
+use Rattle.script_text.specs.LineRanges.{IsLineInRange}
+use Rattle.script_run.specs.declared.stage.Stage.{Stage}
+
+-- the setup, and what was played so far
+abbrev pub setup_in : Stage → Setup
+setup_in stage = stage.set.setup
+
+abbrev pub played_in : Stage → Played
+played_in stage = record { history = stage.entries; handed = stage.handed }
+
+-- the message that the entry at a place sends
+abbrev pub message_at : List Entry → ℕ → Option Message
+message_at history place = option_and_then (λ entry. sent_by_act entry.act) (slice_get history place)
+
+-- places of entries, by replica: those in which it sent, by the numbers of the messages
+abbrev pub AreSends : Setup → List Entry → List (List ℕ) → Type 0
+AreSends setup history sends = (from : ℕ) → from < setup.replicas
+    → map (message_at history) (slice_index_or sends from []) ≡ map Some (sent_in (part_of history from))
+
+-- What a stage keeps: the replicas stand for what was played, which is a run; where its messages are; and the book of all writes.
+pub record Keeps (stage : Stage) : Type 0 where
+  pub stands : StandsFor stage.entries stage.set
+  pub run : IsRun (setup_in stage) stage.entries
+  pub handed : stage.handed ≤ MOMENT_MAX
+  pub sized : length stage.sends.items ≡ (setup_in stage).replicas
+  pub sends : AreSends (setup_in stage) stage.entries stage.sends.items
+  pub zeros : stage.zeros ≡ zeros (setup_in stage)
+  pub book : IsBookOf (setup_in stage) stage.entries stage.book
+
+-- An entry was made that isn't kept yet: with it the replicas stand for a run, and the book is that of it.
+pub record IsMade (stage : Stage) (entry : Entry) : Type 0 where
+  pub replica : entry.replica < (setup_in stage).replicas
+  pub stands : StandsFor (stage.entries ++ entry ∷ []) stage.set
+  pub run : IsRun (setup_in stage) (stage.entries ++ entry ∷ [])
+  pub book : IsBookOf (setup_in stage) (stage.entries ++ entry ∷ []) stage.book
+
+-- It is kept, and the text gained its line and the comments on it.
+pub record Entered (old new : Stage) (entry : Entry) (out out' : List ℕ) : Type 0 where
+  pub stage : new ≡ record old { entries = old.entries ++ entry ∷ [] }
+  pub text : out' ≡ out ++ entries_text (setup_in old) old.entries (entry ∷ [])
+
+-- It goes on to something played, under its setup.
+pub record GoesOnTo (old new : Stage) (end : Played) : Type 0 where
+  pub keeps : Keeps new
+  pub setup : setup_in new ≡ setup_in old
+  pub played : played_in new ≡ end
+
+-- It does so by entries, and the text gained their lines and the comments on them.
+pub record Enters (old new : Stage) (end : Played) (out out' : List ℕ) : Type 0 where
+  pub goes : GoesOnTo old new end
+  pub made : List Entry
+  pub history : end.history ≡ old.entries ++ made
+  pub text : out' ≡ out ++ entries_text (setup_in old) old.entries made
+
+-- the needs of a read that was answered with a value
+abbrev pub needs_met : Request → Reply → List Need
+needs_met (request.Read key needs) (reply.Value value sums) = needs
+needs_met _ _ = []
+
+abbrev pub needs_in : Act → List Need
+needs_in (act.Call client number request reply) = needs_met request reply
+needs_in other = []
+
+-- a line that can be done: the first of a script, or one in range whose message, if it takes one, was sent
+abbrev pub IsReadyFor : Setup → List Entry → Line → Type 0
+IsReadyFor setup history (line.Start replicas conits alpha loan) = Unit {0}
+IsReadyFor setup history other = IsLineInRange setup other × HasItsMessage setup history other
+
+-- It does what a line says, and the text gained what the line prints.
+pub record Steps (old new : Stage) (line : Line) (out out' : List ℕ) : Type 0 where
+  pub goes : GoesOnTo old new (after_line (setup_in old) (played_in old) line)
+  pub text : out' ≡ out ++ text_after (setup_in old) (played_in old) line

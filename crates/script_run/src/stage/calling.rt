@@ -1,0 +1,164 @@
+//! Calls of clients.
+ghost use Rattle.std.specs.Prelude.{◌≡◌, ℕ, ◌<◌, ◌≤◌, List, [], ◌∷◌, ◌++◌, unsigned_abs, Some, IfOk, OnOk};
+ghost use Rattle.tact_base.specs.Setup.{Setup};
+ghost use Rattle.tact_base.specs.declared.limits.TheConstants.{CLIENTS, WEIGHT_MAX};
+ghost use Rattle.tact_base.specs.declared.write.Write.{Write};
+ghost use Rattle.run_model.specs.OwnWrites.{asked_write, done_as, accepted_as};
+ghost use Rattle.run_model.specs.Ranges.{IsRequestInRange};
+ghost use Rattle.run_model.specs.ScriptRuns.{calls};
+ghost use Rattle.run_model.specs.declared.entry.Act.TheVariants as act;
+ghost use Rattle.run_model.specs.declared.entry.Entry.{Entry};
+ghost use Rattle.reference_book.specs.Books.{IsBookOf, IsNextIn};
+ghost use Rattle.script_run.specs.Stages.{needs_in, needs_met};
+
+use super::Stage;
+use reference_book::Book;
+use run_model::{Act, Entry, Reply, Request};
+use tact_base::{Bytes, Need, NoMemory, Weight, Weights, Write};
+
+impl Stage {
+    ghost use Rattle.script_run.specs.Stages.{Keeps, Enters, setup_in, played_in};
+
+    // A client calls a replica.
+    pub(super) fn call(
+        &mut self,
+        replica: u32,
+        client: u32,
+        request: Request,
+        out: &mut Bytes,
+    ) -> Result<(), NoMemory>
+        requires keeps { Keeps self.old }
+        requires replica { replica < (setup_in self.old).replicas }
+        requires client { client < CLIENTS }
+        requires in_range { IsRequestInRange (setup_in self.old) request }
+        ensures enters { OnOk result (Enters self.old self.new (calls (setup_in self.old) (played_in self.old) replica client request) out.old out.new) }
+        ensures setup { setup_in self.new ≡ setup_in self.old }
+    {
+        let moment = self.moment_of(replica);
+        let number = self.set.at(replica).calls(client);
+        let Ok(reply) = self.set.call(replica, self.handed, client, &request) else {
+            return Err(NoMemory);
+        };
+        note_call(&mut self.book, replica, moment, &request, &reply)?;
+        let act = Act::Call {
+            client,
+            number,
+            request,
+            reply,
+        };
+        self.enter(
+            Entry {
+                replica,
+                moment,
+                act,
+            },
+            out,
+        )
+    }
+}
+
+// Takes the write that a call accepted, if it did, into the book.
+fn note_call(
+    book: &mut Book,
+    replica: u32,
+    moment: u64,
+    request: &Request,
+    reply: &Reply,
+) -> Result<(), NoMemory>
+    requires next { (write : Write) → accepted_as replica moment (asked_write request.now) (done_as reply.now) ≡ Some write → IsNextIn book.old write }
+    ensures { OnOk result ((setup : Setup) (history : List Entry) (client number : ℕ) → IsBookOf setup history book.old
+        → IsBookOf setup (history ++ record { replica = replica; moment = moment; act = act.Call client number request.now reply.now } ∷ []) book.new) }
+{
+    match write_of(replica, moment, request, reply)? {
+        None => Ok(()),
+        Some(write) => book.accept(&write),
+    }
+}
+
+// The write that a call accepted, if it did.
+fn write_of(
+    replica: u32,
+    moment: u64,
+    request: &Request,
+    reply: &Reply,
+) -> Result<Option<Write>, NoMemory>
+    ensures { IfOk result (λ write. write ≡ accepted_as replica moment (asked_write request.now) (done_as reply.now)) }
+{
+    let Some((index, stamp)) = done_as(reply) else {
+        return Ok(None);
+    };
+    let (weights, op) = match request {
+        Request::Write { weights, op } => (weights.clone()?, *op),
+        Request::Held { weight, op } => (only(*weight)?, *op),
+        Request::Reserve { .. } | Request::Release { .. } | Request::Read { .. } => return Ok(None),
+    };
+    Ok(Some(Write {
+        origin: replica,
+        index,
+        stamp,
+        moment,
+        weights,
+        op,
+    }))
+}
+
+// The index and the stamp of an accepted write.
+fn done_as(reply: &Reply) -> Option<(u64, u64)>
+    ensures { result ≡ done_as reply.now }
+{
+    match reply {
+        Reply::Done { index, stamp } => Some((*index, *stamp)),
+        Reply::Granted
+        | Reply::Released
+        | Reply::Value { .. }
+        | Reply::TooHeavy { .. }
+        | Reply::WaitHeld { .. }
+        | Reply::WaitShare { .. }
+        | Reply::WaitLent { .. }
+        | Reply::WaitOrder { .. }
+        | Reply::WaitStale { .. }
+        | Reply::NotHeld { .. } => None,
+    }
+}
+
+// The list of one weight, which is within its limits where it was accepted.
+fn only(weight: Weight) -> Result<Weights, NoMemory>
+    ensures { IfOk result (λ weights. weights ≡ weight ∷ []) }
+{
+    Weights::new(&[weight]).map_err(|_| NoMemory)
+}
+
+// The needs of a read that was answered with a value.
+pub(super) fn needs_in(act: &Act) -> &[Need]
+    ensures { result.now ≡ needs_in act.now }
+{
+    match act {
+        Act::Call { request, reply, .. } => needs_met(request, reply),
+        Act::Send { .. } | Act::Take { .. } | Act::Lend { .. } | Act::Back { .. } | Act::Restart =>
+            &[],
+    }
+}
+
+fn needs_met<'a>(request: &'a Request, reply: &Reply) -> &'a [Need]
+    ensures { result.now ≡ needs_met request.now reply.now }
+{
+    match request {
+        Request::Read { needs, .. } => match reply {
+            Reply::Value { .. } => needs.items(),
+            Reply::Done { .. }
+            | Reply::Granted
+            | Reply::Released
+            | Reply::TooHeavy { .. }
+            | Reply::WaitHeld { .. }
+            | Reply::WaitShare { .. }
+            | Reply::WaitLent { .. }
+            | Reply::WaitOrder { .. }
+            | Reply::WaitStale { .. }
+            | Reply::NotHeld { .. } => &[],
+        },
+        Request::Write { .. }
+        | Request::Held { .. }
+        | Request::Reserve { .. }
+        | Request::Release { .. } => &[],
+    }
+}
