@@ -15,4 +15,8 @@ mod refusals;
 #[cfg(test)]
 mod sources_and_sinks;
 #[cfg(test)]
+mod worked_budgets;
+#[cfg(test)]
+mod worked_reads;
+#[cfg(test)]
 mod worked_scripts;

@@ -27,3 +27,15 @@ pub(crate) fn bad_line(place: u64, kind: LineKind) -> Status {
         kind: InputKind::Line(kind),
     }
 }
+
+/// Whether a script is done, and its text is a header and then these lines.
+pub(crate) fn prints(alloc: Global, script: &str, header: &str, lines: &str) -> Result<bool, Fail> {
+    let (status, sink) = played(alloc, script.as_bytes(), &[], &[])?;
+    let text = sink.bytes();
+    Ok(
+        status == Status::Done
+            && text.len() == header.len() + lines.len()
+            && text.starts_with(header.as_bytes())
+            && text.ends_with(lines.as_bytes()),
+    )
+}
