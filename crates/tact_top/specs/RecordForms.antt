@@ -1,5 +1,5 @@
 -- The forms of a record: its text and its bytes, how each is read, and what is made of one.
-use Rattle.std.specs.Prelude.{◌≡◌, ℕ, List, Ok, Err}
+use Rattle.std.specs.Prelude.{◌≡◌, ℕ, ◌==◌, Bool, true, false, List, [], ◌∷◌, Ok, Err}
 use Rattle.run_model.specs.declared.status.InputKind.{InputKind}
 use Rattle.run_model.specs.declared.status.InputKind.TheVariants as input
 use Rattle.run_model.specs.declared.status.Status.{Status}
@@ -19,6 +19,26 @@ IsTextFault text place (input.Bytes kind) = ⊥
 abbrev pub IsByteFault : List ℕ → ℕ → InputKind → Type 0
 IsByteFault bytes place (input.Line kind) = ⊥
 IsByteFault bytes place (input.Bytes kind) = record_at bytes ≡ Err (fault.Bytes place kind)
+
+-- an input that begins with the letter T can be a record in bytes alone; any other, in text alone
+abbrev pub is_in_bytes : List ℕ → Bool
+is_in_bytes [] = false
+is_in_bytes (byte ∷ rest) = byte == 84
+
+-- the record that an input is, and the first fault of one that is none, in bytes or in text
+abbrev pub IsRecordBy : Bool → List ℕ → Held → Type 0
+IsRecordBy true input held = input ≡ record_bytes held
+IsRecordBy false input held = record_of input ≡ Ok held
+
+abbrev pub IsFaultBy : Bool → List ℕ → ℕ → InputKind → Type 0
+IsFaultBy true = IsByteFault
+IsFaultBy false = IsTextFault
+
+abbrev pub IsRecordIn : List ℕ → Held → Type 0
+IsRecordIn input held = IsRecordBy (is_in_bytes input) input held
+
+abbrev pub IsRecordFault : List ℕ → ℕ → InputKind → Type 0
+IsRecordFault input place kind = IsFaultBy (is_in_bytes input) input place kind
 
 -- packing: the input is a record's text, and the record's bytes are written
 abbrev pub IsPacked : List ℕ → Status → List ℕ → Type 0

@@ -2,11 +2,14 @@
 //! made of it, and a text is written.
 #![tactic(auto)]
 
+mod checking;
 mod job;
 mod packing;
 mod playing;
+mod reading;
 mod top;
 mod words;
 
+pub use checking::check;
 pub use packing::{pack, unpack};
 pub use top::tact;

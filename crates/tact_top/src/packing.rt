@@ -1,12 +1,13 @@
 //! Records from text to bytes, and back.
-ghost use Rattle.std.specs.Prelude.{◌≡◌, ◌≤◌, ℕ, List, IfOk, IfErr};
+ghost use Rattle.std.specs.Prelude.{◌≤◌, IfOk, IfErr};
 ghost use Rattle.tact_top.specs.Answers.{Completes, HasCause, IsEnd, Writes};
 ghost use Rattle.tact_top.specs.RecordForms.{IsByteFault, IsPacked, IsTextFault, IsUnpacked};
-ghost use Rattle.tact_top.specs.Refusals.{IsRefusalBy, refusal_of};
+ghost use Rattle.tact_top.specs.Refusals.{IsRefusalBy};
 
 use crate::job::{Job, Output, Refusal, done};
-use run_model::{InputKind, Status};
-use run_record::{RecordFault, bytes_of, parse_bytes, parse_text, print};
+use crate::reading::{read_bytes, read_text};
+use run_model::Status;
+use run_record::{bytes_of, print};
 use std::alloc::Global;
 use tact_base::Bytes;
 use tact_io::{Sink, Source};
@@ -59,10 +60,7 @@ impl Job for Packing {
     ghost faults = { IsTextFault };
 
     fn make(alloc: Global, input: &[u8]) -> Result<Output, Refusal> {
-        let record = match parse_text(alloc, input) {
-            Ok(record) => record,
-            Err(fault) => return Err(refusal_of(fault)),
-        };
+        let record = read_text(alloc, input)?;
         let mut text = Bytes::new(alloc);
         bytes_of(&record, &mut text)?;
         Ok(Output {
@@ -81,32 +79,12 @@ impl Job for Unpacking {
     ghost faults = { IsByteFault };
 
     fn make(alloc: Global, input: &[u8]) -> Result<Output, Refusal> {
-        let record = match parse_bytes(alloc, input) {
-            Ok(record) => record,
-            Err(fault) => return Err(refusal_of(fault)),
-        };
+        let record = read_bytes(alloc, input)?;
         let mut text = Bytes::new(alloc);
         print(&record, &mut text)?;
         Ok(Output {
             text,
             status: Status::Done,
         })
-    }
-}
-
-// The fault of a record's text or bytes as one of an input.
-fn refusal_of(fault: RecordFault) -> Refusal
-    ensures { result ≡ refusal_of fault }
-{
-    match fault {
-        RecordFault::Text { place, kind } => Refusal::Bad {
-            place,
-            kind: InputKind::Line(kind),
-        },
-        RecordFault::Bytes { place, kind } => Refusal::Bad {
-            place,
-            kind: InputKind::Bytes(kind),
-        },
-        RecordFault::NoMemory => Refusal::NoMemory,
     }
 }

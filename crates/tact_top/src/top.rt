@@ -5,6 +5,7 @@ ghost use Rattle.tact_top.specs.Answers.{Completes, HasCause, Writes};
 ghost use Rattle.tact_top.specs.CommandAnswers.{asks, faults};
 ghost use Rattle.tact_top.specs.Commands.{command_of};
 
+use crate::checking::check;
 use crate::packing::{pack, unpack};
 use crate::playing::play;
 use crate::words::{Command, command_of};
@@ -15,13 +16,14 @@ use tact_io::{Sink, Source};
 /// Does what the words ask for. The first word is the program's name.
 ///
 /// - `play` reads a script from the source and writes the text of its run to the sink.
+/// - `check` reads a record as text or as bytes and writes the line that says whether it is that of a run.
 /// - `pack` reads a record as text and writes its bytes.
 /// - `unpack` reads a record as bytes and writes its text, without comments.
 ///
 /// `Usage` comes exactly where the words after the name are no command, and then nothing is read or
 /// written: `NoCommand` where there is none, `UnknownCommand` where the first of them is no command's
 /// name, and `ExtraWord` where a word follows the command's last one. The other statuses are those of
-/// `script_run::play`, [`pack`] and [`unpack`].
+/// `script_run::play`, [`check`], [`pack`] and [`unpack`].
 pub fn tact<S: Source, K: Sink>(
     alloc: Global,
     words: &[String],
@@ -59,6 +61,7 @@ fn obey<S: Source, K: Sink>(alloc: Global, command: Command, source: &mut S, sin
 {
     match command {
         Command::Play => play(alloc, source, sink),
+        Command::Check => check(alloc, source, sink),
         Command::Pack => pack(alloc, source, sink),
         Command::Unpack => unpack(alloc, source, sink),
     }

@@ -8,13 +8,15 @@ use run_model::UsageKind;
 #[derive(Clone, Copy, Debug, PartialEq, Eq)]
 pub(crate) enum Command {
     Play,
+    Check,
     Pack,
     Unpack,
 }
 
 /// Each command's name.
-const COMMANDS: [(&[u8], Command); 3] = [
+const COMMANDS: [(&[u8], Command); 4] = [
     (b"play", Command::Play),
+    (b"check", Command::Check),
     (b"pack", Command::Pack),
     (b"unpack", Command::Unpack),
 ];
