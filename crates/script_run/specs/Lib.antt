@@ -1,4 +1,3 @@
-pub mod Commands
 pub mod Comments
 pub mod Stages
 pub mod Worlds

@@ -3,8 +3,6 @@
 #![tactic(auto)]
 
 #[cfg(test)]
-mod command_words;
-#[cfg(test)]
 mod faults;
 #[cfg(test)]
 mod limits;

@@ -1,0 +1,2 @@
+mod ByteFaults
+mod Played

@@ -1,0 +1,67 @@
+-- What is told of `play`, by the words that all commands have in common; and that without a fault what is asked for comes.
+use Rattle.std.proofs.Common.{◌≡◌, ℕ, ◌<◌, ◌≤◌, ◌⊎◌, List, Option, Some, None, IfSome, length, refl, inl, inr, arith}
+use Rattle.run_model.specs.declared.status.InputKind.{InputKind}
+use Rattle.run_model.specs.declared.status.InputKind.TheVariants as input
+use Rattle.run_model.specs.declared.status.Status.{Status}
+use Rattle.run_model.specs.declared.status.Status.TheVariants as status
+use Rattle.script_run.specs.Playing as play
+use Rattle.tact_base.specs.declared.limits.TheConstants.{INPUT_MAX}
+use Rattle.tact_io.specs.Faults.{HasRisen}
+use Rattle.tact_top.specs.Answers.{Asking, Faulting, Completes, HasCause, Writes}
+use Rattle.tact_top.specs.ScriptForm.{IsPlayed, IsScriptFault}
+
+module _ (rest before after : Option (List ℕ)) (reads reads' writes writes' : ℕ) where
+  pub played_cause : (answer : Status) (left : Option (List ℕ))
+      → play.HasCause answer left rest reads reads' writes writes'
+      → play.Writes answer left before after
+      → HasCause IsPlayed IsScriptFault answer left rest reads reads' writes writes'
+  played_cause status.Done None c w = (c.0, c.1)
+  played_cause status.Done (Some script) c w = (c.0, (c.1.0, (w.0, (refl, w.2))))
+  played_cause (status.Bad entry cause) left c w = absurd c
+  played_cause (status.Usage kind) left c w = absurd c
+  played_cause (status.BadInput place (input.Line kind)) left c w = c
+  played_cause (status.BadInput place (input.Bytes kind)) left c w = absurd c
+  played_cause status.TooLong left c w = c
+  played_cause status.ReadFault left c w = c
+  played_cause status.WriteFault left c w = c
+  played_cause status.NoMemory left c w = tt
+
+  pub played_writes : (answer : Status) (left : Option (List ℕ))
+      → play.HasCause answer left rest reads reads' writes writes'
+      → play.Writes answer left before after
+      → Writes IsPlayed answer left before after
+  played_writes status.Done None c w = (w.0, w.1, w.2)
+  played_writes status.Done (Some script) c w = (w.0, w.1, (refl, w.2))
+  played_writes (status.Bad entry cause) left c w = absurd c
+  played_writes (status.Usage kind) left c w = w
+  played_writes (status.BadInput place kind) left c w = w
+  played_writes status.TooLong left c w = w
+  played_writes status.ReadFault left c w = w
+  played_writes status.WriteFault None c w = (w.0, w.1, w.2)
+  played_writes status.WriteFault (Some script) c w = (w.0, w.1, (status.Done, (refl, w.2)))
+  played_writes status.NoMemory None c w = w
+  played_writes status.NoMemory (Some script) c (inl same) = inl same
+  played_writes status.NoMemory (Some script) c (inr w) = inr (w.0, w.1, (status.Done, (refl, w.2)))
+
+module _ (Asks : Asking) (Faults : Faulting) (rest : Option (List ℕ)) (reads reads' writes writes' : ℕ) where
+  asked : (answer : Status) (script : List ℕ)
+      → HasCause Asks Faults answer (Some script) rest reads reads' writes writes'
+      → ¬ HasRisen reads reads'
+      → ¬ HasRisen writes writes'
+      → length script ≤ INPUT_MAX
+      → ((place : ℕ) (kind : InputKind) → ¬ Faults script place kind)
+      → (answer ≡ status.NoMemory) ⊎ ((text : List ℕ) × Asks script answer text)
+  asked status.Done script c no_read no_write few good = inr c.1.1
+  asked (status.Bad entry cause) script c no_read no_write few good = inr c.1.1
+  asked (status.Usage kind) script c no_read no_write few good = absurd c
+  asked (status.BadInput place kind) script c no_read no_write few good = absurd (good place kind c.1.1)
+  asked status.TooLong script c no_read no_write few good = absurd (omega (arith, c, few))
+  asked status.ReadFault script c no_read no_write few good = absurd (no_read c)
+  asked status.WriteFault script c no_read no_write few good = absurd (no_write c)
+  asked status.NoMemory script c no_read no_write few good = inl refl
+
+  pub completes : (answer : Status) (left : Option (List ℕ))
+      → HasCause Asks Faults answer left rest reads reads' writes writes'
+      → Completes Asks Faults answer left reads reads' writes writes'
+  completes answer None c no_read no_write = tt
+  completes answer (Some script) c no_read no_write = asked answer script c no_read no_write

@@ -1,0 +1,15 @@
+//! The commands on records, and what all commands have in common: an input is read to its end, something is
+//! made of it, and a text is written.
+#![tactic(auto)]
+
+mod checking;
+mod job;
+mod packing;
+mod playing;
+mod reading;
+mod top;
+mod words;
+
+pub use checking::check;
+pub use packing::{pack, unpack};
+pub use top::tact;
