@@ -1,5 +1,5 @@
 -- What stays true behind the lock when an entry is made.
-use Rattle.std.proofs.Common.{◌≡◌, ◌≢◌, ℕ, ◌+◌, ◌*◌, ◌<◌, ◌≤◌, ◌^◌, ◌==◌, true, false, cond, List, [], ◌∷◌, ◌++◌, drop, length, map, get_or, sum, sum_by, filter, refl, sym, ap, ◌∙◌, ⊎_elim, subst, IfOk, Result, arith}
+use Rattle.std.proofs.Common.{◌≡◌, ℕ, ◌+◌, ◌*◌, ◌<◌, ◌≤◌, ◌^◌, ◌==◌, true, false, cond, List, [], ◌∷◌, ◌++◌, drop, length, get_or, sum, refl, sym, ap, ◌∙◌, ⊎_elim, subst, IfOk, Result, arith}
 use Rattle.std.proofs.lemmas.Result.{IfOk-weaker}
 use Rattle.std.proofs.lemmas.Bool.{cases_eq, eq-eqb, ne_eqb}
 use Rattle.std.proofs.lemmas.List.{map-append, length_push, length-map, same_from_push}
@@ -7,7 +7,7 @@ use Rattle.std.proofs.lemmas.List.Sums.{length-filter, count_by-le-length, sum_b
 use Rattle.tact_base.specs.Setup.{Setup}
 use Rattle.tact_base.specs.declared.limits.TheConstants.{CLIENTS, HISTORY_MAX}
 use Rattle.run_model.specs.Histories.{part_of, calls_in, is_call_of, moment_at, IsPrefix}
-use Rattle.run_model.specs.Missing.{granted_by, used_by, granted_on, used_on, reserved}
+use Rattle.run_model.specs.Missing.{granted_by, used_by, reserved}
 use Rattle.run_model.specs.Runs.{IsDue, IsRun, MayFollow}
 use Rattle.run_model.specs.declared.call.Reply.{Reply}
 use Rattle.run_model.specs.declared.call.Request.{Request}
@@ -21,7 +21,7 @@ use Rattle.run_history.specs.Seats.{ClerkView}
 use Rattle.run_history.specs.Ticks.{entries_of}
 use Rattle.replica_core.specs.States.{Core}
 use Rattle.replica_core.specs.Stands.{Stands, GoesOn, IsSameReplica}
-use Rattle.replica_lock.specs.Locks.{HasDrawn, HasEntered, IsLocked, IsWriteOrRead, LockedView, made_place, one_more_at, part_in, turns_place}
+use Rattle.replica_lock.specs.Locks.{HasDrawn, HasEntered, IsLocked, IsWriteOrRead, LockedView, made_place, part_in, turns_place}
 use Rattle.replica_lock.proofs.Totals.{counted, counted-places, counted-else, counted-turns, counted-made, sum_from-le}
 
 -- a call of a client

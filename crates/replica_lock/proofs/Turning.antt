@@ -1,5 +1,5 @@
 -- What a turn knows of a session of its node.
-use Rattle.std.proofs.Common.{◌≡◌, ◌≢◌, ℕ, ◌+◌, List, slice_index, sym, ap, ◌∙◌}
+use Rattle.std.proofs.Common.{◌≡◌, ◌≢◌, ℕ, List, slice_index, sym, ap, ◌∙◌}
 use Rattle.tact_base.specs.Setup.{Setup}
 use Rattle.run_model.specs.Histories.{part_of, calls_in}
 use Rattle.run_model.specs.declared.entry.Entry.{Entry}
@@ -7,7 +7,7 @@ use Rattle.atomic_table.specs.Seated.{TableId}
 use Rattle.run_history.specs.Seats.{DeskView}
 use Rattle.weight_ledger.specs.Seen.{HeldView, TallyView}
 use Rattle.replica_lock.specs.Locks.{IsLocked, LockedView, part_in, turns_place}
-use Rattle.replica_lock.specs.Nodes.{KeepsTurn, label_of}
+use Rattle.replica_lock.specs.Nodes.{KeepsTurn}
 use Rattle.replica_lock.specs.Sessions.{IsSessionOf, KeepsSession, NodeView, SessionView}
 use Rattle.replica_lock.specs.declared.label.Label.{Label}
 

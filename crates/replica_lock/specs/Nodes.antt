@@ -1,5 +1,5 @@
 -- What nodes and turns keep, of the cells behind them.
-use Rattle.std.specs.Prelude.{◌≡◌, ℕ, ◌*◌}
+use Rattle.std.specs.Prelude.{◌≡◌, ◌*◌}
 use Rattle.tact_base.specs.Setup.{IsSetup}
 use Rattle.tact_base.specs.declared.limits.TheConstants.{CLIENTS}
 use Rattle.run_history.specs.Seats.{DeskView}

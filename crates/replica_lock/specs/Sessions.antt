@@ -1,5 +1,5 @@
 -- What contracts see of nodes, of turns and of sessions, and what a session has seen after a call.
-use Rattle.std.specs.Prelude.{◌≡◌, ◌≢◌, ℕ, ◌+◌, ◌*◌, ◌<◌, ◌≤◌, List, [], ◌∷◌, ◌++◌, filter, length, slice_index}
+use Rattle.std.specs.Prelude.{◌≡◌, ◌≢◌, ℕ, ◌+◌, ◌<◌, ◌≤◌, List, [], ◌∷◌, ◌++◌, filter, length, slice_index}
 use Rattle.atomic_table.specs.Seated.{TableId}
 use Rattle.tact_base.specs.Setup.{Setup}
 use Rattle.tact_base.specs.declared.limits.TheConstants.{CLIENTS, CONITS_MAX, HISTORY_MAX}

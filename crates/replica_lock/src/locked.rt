@@ -96,7 +96,7 @@ impl Locked {
         clerk
     }
 
-    // What it keeps.
+    /// Tells what it keeps, and changes nothing.
     pub fn stand(&self)
         ensures { IsLocked self.now }
     {

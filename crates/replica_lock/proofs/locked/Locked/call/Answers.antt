@@ -1,4 +1,4 @@
-use Rattle.std.proofs.Common.{rules, ◌≡◌, refl, sym, ap, ◌∙◌, subst}
+use Rattle.std.proofs.Common.{refl}
 use Rattle.run_model.specs.Histories.{calls_in, moment_at}
 use Rattle.run_model.proofs.PrefixLemmas.{IsPrefix-trans}
 use Rattle.replica_lock.specs.Locks.{LockedView, part_in}

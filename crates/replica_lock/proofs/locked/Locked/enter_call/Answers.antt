@@ -1,9 +1,8 @@
-use Rattle.std.proofs.Common.{rules, ◌≡◌, ◌+◌, ◌<◌, ◌^◌, ℕ, List, [], ◌∷◌, ◌++◌, get_or, refl, sym, ap, ◌∙◌, subst, arith}
+use Rattle.std.proofs.Common.{refl, sym, ap, ◌∙◌, subst}
 use Rattle.tact_base.specs.Setup.{Setup}
 use Rattle.run_model.specs.Histories.{calls_in, moment_at}
-use Rattle.replica_core.specs.States.{Core}
-use Rattle.replica_lock.specs.Locks.{HasEntered, IsLocked, LockedView, part_in, made_place, turns_place, one_more_at}
-use Rattle.replica_lock.proofs.Entering.{call_entry, goes_on-due, has_room, quiet-call, spelled, stands-spelled, IsLocked-call, HasEntered-drawn, drawn-grows}
+use Rattle.replica_lock.specs.Locks.{HasEntered, LockedView, part_in, made_place, turns_place, one_more_at}
+use Rattle.replica_lock.proofs.Entering.{goes_on-due, has_room, quiet-call, spelled, stands-spelled, IsLocked-call, HasEntered-drawn, drawn-grows}
 use Rattle.replica_lock.proofs.locked.Locked.enter_call.Goals as goal
 
 pub draw-requires-clause-due : goal.draw-requires-clause-due

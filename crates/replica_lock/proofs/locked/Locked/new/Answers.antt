@@ -1,4 +1,4 @@
-use Rattle.std.proofs.Common.{rules, ◌≡◌, ◌+◌, ◌*◌, [], refl, sym, ap, ◌∙◌, subst}
+use Rattle.std.proofs.Common.{◌+◌, ◌*◌, sym, ap, ◌∙◌}
 use Rattle.tact_base.specs.Setup.{Setup}
 use Rattle.tact_base.specs.declared.limits.TheConstants.{CLIENTS}
 use Rattle.weight_ledger.specs.Amounts.{zeros}

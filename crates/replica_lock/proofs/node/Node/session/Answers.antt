@@ -1,5 +1,4 @@
-use Rattle.std.proofs.Common.{rules, ◌≡◌, ◌+◌, ◌*◌, List, [], ◌∷◌, ◌++◌, Contains, inl, refl, sym, ap, ◌∙◌, subst, arith}
-use Rattle.std.proofs.lemmas.List.Elements.{Contains-push}
+use Rattle.std.proofs.Common.{List, [], ◌∷◌, ◌++◌, Contains, refl, sym, ap, ◌∙◌, subst}
 use Rattle.run_history.specs.Seats.{NoteView}
 use Rattle.run_model.specs.Histories.{part_of}
 use Rattle.replica_lock.proofs.Opening.{owns-both, places-moved, places-left, KeepsSession-new, not_before, not_itself}

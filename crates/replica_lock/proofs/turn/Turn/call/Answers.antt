@@ -1,13 +1,13 @@
-use Rattle.std.proofs.Common.{rules, ◌≡◌, ◌+◌, refl, sym, ap, ◌∙◌, subst}
+use Rattle.std.proofs.Common.{◌+◌, sym, ap, ◌∙◌, subst}
 use Rattle.run_model.specs.Histories.{calls_in, IsPrefix}
 use Rattle.run_model.specs.Runs.{IsRun}
 use Rattle.run_history.specs.Ticks.{entries_of}
 use Rattle.replica_lock.specs.Faults.{IsNodeFaultOf}
 use Rattle.weight_ledger.specs.Seen.{TallyView}
-use Rattle.replica_lock.specs.Sessions.{IsSessionOf, TurnView, NodeView, SessionView, HasCalled}
+use Rattle.replica_lock.specs.Sessions.{IsSessionOf, TurnView, NodeView, SessionView}
 use Rattle.replica_lock.specs.contracts.session.Session.{the_view}
 use Rattle.replica_lock.proofs.Seeing.{HasCalled-entered, HasHeard-learnt, IsFaultSeen-of}
-use Rattle.replica_lock.proofs.Turning.{Tells, tells, session_as}
+use Rattle.replica_lock.proofs.Turning.{tells, session_as}
 use Rattle.replica_lock.proofs.turn.Turn.call.Goals as goal
 
 pub returns-in-Ok-clause-called : goal.returns-in-Ok-clause-called

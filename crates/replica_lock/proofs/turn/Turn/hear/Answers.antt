@@ -1,4 +1,4 @@
-use Rattle.std.proofs.Common.{rules, ◌≡◌, ◌+◌, refl, sym, ap, ◌∙◌, subst}
+use Rattle.std.proofs.Common.{sym, ap, ◌∙◌, subst}
 use Rattle.run_model.specs.Histories.{calls_in, IsPrefix}
 use Rattle.run_model.specs.Runs.{IsRun}
 use Rattle.weight_ledger.specs.Seen.{TallyView}
