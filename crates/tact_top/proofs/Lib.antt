@@ -1,2 +1,3 @@
 mod ByteFaults
 mod Played
+mod DrillLemmas

@@ -2,6 +2,8 @@ pub mod Answers
 pub mod RecordForms
 pub mod Refusals
 pub mod Checked
+pub mod DrillText
+pub mod Drilling
 pub mod Commands
 pub mod ScriptForm
 pub mod CommandAnswers

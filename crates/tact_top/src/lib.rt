@@ -3,6 +3,8 @@
 #![tactic(auto)]
 
 mod checking;
+mod counting;
+mod drilling;
 mod job;
 mod packing;
 mod playing;
@@ -11,5 +13,6 @@ mod top;
 mod words;
 
 pub use checking::check;
+pub use drilling::drill;
 pub use packing::{pack, unpack};
 pub use top::tact;

@@ -1,24 +1,34 @@
 //! The words of a command.
 ghost use Rattle.std.specs.Prelude.{◌≡◌, map, string_bytes};
-ghost use Rattle.tact_top.specs.Commands.{alone, command_of, named};
+ghost use Rattle.tact_top.specs.Commands.{alone, command_of, drill_of, named};
 
 use run_model::UsageKind;
+use tact_base::whole_number;
 
 /// What the words of a command ask for.
 #[derive(Clone, Copy, Debug, PartialEq, Eq)]
 pub(crate) enum Command {
+    /// What reads an input.
+    Read(Reading),
+    /// The drill of a number.
+    Drill { number: u64 },
+}
+
+/// A command that reads an input.
+#[derive(Clone, Copy, Debug, PartialEq, Eq)]
+pub(crate) enum Reading {
     Play,
     Check,
     Pack,
     Unpack,
 }
 
-/// Each command's name.
-const COMMANDS: [(&[u8], Command); 4] = [
-    (b"play", Command::Play),
-    (b"check", Command::Check),
-    (b"pack", Command::Pack),
-    (b"unpack", Command::Unpack),
+/// Each such command and its name.
+const READINGS: [(&[u8], Reading); 4] = [
+    (b"play", Reading::Play),
+    (b"check", Reading::Check),
+    (b"pack", Reading::Pack),
+    (b"unpack", Reading::Unpack),
 ];
 
 /// What the words ask for, of which the first is the program's name.
@@ -27,23 +37,41 @@ pub(crate) fn command_of(words: &[String]) -> Result<Command, UsageKind>
 {
     match words {
         [] | [_] => Err(UsageKind::NoCommand),
-        [_, first, rest @ ..] => match named(first.as_bytes()) {
-            Some(command) => alone(command, rest),
-            None => Err(UsageKind::UnknownCommand),
-        },
+        [_, first, rest @ ..] => {
+            if first.as_str() == "drill" {
+                return drill_of(rest);
+            }
+            match named(first.as_bytes()) {
+                Some(reading) => alone(Command::Read(reading), rest),
+                None => Err(UsageKind::UnknownCommand),
+            }
+        }
     }
 }
 
 // The command that a word names, if it does.
-fn named(word: &[u8]) -> Option<Command>
+fn named(word: &[u8]) -> Option<Reading>
     ensures { result ≡ named word.now }
 {
-    for (name, command) in COMMANDS.iter() {
+    for (name, reading) in READINGS.iter() {
         if word == *name {
-            return Some(*command);
+            return Some(*reading);
         }
     }
     None
+}
+
+// A drill, by the words after its name.
+fn drill_of(words: &[String]) -> Result<Command, UsageKind>
+    ensures { result ≡ drill_of (map string_bytes words.now) }
+{
+    match words {
+        [] => Err(UsageKind::MissingNumber),
+        [word, rest @ ..] => match whole_number(word.as_bytes(), u64::MAX) {
+            Ok(number) => alone(Command::Drill { number }, rest),
+            Err(_) => Err(UsageKind::BadNumber),
+        },
+    }
 }
 
 // A command that no word may follow.

@@ -11,11 +11,16 @@ fn each_command_line_has_its_status(rt: HostRuntime) -> Result<(), Fail> {
         ("tactcli", UsageKind::NoCommand),
         ("tactcli plays", UsageKind::UnknownCommand),
         ("tactcli --help", UsageKind::UnknownCommand),
-        ("tactcli drill 0", UsageKind::UnknownCommand),
         ("tactcli play x", UsageKind::ExtraWord),
         ("tactcli check x", UsageKind::ExtraWord),
         ("tactcli pack x", UsageKind::ExtraWord),
         ("tactcli unpack x", UsageKind::ExtraWord),
+        ("tactcli drill", UsageKind::MissingNumber),
+        ("tactcli drill 1a", UsageKind::BadNumber),
+        ("tactcli drill -1", UsageKind::BadNumber),
+        ("tactcli drill 18446744073709551616", UsageKind::BadNumber),
+        ("tactcli drill 1a 1", UsageKind::BadNumber),
+        ("tactcli drill 1 1", UsageKind::ExtraWord),
     ] {
         let (status, sink) = obeyed(rt.alloc(), line, b"start 2 1 0 0\n", &[], &[])?;
         assert_eq!(rt; status, Status::Usage(wanted), "{line}");

@@ -5,6 +5,8 @@
 #[cfg(test)]
 mod command_words;
 #[cfg(test)]
+mod drills;
+#[cfg(test)]
 mod faults;
 #[cfg(test)]
 mod obeying;

@@ -1,0 +1,7 @@
+use Rattle.std.proofs.Common.{◌≡◌, false, take}
+use Rattle.script_text.specs.Setups.{setup_of}
+use Rattle.tact_top.proofs.drilling.step_all.Given as goal
+
+abbrev pub invariant-loop-line : goal.invariant-loop-line
+invariant-loop-line l =
+    (l.world.setup ≡ setup_of l.lines) × (l.world.lines ≡ take l.line-index l.lines) × (l.world.spent ≡ false)
