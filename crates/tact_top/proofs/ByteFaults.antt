@@ -1,5 +1,5 @@
 -- A record that is read from bytes is never at fault by a line.
-use Rattle.std.proofs.Common.{◌≡◌, ℕ, zero, suc, ◌==◌, ◌*◌, ◌/◌, Bool, true, false, List, length, nat_lt, Result, Ok, Err, if◌then◌else◌, subst}
+use Rattle.std.proofs.Common.{ℕ, zero, suc, ◌==◌, ◌*◌, ◌/◌, Bool, true, false, List, length, nat_lt, Result, Ok, Err, if◌then◌else◌, subst}
 use Rattle.run_model.specs.declared.fields.FieldFault.{FieldFault}
 use Rattle.run_model.specs.declared.fields.FieldFault.TheVariants as field
 use Rattle.run_model.specs.declared.status.ByteKind.{ByteKind}

@@ -1,9 +1,10 @@
 -- The script of a drill is short, and goes on by lines that show.
-use Rattle.std.proofs.Common.{◌≡◌, ℕ, zero, suc, ◌+◌, ◌*◌, ◌<◌, ◌≤◌, List, [], ◌∷◌, ◌++◌, length, drop, Option, None, Some, false, refl, sym, ap, ◌∙◌, subst, arith}
+use Rattle.std.proofs.Common.{◌≡◌, ℕ, zero, suc, ◌+◌, ◌*◌, ◌<◌, ◌≤◌, List, [], ◌∷◌, ◌++◌, length, drop, Option, None, Some, false, append_assoc, refl, sym, ap, ◌∙◌, subst, arith}
 use Rattle.std.proofs.lemmas.List.{append-nil, length_push, length-append}
 use Rattle.std.proofs.lemmas.List.Sums.{fold-append}
+use Rattle.std.specs.List.{flat_map, range_with_len}
+use Rattle.tact_base.proofs.RangeLists.{flat_map_range_more}
 use Rattle.tact_base.specs.Setup.{Setup}
-use Rattle.tact_base.specs.declared.limits.TheConstants.{SCRIPT_LINES}
 use Rattle.run_model.specs.ScriptRuns.{after_line, entries_text, not_played, played_by, show_text, text_after}
 use Rattle.run_model.specs.declared.entry.Entry.{Entry}
 use Rattle.run_model.specs.declared.script_line.Line.{Line}
@@ -17,6 +18,7 @@ use Rattle.drawn_scripts.specs.Draws.{pick}
 use Rattle.drawn_scripts.specs.DrawnScripts.{drawn_script, line_drawn, listed, messages_of, step_drawn, steps_drawn}
 use Rattle.drawn_scripts.proofs.StepLemmas.{steps_more}
 use Rattle.tact_top.specs.Drilling.{HasShown, TellsTheSame, told_in}
+use Rattle.tact_top.specs.DrillText.{shown_line}
 
 -- a step draws at most two lines
 length-listed : (l : Option Line) → length (listed l) ≤ 1
@@ -100,3 +102,21 @@ pub shown_text : (world : WorldState) (replica : ℕ)
 shown_text world replica =
     ap (λ (rest : List Entry). show_text world.setup (told_in world) replica ++ entries_text world.setup (told_in world) rest) (drop-all (told_in world))
     ∙ append-nil (show_text world.setup (told_in world) replica)
+
+-- told the same, and told the same again
+pub same_twice : (one two three : WorldState) → TellsTheSame one two → TellsTheSame two three → TellsTheSame one three
+same_twice one two three first second = record { setup = second.setup ∙ first.setup; told = second.told ∙ first.told }
+
+-- the lines of the replicas so far, with one more
+pub shown_more : (first now : WorldState) (replica : ℕ) (before shown after : List ℕ)
+    → TellsTheSame first now
+    → shown ≡ before ++ flat_map (shown_line first.setup (told_in first)) (range_with_len 0 replica)
+    → after ≡ shown ++ shown_line now.setup (told_in now) replica
+    → after ≡ before ++ flat_map (shown_line first.setup (told_in first)) (range_with_len 0 (replica + 1))
+shown_more first now replica before shown after same is more =
+    let line = shown_line first.setup (told_in first) in
+    let told : shown_line now.setup (told_in now) replica ≡ line replica =
+    ap (λ (s : Setup). shown_line s (told_in now) replica) same.setup ∙ ap (λ (history : List Entry). shown_line first.setup history replica) same.told in
+    more ∙ ap (λ (text : List ℕ). shown ++ text) told ∙ ap (λ (text : List ℕ). text ++ line replica) is
+    ∙ append_assoc before (flat_map line (range_with_len 0 replica)) (line replica)
+    ∙ ap (λ (text : List ℕ). before ++ text) (sym (flat_map_range_more line replica))

@@ -13,27 +13,27 @@ use Rattle.script_text.specs.Setups.{setup_of}
 use Rattle.drawn_scripts.specs.DrawnScripts.{drawn_script}
 
 -- kinds of acts
-abbrev pub is_done : Act → Bool
+unfoldable pub is_done : Act → Bool
 is_done (act.Call client number request (reply.Done index stamp)) = true
 is_done other = false
 
-abbrev pub is_wait : Act → Bool
+unfoldable pub is_wait : Act → Bool
 is_wait (act.Call client number request answer) = is_waiting answer
 is_wait other = false
 
-abbrev pub is_heavy : Act → Bool
+unfoldable pub is_heavy : Act → Bool
 is_heavy (act.Call client number request (reply.TooHeavy conit peer weight share)) = true
 is_heavy other = false
 
-abbrev pub is_value : Act → Bool
+unfoldable pub is_value : Act → Bool
 is_value (act.Call client number request (reply.Value value sums)) = true
 is_value other = false
 
-abbrev pub is_send : Act → Bool
+unfoldable pub is_send : Act → Bool
 is_send (act.Send message) = true
 is_send other = false
 
-abbrev pub is_take : Act → Bool
+unfoldable pub is_take : Act → Bool
 is_take (act.Take message) = true
 is_take other = false
 

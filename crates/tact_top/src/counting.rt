@@ -1,5 +1,6 @@
 //! The counts of what happened in a drill.
-ghost use Rattle.std.specs.Prelude.{◌≡◌, ◌++◌, ◌∷◌, [], OnOk, OnErr, codes, decimal, length};
+ghost use Rattle.std.specs.Prelude.{◌≡◌, ◌++◌, ◌∷◌, [], Bool, OnOk, OnErr, codes, decimal, length};
+ghost use Rattle.run_model.specs.declared.entry.Act.{Act};
 ghost use Rattle.run_model.specs.Text.{BeginsWith, line_text, spaced};
 ghost use Rattle.tact_top.specs.DrillText.{count_of, count_tokens, counts_text, is_done, is_heavy, is_send, is_take, is_value, is_wait, message_counts, reply_counts};
 
@@ -34,10 +35,10 @@ fn put_replies(history: &[Entry], out: &mut Bytes) -> Result<(), NoMemory>
     ensures ok { OnOk result (out.new ≡ out.old ++ spaced (reply_counts history.now)) }
     ensures err { OnErr result (BeginsWith out.old out.new) }
 {
-    put_row(b"done", &[count_done(history)], out)?;
-    put_row(b"waits", &[count_waits(history)], out)?;
-    put_row(b"heavy", &[count_heavy(history)], out)?;
-    put_row(b"values", &[count_values(history)], out)
+    put_row(b"done", &[count::<Done>(history)], out)?;
+    put_row(b"waits", &[count::<Waits>(history)], out)?;
+    put_row(b"heavy", &[count::<Heavy>(history)], out)?;
+    put_row(b"values", &[count::<Values>(history)], out)
 }
 
 #[tactic(auto, using(run_model::proofs::TextLemmas::begins_grown, run_model::proofs::TextLemmas::always_err))]
@@ -45,90 +46,106 @@ fn put_messages(history: &[Entry], out: &mut Bytes) -> Result<(), NoMemory>
     ensures ok { OnOk result (out.new ≡ out.old ++ spaced (message_counts history.now)) }
     ensures err { OnErr result (BeginsWith out.old out.new) }
 {
-    put_row(b"sends", &[count_sends(history)], out)?;
-    put_row(b"takes", &[count_takes(history)], out)
+    put_row(b"sends", &[count::<Sends>(history)], out)?;
+    put_row(b"takes", &[count::<Takes>(history)], out)
 }
 
-fn count_done(history: &[Entry]) -> u64
-    ensures { result ≡ count_of is_done history.now }
-{
-    history.iter().filter(|entry| is_done(&entry.act)).count() as u64
+// A kind of acts.
+trait Kind {
+    ghost kind: { Act → Bool };
+
+    /// Whether an act is of the kind.
+    fn is(act: &Act) -> bool
+        ensures { result ≡ kind act.now };
 }
 
-fn count_waits(history: &[Entry]) -> u64
-    ensures { result ≡ count_of is_wait history.now }
+// How many entries have an act of a kind.
+fn count<K: Kind>(history: &[Entry]) -> u64
+    ensures { result ≡ count_of K.kind history.now }
 {
-    history.iter().filter(|entry| is_wait(&entry.act)).count() as u64
+    let mut count = 0;
+    for entry in history {
+        if K::is(&entry.act) {
+            count += 1;
+        }
+    }
+    count
 }
 
-fn count_heavy(history: &[Entry]) -> u64
-    ensures { result ≡ count_of is_heavy history.now }
-{
-    history.iter().filter(|entry| is_heavy(&entry.act)).count() as u64
-}
+struct Done;
 
-fn count_values(history: &[Entry]) -> u64
-    ensures { result ≡ count_of is_value history.now }
-{
-    history.iter().filter(|entry| is_value(&entry.act)).count() as u64
-}
+impl Kind for Done {
+    ghost kind = { is_done };
 
-fn count_sends(history: &[Entry]) -> u64
-    ensures { result ≡ count_of is_send history.now }
-{
-    history.iter().filter(|entry| is_send(&entry.act)).count() as u64
-}
-
-fn count_takes(history: &[Entry]) -> u64
-    ensures { result ≡ count_of is_take history.now }
-{
-    history.iter().filter(|entry| is_take(&entry.act)).count() as u64
-}
-
-fn is_done(act: &Act) -> bool
-    ensures { result ≡ is_done act.now }
-{
-    match act {
-        Act::Call { reply, .. } => matches!(reply, Reply::Done { .. }),
-        _ => false,
+    #[tactic(auto, unfolding(crate::specs::DrillText::is_done))]
+    fn is(act: &Act) -> bool {
+        match act {
+            Act::Call { reply, .. } => matches!(reply, Reply::Done { .. }),
+            _ => false,
+        }
     }
 }
 
-fn is_wait(act: &Act) -> bool
-    ensures { result ≡ is_wait act.now }
-{
-    match act {
-        Act::Call { reply, .. } => reply.is_waiting(),
-        _ => false,
+struct Waits;
+
+impl Kind for Waits {
+    ghost kind = { is_wait };
+
+    #[tactic(auto, unfolding(crate::specs::DrillText::is_wait))]
+    fn is(act: &Act) -> bool {
+        match act {
+            Act::Call { reply, .. } => reply.is_waiting(),
+            _ => false,
+        }
     }
 }
 
-fn is_heavy(act: &Act) -> bool
-    ensures { result ≡ is_heavy act.now }
-{
-    match act {
-        Act::Call { reply, .. } => matches!(reply, Reply::TooHeavy { .. }),
-        _ => false,
+struct Heavy;
+
+impl Kind for Heavy {
+    ghost kind = { is_heavy };
+
+    #[tactic(auto, unfolding(crate::specs::DrillText::is_heavy))]
+    fn is(act: &Act) -> bool {
+        match act {
+            Act::Call { reply, .. } => matches!(reply, Reply::TooHeavy { .. }),
+            _ => false,
+        }
     }
 }
 
-fn is_value(act: &Act) -> bool
-    ensures { result ≡ is_value act.now }
-{
-    match act {
-        Act::Call { reply, .. } => matches!(reply, Reply::Value { .. }),
-        _ => false,
+struct Values;
+
+impl Kind for Values {
+    ghost kind = { is_value };
+
+    #[tactic(auto, unfolding(crate::specs::DrillText::is_value))]
+    fn is(act: &Act) -> bool {
+        match act {
+            Act::Call { reply, .. } => matches!(reply, Reply::Value { .. }),
+            _ => false,
+        }
     }
 }
 
-fn is_send(act: &Act) -> bool
-    ensures { result ≡ is_send act.now }
-{
-    matches!(act, Act::Send { .. })
+struct Sends;
+
+impl Kind for Sends {
+    ghost kind = { is_send };
+
+    #[tactic(auto, unfolding(crate::specs::DrillText::is_send))]
+    fn is(act: &Act) -> bool {
+        matches!(act, Act::Send { .. })
+    }
 }
 
-fn is_take(act: &Act) -> bool
-    ensures { result ≡ is_take act.now }
-{
-    matches!(act, Act::Take { .. })
+struct Takes;
+
+impl Kind for Takes {
+    ghost kind = { is_take };
+
+    #[tactic(auto, unfolding(crate::specs::DrillText::is_take))]
+    fn is(act: &Act) -> bool {
+        matches!(act, Act::Take { .. })
+    }
 }

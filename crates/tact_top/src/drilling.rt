@@ -1,5 +1,5 @@
 //! The drill: a script is drawn from a number and played, and a summary is written.
-ghost use Rattle.std.specs.Prelude.{◌≡◌, ◌⊎◌, ◌+◌, ◌<◌, ◌≤◌, [], ◌++◌, IfOk, OnOk, false, length};
+ghost use Rattle.std.specs.Prelude.{◌≡◌, ◌⊎◌, ◌+◌, ◌<◌, ◌≤◌, [], ◌++◌, IfOk, OnOk, drop, false, length};
 ghost use Rattle.std.specs.List.{flat_map};
 ghost use Rattle.run_model.specs.declared.status.Status.TheVariants.{Done, NoMemory as OutOfMemory};
 ghost use Rattle.tact_base.specs.Setup.{replicas_of};
@@ -110,8 +110,16 @@ fn put_replica(
 {
     scratch.truncate(0);
     world.step(&Line::Show { replica }, scratch)?;
-    match scratch.items() {
-        [_, _, shown @ ..] => out.append(shown),
-        _ => Ok(()),
+    out.append(past_two(scratch.items()))?;
+    Ok(())
+}
+
+// What is left of a text past its first two characters.
+fn past_two(text: &[u8]) -> &[u8]
+    ensures { result.now ≡ drop 2 text.now }
+{
+    match text {
+        [_, _, rest @ ..] => rest,
+        _ => &[],
     }
 }
