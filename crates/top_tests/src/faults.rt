@@ -13,14 +13,44 @@ end 0
 #[test]
 fn the_outside_is_named(rt: HostRuntime) -> Result<(), Fail> {
     for (line, reads, writes, wanted) in [
-        ("tactcli check", [1].as_slice(), [].as_slice(), Status::ReadFault),
-        ("tactcli check", [].as_slice(), [0].as_slice(), Status::WriteFault),
-        ("tactcli pack", [1].as_slice(), [].as_slice(), Status::ReadFault),
-        ("tactcli pack", [].as_slice(), [0].as_slice(), Status::WriteFault),
+        (
+            "tactcli check",
+            [1].as_slice(),
+            [].as_slice(),
+            Status::ReadFault,
+        ),
+        (
+            "tactcli check",
+            [].as_slice(),
+            [0].as_slice(),
+            Status::WriteFault,
+        ),
+        (
+            "tactcli pack",
+            [1].as_slice(),
+            [].as_slice(),
+            Status::ReadFault,
+        ),
+        (
+            "tactcli pack",
+            [].as_slice(),
+            [0].as_slice(),
+            Status::WriteFault,
+        ),
         // A fault goes before what is wrong with what was read.
-        ("tactcli unpack", [1].as_slice(), [].as_slice(), Status::ReadFault),
+        (
+            "tactcli unpack",
+            [1].as_slice(),
+            [].as_slice(),
+            Status::ReadFault,
+        ),
         // A drill reads nothing.
-        ("tactcli drill 0", [0].as_slice(), [0].as_slice(), Status::WriteFault),
+        (
+            "tactcli drill 0",
+            [0].as_slice(),
+            [0].as_slice(),
+            Status::WriteFault,
+        ),
     ] {
         let (status, sink) = obeyed(rt.alloc(), line, RECORD.as_bytes(), reads, writes)?;
         assert_eq!(rt; status, wanted, "{line}");

@@ -10,11 +10,14 @@ bound 0 0 0 0 0
 bound 1 0 0 0 0
 end 0
 ";
+
 const EMPTY_BYTES: &[u8] = b"TACT\x01\x02\x01\
 \0\0\0\0\0\0\0\0\0\0\0\0\0\0\0\0\0\0\0\0\0\0\0\0\
 \0\0\0\0\0\0\0\0\0\0\0\0\0\0\0\0\0\0\0\0\0\0\0\0\
 \xff\0\0\0\0\0\0\0\0";
-const EMPTY_LINE: &str = "run 0 calls 0 writes 0 waits 0 sends 0 takes 0 lends 0 backs 0 restarts 0\n";
+
+const EMPTY_LINE: &str =
+    "run 0 calls 0 writes 0 waits 0 sends 0 takes 0 lends 0 backs 0 restarts 0\n";
 
 // The same record with comments, blank lines, more spaces and leading zeros.
 const LOOSE: &str = "# a record
@@ -67,15 +70,60 @@ fn a_take_without_a_send(rt: HostRuntime) -> Result<(), Fail> {
 #[test]
 fn inputs_that_are_no_records(rt: HostRuntime) -> Result<(), Fail> {
     for (line, input, place, kind) in [
-        ("tactcli pack", b"".as_slice(), 1, InputKind::Line(LineKind::BadHeader)),
-        ("tactcli pack", WRONG_COUNT.as_bytes(), 4, InputKind::Line(LineKind::WrongCount)),
-        ("tactcli pack", EMPTY_BYTES, 1, InputKind::Line(LineKind::BadByte)),
-        ("tactcli unpack", b"".as_slice(), 0, InputKind::Bytes(ByteKind::Short)),
-        ("tactcli unpack", EMPTY.as_bytes(), 0, InputKind::Bytes(ByteKind::BadField)),
-        ("tactcli unpack", &EMPTY_BYTES[..63], 63, InputKind::Bytes(ByteKind::Short)),
-        ("tactcli check", b"".as_slice(), 1, InputKind::Line(LineKind::BadHeader)),
-        ("tactcli check", b"T".as_slice(), 1, InputKind::Bytes(ByteKind::Short)),
-        ("tactcli check", b"t".as_slice(), 1, InputKind::Line(LineKind::BadHeader)),
+        (
+            "tactcli pack",
+            b"".as_slice(),
+            1,
+            InputKind::Line(LineKind::BadHeader),
+        ),
+        (
+            "tactcli pack",
+            WRONG_COUNT.as_bytes(),
+            4,
+            InputKind::Line(LineKind::WrongCount),
+        ),
+        (
+            "tactcli pack",
+            EMPTY_BYTES,
+            1,
+            InputKind::Line(LineKind::BadByte),
+        ),
+        (
+            "tactcli unpack",
+            b"".as_slice(),
+            0,
+            InputKind::Bytes(ByteKind::Short),
+        ),
+        (
+            "tactcli unpack",
+            EMPTY.as_bytes(),
+            0,
+            InputKind::Bytes(ByteKind::BadField),
+        ),
+        (
+            "tactcli unpack",
+            &EMPTY_BYTES[..63],
+            63,
+            InputKind::Bytes(ByteKind::Short),
+        ),
+        (
+            "tactcli check",
+            b"".as_slice(),
+            1,
+            InputKind::Line(LineKind::BadHeader),
+        ),
+        (
+            "tactcli check",
+            b"T".as_slice(),
+            1,
+            InputKind::Bytes(ByteKind::Short),
+        ),
+        (
+            "tactcli check",
+            b"t".as_slice(),
+            1,
+            InputKind::Line(LineKind::BadHeader),
+        ),
     ] {
         let (status, sink) = obeyed(rt.alloc(), line, input, &[], &[])?;
         assert_eq!(rt; status, Status::BadInput { place, kind }, "{line}");
