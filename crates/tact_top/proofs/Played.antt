@@ -5,7 +5,6 @@ use Rattle.run_model.specs.declared.status.InputKind.TheVariants as input
 use Rattle.run_model.specs.declared.status.Status.{Status}
 use Rattle.run_model.specs.declared.status.Status.TheVariants as status
 use Rattle.script_run.specs.Playing as play
-use Rattle.tact_base.specs.declared.limits.TheConstants.{INPUT_MAX}
 use Rattle.tact_io.specs.Faults.{HasRisen}
 use Rattle.tact_top.specs.Answers.{Asking, Faulting, Completes, HasCause, Writes}
 use Rattle.tact_top.specs.ScriptForm.{IsPlayed, IsScriptFault}
@@ -48,7 +47,7 @@ module _ (Asks : Asking) (Faults : Faulting) (rest : Option (List ℕ)) (reads r
       → HasCause Asks Faults answer (Some script) rest reads reads' writes writes'
       → ¬ HasRisen reads reads'
       → ¬ HasRisen writes writes'
-      → length script ≤ INPUT_MAX
+      → length script ≤ play.input_max
       → ((place : ℕ) (kind : InputKind) → ¬ Faults script place kind)
       → (answer ≡ status.NoMemory) ⊎ ((text : List ℕ) × Asks script answer text)
   asked status.Done script c no_read no_write few good = inr c.1.1

@@ -4,7 +4,7 @@ use Rattle.std.specs.Prelude.{◌≡◌, ◌⊎◌, ℕ, ◌<◌, ◌≤◌, Lis
 use Rattle.run_model.specs.declared.status.InputKind.{InputKind}
 use Rattle.run_model.specs.declared.status.Status.{Status}
 use Rattle.run_model.specs.declared.status.Status.TheVariants as status
-use Rattle.tact_base.specs.declared.limits.TheConstants.{INPUT_MAX}
+use Rattle.script_run.specs.Playing.{input_max}
 use Rattle.tact_io.specs.Faults.{HasRisen}
 use Rattle.tact_io.specs.Sink.{Gains, GainsPart}
 use Rattle.tact_io.specs.Source.{IsAtEnd}
@@ -25,12 +25,12 @@ IsEnd other = ⊥
 
 -- where the source told what it had left: it was read to its end, it isn't too long, and this is true of it
 abbrev pub IfRead : Option (List ℕ) → Option (List ℕ) → (List ℕ → Type 0) → Type 0
-IfRead left rest Fact = IsAtEnd rest × IfSome left (λ input. (length input ≤ INPUT_MAX) × Fact input)
+IfRead left rest Fact = IsAtEnd rest × IfSome left (λ input. (length input ≤ input_max) × Fact input)
 
 -- The cause of each answer: by what the source had left, before and after, and by both counts of faults.
 abbrev pub HasCause : Asking → Faulting → Status → Option (List ℕ) → Option (List ℕ) → ℕ → ℕ → ℕ → ℕ → Type 0
 HasCause Asks Faults (status.BadInput place kind) left rest reads reads' writes writes' = IfRead left rest (λ input. Faults input place kind)
-HasCause Asks Faults status.TooLong left rest reads reads' writes writes' = IfSome left (λ input. INPUT_MAX < length input)
+HasCause Asks Faults status.TooLong left rest reads reads' writes writes' = IfSome left (λ input. input_max < length input)
 HasCause Asks Faults status.ReadFault left rest reads reads' writes writes' = HasRisen reads reads'
 HasCause Asks Faults status.WriteFault left rest reads reads' writes writes' = HasRisen writes writes'
 HasCause Asks Faults status.NoMemory left rest reads reads' writes writes' = Unit {0}
@@ -53,7 +53,7 @@ Writes Asks other left before after = after ≡ before
 abbrev pub Completes : Asking → Faulting → Status → Option (List ℕ) → ℕ → ℕ → ℕ → ℕ → Type 0
 Completes Asks Faults answer left reads reads' writes writes' =
     ¬ HasRisen reads reads' → ¬ HasRisen writes writes'
-    → IfSome left (λ input. length input ≤ INPUT_MAX → ((place : ℕ) (kind : InputKind) → ¬ Faults input place kind)
+    → IfSome left (λ input. length input ≤ input_max → ((place : ℕ) (kind : InputKind) → ¬ Faults input place kind)
     → (answer ≡ status.NoMemory) ⊎ ((text : List ℕ) × Asks input answer text))
 
 -- How the writing of a text ended, after which a status is due: by the sink before and after, and its counts of faults.
