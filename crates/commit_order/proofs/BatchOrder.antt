@@ -1,5 +1,5 @@
 -- Writes in order that are put into others in order: what is made stays in order, and what comes before the first stays.
-use Rattle.std.proofs.Common.{◌≡◌, ◌≢◌, ℕ, ◌<◌, ◌≤◌, nat_le, Bool, true, false, if◌then◌else◌, List, [], ◌∷◌, ◌++◌, length, get_or, take, drop, filter, All, refl, sym, ap, ◌∙◌, arith}
+use Rattle.std.proofs.Common.{◌≡◌, ◌≢◌, ℕ, ◌+◌, ◌<◌, ◌≤◌, nat_le, Bool, true, false, if◌then◌else◌, List, [], ◌∷◌, ◌++◌, length, get_or, take, drop, filter, All, refl, sym, ap, ◌∙◌, arith}
 use Rattle.std.specs.declared.cmp.Ordering.{Ordering}
 use Rattle.std.specs.declared.cmp.Ordering.TheVariants.{Less, Equal, Greater}
 use Rattle.std.specs.List.Sorted.{IsStrictlySortedBy}
@@ -7,7 +7,7 @@ use Rattle.std.proofs.lemmas.Bool.{leb-true}
 use Rattle.std.proofs.lemmas.List.{take-append-drop, take_all, take_at, drop_all, length-take-le}
 use Rattle.std.proofs.lemmas.List.Elements.{All-nil, All-cons, All-head, All-tail, All-weaker}
 use Rattle.std.proofs.lemmas.List.Sums.{length-filter, count_by-le-length}
-use Rattle.std.proofs.lemmas.List.Sorted.{All-permutation}
+use Rattle.std.proofs.lemmas.List.Sorted.{All-permutation, length_permutation}
 use Rattle.std.proofs.lemmas.Map.Keys.{sorted_tail}
 use Rattle.std.proofs.lemmas.Map.Views.{All-after_first}
 use Rattle.tact_base.proofs.CompareLemmas.{before_one_way, before_trans, not_before_trans, stamp-le_not_before}
@@ -50,6 +50,12 @@ sorted-with_writes [] held sorted new before = before
 sorted-with_writes (write ∷ writes) held sorted new before =
     sorted-with_writes writes (with_write write held) (sorted_tail write_cmp write writes sorted) (still_new write writes held sorted new)
     (sorted-with_write write held (All-head (λ write. All (λ other. write_cmp other write ≢ Equal) held) write writes new) before)
+
+-- and longer by their number
+pub length-with_writes : (writes held : List Write) → length (with_writes writes held) ≡ length held + length writes
+length-with_writes [] held = omega arith
+length-with_writes (write ∷ writes) held =
+    omega (arith, length-with_writes writes (with_write write held), length_permutation (write ∷ held) (with_write write held) (IsPermutation-with_write write held))
 
 -- a test that all of them fail
 pub filter-with_writes : (p : Write → Bool) (writes held : List Write)

@@ -3,3 +3,4 @@ pub mod WriteOrderLemmas
 pub mod BatchLemmas
 pub mod Halves
 pub mod BatchOrder
+pub mod Given

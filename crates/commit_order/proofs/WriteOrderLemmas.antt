@@ -1,17 +1,19 @@
 -- Writes in order: a write that is put in its place, and what is committed.
-use Rattle.std.proofs.Common.{◌≡◌, ◌≢◌, ℕ, ◌≤◌, Bool, true, false, nat_le, List, [], ◌∷◌, ◌++◌, length, get_or, take, drop, inl, inr, refl, sym, ap, ◌∙◌, arith}
+use Rattle.std.proofs.Common.{◌≡◌, ◌≢◌, ℕ, ◌<◌, ◌≤◌, Bool, true, false, nat_le, nat_lt, List, [], ◌∷◌, ◌++◌, length, get_or, take, drop, inl, inr, refl, sym, ap, ◌∙◌, arith}
 use Rattle.std.specs.declared.cmp.Ordering.{Ordering}
 use Rattle.std.specs.declared.cmp.Ordering.TheVariants.{Less, Equal, Greater}
 use Rattle.std.specs.Ordering.{is_lt, ordering_reverse}
 use Rattle.std.specs.List.{All, AllByRecursion, filter}
-use Rattle.std.specs.List.Sorted.{IsStrictlySortedBy, IsPartitionedBy}
+use Rattle.std.specs.List.Sorted.{IsSorted, IsStrictlySortedBy, IsPartitionedBy}
 use Rattle.std.proofs.lemmas.Map.Keys.{Less-from_sorted}
-use Rattle.std.proofs.lemmas.Bool.{cond_both, cases_eq, leb-true, le-leb}
-use Rattle.std.proofs.lemmas.List.Elements.{All-nil, All-cons, All-head, All-tail}
+use Rattle.std.proofs.lemmas.Bool.{cond_both, cases_eq, leb-true, le-leb, le-ltb, lt-leb}
+use Rattle.std.proofs.lemmas.List.{append-nil, drop-append-le}
+use Rattle.std.proofs.lemmas.List.Elements.{All-nil, All-cons, All-head, All-tail, All-drop, All-weaker, filter-append, filter_passes}
 use Rattle.std.proofs.lemmas.List.Sums.{length-filter, count_by-le-length}
 use Rattle.std.proofs.Math.Seq.{take-append_seam, drop-append_seam}
 use Rattle.tact_base.proofs.CompareLemmas.{write_total, less_from_before, before_one_way, before_trans, stamp-le_not_before}
-use Rattle.tact_base.proofs.CommitLemmas.{committed_to-tentative_past}
+use Rattle.tact_base.proofs.CommitLemmas.{All-committed_to, All-tentative_past, committed_to-tentative_past}
+use Rattle.tact_base.proofs.ListLemmas.{filter_all, filter_none}
 use Rattle.tact_base.proofs.OrderLemmas.{IsSortedByPlace, IsSorted-from_ordered}
 use Rattle.tact_base.specs.declared.write.Write.{Write}
 use Rattle.tact_base.specs.WriteOrder.{write_cmp, comes_before, with_write, committed_to, tentative_past}
@@ -143,3 +145,29 @@ pub committed-few : (point : ℕ) (writes : List Write)
 committed-few point writes =
     let kept = length-filter (λ w. nat_le w.stamp point) writes in
     omega (arith, count_by-le-length (λ w. nat_le w.stamp point) writes)
+
+-- Of writes in order the first ones are given up, all of them committed: the others stay committed, and tentative.
+module _ (point : ℕ) (writes : List Write) (sorted : IsSorted write_cmp writes) (k : ℕ) (within : k ≤ length (committed_to point writes)) where
+  abbrev front : List Write
+  front = drop k (committed_to point writes)
+
+  left : drop k writes ≡ front ++ tentative_past point writes
+  left =
+      ap (drop k) (sym (committed_to-tentative_past point writes sorted))
+      ∙ drop-append-le k (committed_to point writes) (tentative_past point writes) within
+
+  pub committed_to-drop : committed_to point (drop k writes) ≡ drop k (committed_to point writes)
+  committed_to-drop =
+      let p : Write → Bool = λ write. nat_le write.stamp point in
+      let late = All-weaker (λ (write : Write). point < write.stamp) (λ (write : Write). p write ≡ false) (λ write h. lt-leb write.stamp point h) (tentative_past point writes) (All-tentative_past point writes) in
+      let early = All-drop (λ (write : Write). p write ≡ true) k (committed_to point writes) (filter_passes p writes) in
+      ap (filter p) left ∙ filter-append p front (tentative_past point writes)
+      ∙ rw (filter_all p front early, filter_none p (tentative_past point writes) late) (append-nil front)
+
+  pub tentative_past-drop : tentative_past point (drop k writes) ≡ tentative_past point writes
+  tentative_past-drop =
+      let p : Write → Bool = λ write. nat_lt point write.stamp in
+      let early = All-drop (λ (write : Write). write.stamp ≤ point) k (committed_to point writes) (All-committed_to point writes) in
+      let fails = All-weaker (λ (write : Write). write.stamp ≤ point) (λ (write : Write). p write ≡ false) (λ write h. le-ltb point write.stamp h) front early in
+      ap (filter p) left ∙ filter-append p front (tentative_past point writes)
+      ∙ rw (filter_none p front fails) (filter_all p (tentative_past point writes) (filter_passes p writes))

@@ -31,7 +31,7 @@ pub(crate) fn merge_in_place(items: &mut [Write], held: usize)
 }
 
 // How many of the items, which are in order, don't come after a write.
-fn count_upto(items: &[Write], write: &Write) -> usize
+pub(crate) fn count_upto(items: &[Write], write: &Write) -> usize
     requires { IsStrictlySortedBy write_cmp items.now }
     ensures within { result ≤ length items.now }
     ensures upto { All (λ held. comes_before write.now held ≡ false) (take result items.now) }

@@ -1,48 +1,62 @@
-ghost use Rattle.std.specs.Prelude.{◌≡◌, ◌≢◌, ◌+◌, ◌<◌, ◌≤◌, [], ◌++◌, All, OnOk, OnErr, IfOk, IsOk, length, insert, take};
+ghost use Rattle.std.specs.Prelude.{◌≡◌, ◌≢◌, ◌+◌, ◌-◌, ◌<◌, ◌≤◌, [], ◌++◌, All, OnOk, OnErr, IfOk, IsOk, length, insert, take, drop};
 ghost use Rattle.std.specs.declared.cmp.Ordering.TheVariants.{Equal};
 ghost use Rattle.std.specs.List.Sorted.{IsStrictlySortedBy};
 ghost use Rattle.tact_base.specs.WriteOrder.{write_cmp, write_place, with_write, in_order, committed_to, tentative_past};
 ghost use Rattle.commit_order.specs.Batches.{with_writes, first_place};
 ghost use Rattle.commit_order.specs.Places.{place_in};
 
-use crate::merging::merge_in_place;
+use crate::merging::{count_upto, merge_in_place};
+use given_up::GivenUp;
 use std::alloc::Global;
 use std::marker::Model;
 use std::slice;
 use tact_base::{NoMemory, Place, RoomyList, Write};
 
-/// Writes in order of stamp, then origin, then index, of which those up to the last point are committed.
-/// Contracts see the writes, the last point and the room: how many more writes can surely be put in without
-/// taking memory.
+// Up to so many items behind their place, or to so many writes, writes are put in one after another, which moves
+// fewer items than to merge them.
+const FEW_BEHIND: usize = 32;
+
+const FEW_WRITES: usize = 8;
+
+/// Writes in order of stamp, then origin, then index, of which those up to the last point are committed. The first
+/// of these can be given up: they aren't held any more, and are still counted. Contracts see all writes, how many of
+/// them were given up, the last point and the room: how many more writes can surely be put in without taking memory.
 #[derive(Debug, Drop)]
 pub struct Ordered {
+    gone: GivenUp<Write>,
     writes: RoomyList<Write>,
+    dropped: u64,
     committed: usize,
     point: u64,
 }
 
 impl Model for Ordered {
-    ghost use Rattle.std.specs.Prelude.{◌≡◌, length};
-    ghost use Rattle.std.specs.List.Sorted.{IsStrictlySortedBy};
-    ghost use Rattle.tact_base.specs.WriteOrder.{write_cmp, committed_to};
-    ghost use Rattle.commit_order.specs.Order.{OrderState};
+    ghost use Rattle.std.specs.Prelude.{◌+◌, ◌-◌, ◌^◌, ◌++◌, min, length};
+    ghost use Rattle.commit_order.specs.Order.{OrderState, KeepsOrder};
 
     ghost Value = { OrderState };
 
-    ghost view = { λ s. record { writes = s.writes.items; point = s.point; room = s.writes.room } };
+    ghost view = { λ s. record {
+      writes = s.gone.items ++ s.writes.items;
+      dropped = s.dropped;
+      point = s.point;
+      room = min s.writes.room (2 ^ 64 - 1 - (s.dropped + length s.writes.items));
+    } };
 
-    ghost invariant = { λ s. IsStrictlySortedBy write_cmp s.writes.items
-        × (s.committed ≡ length (committed_to s.point s.writes.items)) };
+    ghost invariant = { λ s. KeepsOrder s.gone.items s.writes.items s.dropped s.committed s.point };
 }
 
 impl Ordered {
     /// No writes, with the last point 0; they will lie in memory of `alloc`. Takes no memory.
     pub fn new(alloc: Global) -> Ordered
         ensures writes { result.writes ≡ [] }
+        ensures dropped { result.dropped ≡ 0 }
         ensures point { result.point ≡ 0 }
     {
         Ordered {
+            gone: GivenUp::new(),
             writes: RoomyList::new(alloc),
+            dropped: 0,
             committed: 0,
             point: 0,
         }
@@ -52,17 +66,30 @@ impl Ordered {
     /// everything as it was.
     pub fn reserve(&mut self, k: u64) -> Result<(), NoMemory>
         ensures writes { self.new.writes ≡ self.old.writes }
+        ensures dropped { self.new.dropped ≡ self.old.dropped }
         ensures point { self.new.point ≡ self.old.point }
         ensures room { OnOk result (k ≤ self.new.room) }
         ensures enough { k ≤ self.old.room → IsOk result }
         ensures kept { self.old.room ≤ self.new.room }
         ensures err { OnErr result (self.new ≡ self.old) }
     {
+        if k > u64::MAX - self.count() {
+            return Err(NoMemory);
+        }
         self.writes.reserve(k)
     }
 
-    /// How many of the writes come before one of this stamp, origin and index. Takes no memory.
+    // How many writes there are, those that were given up among them.
+    fn count(&self) -> u64
+        ensures { result ≡ length self.now.writes }
+    {
+        self.dropped + self.writes.items().len() as u64
+    }
+
+    /// How many of the writes come before one of this stamp, origin and index, which isn't up to the last point.
+    /// Takes no memory.
     pub fn place(&self, stamp: u64, origin: u32, index: u64) -> u64
+        requires { self.now.point < stamp }
         ensures { result ≡ place_in self.now.writes (record { stamp = stamp; origin = origin; index = index }) }
     {
         let place = Place {
@@ -71,7 +98,7 @@ impl Ordered {
             index,
         };
         let before = |write: &Write| write.place() < place;
-        self.writes.items().partition_point(before) as u64
+        self.dropped + self.writes.items().partition_point(before) as u64
     }
 
     /// Puts a write in its place, which is answered. Takes no memory.
@@ -81,6 +108,7 @@ impl Ordered {
         requires tentative { self.old.point < write.now.stamp }
         ensures place { result ≡ place_in self.old.writes (write_place write.now) }
         ensures writes { self.new.writes ≡ with_write write.now self.old.writes }
+        ensures dropped { self.new.dropped ≡ self.old.dropped }
         ensures point { self.new.point ≡ self.old.point }
         ensures room { self.old.room ≤ self.new.room + 1 }
     {
@@ -89,17 +117,19 @@ impl Ordered {
 
     // Where the first of the writes belongs: at the end where there is none.
     fn place_of_first(&self, writes: &[Write]) -> u64
+        requires { All (λ write. self.now.point < write.stamp) writes.now }
         ensures { result ≡ first_place self.now.writes writes.now }
     {
         match writes.first() {
             Some(first) => self.place(first.stamp, first.origin, first.index),
-            None => self.writes.items().len() as u64,
+            None => self.count(),
         }
     }
 
     /// Puts writes, which are in order, in their places, and answers the place of the first of them, before
-    /// which nothing moves: how many are held, where there are none. What is held after that place is passed
-    /// over once for each time that the number of the writes can be halved. Takes no memory.
+    /// which nothing moves: how many there are, where none is put in. What is held after that place moves once
+    /// for each write where either is few, and else once for each time that the number of the writes can be
+    /// halved. Takes no memory.
     pub fn insert_all(&mut self, writes: &[Write]) -> u64
         requires room { length writes.now ≤ self.old.room }
         requires sorted { IsStrictlySortedBy write_cmp writes.now }
@@ -111,11 +141,12 @@ impl Ordered {
         ensures stays { take result self.new.writes ≡ take result self.old.writes }
         ensures past { length (committed_to self.old.point self.old.writes) ≤ result }
         ensures within { result ≤ length self.old.writes }
+        ensures dropped { self.new.dropped ≡ self.old.dropped }
         ensures point { self.new.point ≡ self.old.point }
         ensures room { self.old.room ≤ self.new.room + length writes.now }
     {
         let place = self.place_of_first(writes);
-        insert_copies(&mut self.writes, place as usize, writes);
+        insert_copies(&mut self.writes, (place - self.dropped) as usize, writes);
         place
     }
 
@@ -125,6 +156,7 @@ impl Ordered {
         requires { self.old.point ≤ stamp }
         ensures count { result ≡ length (committed_to stamp self.old.writes) }
         ensures writes { self.new.writes ≡ self.old.writes }
+        ensures dropped { self.new.dropped ≡ self.old.dropped }
         ensures point { self.new.point ≡ stamp }
         ensures room { self.new.room ≡ self.old.room }
     {
@@ -134,7 +166,29 @@ impl Ordered {
             .partition_point(|write| write.stamp <= stamp);
         self.committed = committed;
         self.point = stamp;
-        committed as u64
+        self.dropped + committed as u64
+    }
+
+    /// Gives up the first `k` of the committed writes that are held. Takes no memory.
+    pub fn drop_front(&mut self, k: u64)
+        requires { self.old.dropped + k ≤ length (committed_to self.old.point self.old.writes) }
+        ensures writes { self.new.writes ≡ self.old.writes }
+        ensures dropped { self.new.dropped ≡ self.old.dropped + k }
+        ensures point { self.new.point ≡ self.old.point }
+        ensures room { self.old.room ≤ self.new.room }
+    {
+        self.gone.extend(&self.writes.items()[..k as usize]);
+        self.writes.drop_front(k as usize);
+        self.committed -= k as usize;
+        self.dropped += k;
+    }
+
+    /// How many writes were given up, all of them committed. Takes no memory.
+    pub fn dropped(&self) -> u64
+        ensures dropped { result ≡ self.now.dropped }
+        ensures within { result ≤ length (committed_to self.now.point self.now.writes) }
+    {
+        self.dropped
     }
 
     /// The last point. Takes no memory.
@@ -144,9 +198,10 @@ impl Ordered {
         self.point
     }
 
-    /// The committed writes, in order.
+    /// The committed writes that are held, in order: all but those that were given up.
     pub fn committed(&self) -> &[Write]
-        ensures committed { result.now ≡ committed_to self.now.point self.now.writes }
+        ensures committed { result.now ≡ drop self.now.dropped (committed_to self.now.point self.now.writes) }
+        ensures within { self.now.dropped ≤ length (committed_to self.now.point self.now.writes) }
         ensures sorted { IsStrictlySortedBy write_cmp self.now.writes }
     {
         self.parts().0
@@ -162,7 +217,8 @@ impl Ordered {
 
     // The committed writes, and the others.
     fn parts(&self) -> (&[Write], &[Write])
-        ensures committed { result.0.now ≡ committed_to self.now.point self.now.writes }
+        ensures committed { result.0.now ≡ drop self.now.dropped (committed_to self.now.point self.now.writes) }
+        ensures within { self.now.dropped ≤ length (committed_to self.now.point self.now.writes) }
         ensures tentative { result.1.now ≡ tentative_past self.now.point self.now.writes }
         ensures sorted { IsStrictlySortedBy write_cmp self.now.writes }
     {
@@ -175,15 +231,49 @@ impl Ordered {
 fn insert_copies(list: &mut RoomyList<Write>, place: usize, writes: &[Write])
     requires held { IsStrictlySortedBy write_cmp list.old.items }
     requires sorted { IsStrictlySortedBy write_cmp writes.now }
+    requires new { All (λ write. All (λ held. write_cmp held write ≢ Equal) list.old.items) writes.now }
     requires place { place ≡ first_place list.old.items writes.now }
     requires room { length writes.now ≤ list.old.room }
     ensures items { list.new.items ≡ with_writes writes.now list.old.items }
     ensures room { list.old.room ≤ list.new.room + length writes.now }
 {
     let held = list.items().len();
+    if place < held && (held - place <= FEW_BEHIND || writes.len() <= FEW_WRITES) {
+        insert_each(list, writes);
+        return;
+    }
     list.append(writes);
     if place < held {
         merge_in_place(list.items_mut(), held);
+    }
+}
+
+// Puts copies of writes in order into a list in order, one after another. What is behind its place moves for each
+// of them. Takes no memory.
+fn insert_each(list: &mut RoomyList<Write>, writes: &[Write])
+    requires held { IsStrictlySortedBy write_cmp list.old.items }
+    requires sorted { IsStrictlySortedBy write_cmp writes.now }
+    requires new { All (λ write. All (λ held. write_cmp held write ≢ Equal) list.old.items) writes.now }
+    requires room { length writes.now ≤ list.old.room }
+    ensures items { list.new.items ≡ with_writes writes.now list.old.items }
+    ensures room { list.old.room ≤ list.new.room + length writes.now }
+{
+    for write in writes {
+        let place = count_upto(list.items(), write);
+        insert_copy(list, place, write);
+    }
+}
+
+// Puts a copy of a write before the item at a place. Takes no memory.
+fn insert_copy(list: &mut RoomyList<Write>, place: usize, write: &Write)
+    requires place { place ≤ length list.old.items }
+    requires room { 0 < list.old.room }
+    ensures items { list.new.items ≡ insert list.old.items place write.now }
+    ensures room { list.old.room ≤ list.new.room + 1 }
+{
+    match write.clone() {
+        Ok(copy) => list.insert(place, copy),
+        Err(_) => unreachable!(),
     }
 }
 
@@ -222,14 +312,15 @@ mod tests {
         assert_eq!(rt; ordered.insert(&write(3, 0, 1)?), 0);
         assert_eq!(rt; ordered.insert(&write(1, 1, 0)?), 0);
         assert_eq!(rt; ordered.insert(&write(1, 0, 0)?), 0);
-        for (stamp, origin, index, place) in [
-            (1, 0, 0, 0),
-            (1, 0, 1, 1),
-            (1, 1, 0, 1),
-            (1, 1, 1, 2),
-            (2, 0, 0, 2),
-            (3, 1, 0, 3),
+        for (late, origin, index, place) in [
+            (0u8, 0, 0, 0),
+            (0, 0, 1, 1),
+            (0, 1, 0, 1),
+            (0, 1, 1, 2),
+            (1, 0, 0, 2),
+            (2, 1, 0, 3),
         ] {
+            let stamp = late as u64 + 1;
             assert_eq!(rt;
                 ordered.place(stamp, origin, index),
                 place,
@@ -243,6 +334,25 @@ mod tests {
         assert_eq!(rt; committed.as_slice(), [(1, 0, 0), (1, 1, 0)].as_slice());
         let tentative = places(rt.alloc(), ordered.tentative())?;
         assert_eq!(rt; tentative.as_slice(), [(3, 0, 1)].as_slice());
+        Ok(())
+    }
+
+    #[test]
+    fn gives_up_the_first(rt: HostRuntime) -> Result<(), Fail> {
+        let mut ordered = Ordered::new(rt.alloc());
+        ordered.reserve(3)?;
+        assert_eq!(rt; ordered.insert(&write(1, 0, 0)?), 0);
+        assert_eq!(rt; ordered.insert(&write(2, 0, 1)?), 1);
+        assert_eq!(rt; ordered.insert(&write(3, 1, 0)?), 2);
+        assert_eq!(rt; ordered.commit_to(2), 2);
+        let first = ordered.committed().len().min(1);
+        ordered.drop_front(first as u64);
+        assert_eq!(rt; ordered.dropped(), 1);
+        let committed = places(rt.alloc(), ordered.committed())?;
+        assert_eq!(rt; committed.as_slice(), [(2, 0, 1)].as_slice());
+        assert_eq!(rt; ordered.place(4, 0, 0), 3);
+        assert_eq!(rt; ordered.commit_to(3), 3);
+        assert_eq!(rt; ordered.tentative().len(), 0);
         Ok(())
     }
 }

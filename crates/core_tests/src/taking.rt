@@ -85,7 +85,7 @@ fn assert_both(rt: &impl Abort, one: &Replica)
 {
     assert_eq!(rt; held(one), (0, 5));
     assert_eq!(rt; (one.have(0), one.have(1), one.known(0, 0)), (1, 1, 1));
-    assert_eq!(rt; (one.point(), one.committed().len()), (1, 2));
+    assert_eq!(rt; (one.point(), one.committed_count()), (1, 2));
 }
 
 fn exchange(

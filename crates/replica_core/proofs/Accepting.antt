@@ -117,24 +117,28 @@ module _ (part : List Entry) (core : Core) (stands : Stands part core) (places :
           let done = call.called part core stands places handed client asked may accepts_as is in
           let placed : HasPlaces after = record {
             among = places.among;
+            bases_sized = places.bases_sized;
             logs_sized = length-set core.writes.logs core.replica (log_at core core.replica ++ write ∷ []) ∙ places.logs_sized;
             covers_sized = places.covers_sized;
             known_sized = places.known_sized;
             calls_sized = call.calls_sized part core stands places handed client asked may accepts_as is;
           } in
           let ready : IsReadyToEnter part entry after = record {
+            before = stands.is_part;
             is_part = goes_on part core stands may.not_full places.among handed may.moment_in done due tt;
             grows = has_grown part core stands may.not_full places.among handed may.moment_in done due;
             writes = record {
+              bases = stands.writes.bases;
               logs = fill_by_all (log_of core.replica further) after.writes.logs core.setup.replicas [] placed.logs_sized logs_are;
               covers = λ origin within other.
                   cover_at-part part core stands.writes origin within ∙ cover_of-other core.replica part _ origin other ∙ sym (ap (λ (k : OriginState). k.cover) (origin_state-push_none part entry origin refl));
               own = cover_at-part part core stands.writes core.replica places.among;
               known = λ peer origin peer_in origin_in. stands.writes.known peer origin peer_in origin_in ∙ sym (known-push_none part entry peer origin refl);
               seen = seen_is;
+              dropped = stands.writes.dropped;
               clock = omega (arith, stands.writes.clock, clock-accepted part entry write accepts refl);
             };
             budgets = budgets_are;
             counts = call.counts_ready part core stands places handed client asked may accepts_as is;
           } in
-          Stands-entered part entry after handed ready refl placed
+          Stands-entered part entry after handed ready refl placed refl

@@ -238,3 +238,19 @@ module _ (replica count : ℕ) (logs : List (List Write)) where
             (λ (differ : one ≡ origin → ⊥). omega (arith, ap length (get_or-set_other logs origin one (log ++ writes) [] differ), few.each one))
             (cases_eq one origin);
       }
+
+-- what is given up of an origin is in its log also as that grows
+pub bases-grown : (replicas : ℕ) (bases : List ℕ) (logs : List (List Write)) (at : ℕ) (writes : List Write)
+    → at < length logs
+    → ((origin : ℕ) → origin < replicas → get_or bases origin 0 ≤ length (get_or logs origin []))
+    → (origin : ℕ)
+    → origin < replicas
+    → get_or bases origin 0 ≤ length (get_or (set logs at (get_or logs at [] ++ writes)) origin [])
+bases-grown replicas bases logs at writes inside held origin within =
+    let log = get_or logs at [] in
+    let grown = set logs at (log ++ writes) in
+    ⊎_elim
+    (λ (same : origin ≡ at).
+    omega (arith, held origin within, ap (λ o. length (get_or logs o [])) same, ap (λ o. length (get_or grown o [])) same, ap length (get_or-set_same logs at (log ++ writes) [] inside), length-append log writes))
+    (λ (other : origin ≡ at → ⊥). omega (arith, held origin within, ap length (get_or-set_other logs at origin (log ++ writes) [] other)))
+    (cases_eq origin at)

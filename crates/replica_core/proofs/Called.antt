@@ -103,9 +103,10 @@ module _ (part : List Entry) (core : Core) (stands : Stands part core) (places :
       let kept = core.budgets in
       let before = stands.budgets in
       let placed : HasPlaces after =
-      record { among = places.among; logs_sized = places.logs_sized; covers_sized = places.covers_sized; known_sized = places.known_sized; calls_sized = calls_sized } in
+      record { among = places.among; bases_sized = places.bases_sized; logs_sized = places.logs_sized; covers_sized = places.covers_sized; known_sized = places.known_sized; calls_sized = calls_sized } in
       Stands-entered part entry after handed
       (record {
+        before = stands.is_part;
         is_part = goes_on part core stands may.not_full places.among handed may.moment_in called due tt;
         grows = has_grown part core stands may.not_full places.among handed may.moment_in called due;
         writes = AreWritesReady-quiet part entry after stands.writes placed accepts refl;
@@ -115,7 +116,7 @@ module _ (part : List Entry) (core : Core) (stands : Stands part core) (places :
             (lent-same core.setup core.replica part entry kept before refl (λ peer conit. refl))
             (returned-same core.setup core.replica part entry kept before refl (λ peer conit. refl));
         counts = counts_ready;
-      }) refl placed
+      }) refl placed refl
 
   -- What is reserved where an amount on a conit is granted, or used.
   module _ (at amount : ℕ) (at_in : at < core.setup.conits) (sized : length core.budgets.reserved ≡ core.setup.conits) where

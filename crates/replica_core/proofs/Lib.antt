@@ -26,3 +26,11 @@ pub mod TakenParts
 pub mod ToldNumbers
 pub mod Taken
 pub mod FitLemmas
+pub mod DroppedParts
+pub mod DroppedLemmas
+pub mod TrimmedStands
+pub mod SentMessages
+pub mod TrimmedReads
+pub mod TrimmedWrites
+pub mod TrimmedLogs
+pub mod TrimmedKept

@@ -31,6 +31,7 @@ pub AreWritesReady-quiet : (part : List Entry) (entry : Entry) (core : Core)
     → taken_by entry ≡ None
     → AreWritesReady part entry core
 AreWritesReady-quiet part entry core stand places accepts takes = record {
+  bases = stand.bases;
   logs =
       stand.logs
       ∙ map_range_agree (log_of core.replica part) (log_of core.replica (part ++ entry ∷ [])) core.setup.replicas
@@ -41,6 +42,7 @@ AreWritesReady-quiet part entry core stand places accepts takes = record {
   own = cover_at-part part core stand core.replica places.among;
   known = λ peer origin peer_in origin_in. stand.known peer origin peer_in origin_in ∙ sym (known-push_none part entry peer origin takes);
   seen = stand.seen ∙ sym (seen-without_write core.setup core.replica part entry accepts takes);
+  dropped = stand.dropped;
   clock = stand.clock ∙ sym (clock-push_none part entry accepts takes);
 }
 

@@ -1,11 +1,13 @@
 -- What is kept of all that is seen, as writes are put in and committed: their sums, and the readers of these.
-use Rattle.std.proofs.Common.{◌≡◌, ℕ, ◌+◌, ◌<◌, ◌≤◌, pos, ◌-ℤ◌, nat_le, List, [], ◌∷◌, ◌++◌, All, length, get_or, take, drop, sum_by, IsPermutation, sym, ap, ap₂, ◌∙◌, subst, arith}
+use Rattle.std.proofs.Common.{◌≡◌, ℕ, ◌+◌, ◌-◌, ◌<◌, ◌≤◌, pos, ◌-ℤ◌, nat_le, List, [], ◌∷◌, ◌++◌, All, length, get_or, take, drop, sum_by, IsPermutation, slice_get, None, Some, refl, sym, ap, ap₂, ◌∙◌, subst, arith}
 use Rattle.std.specs.List.Sorted.{IsSorted}
-use Rattle.std.proofs.lemmas.List.{append_assoc, take_more, map-append}
+use Rattle.std.specs.Option.{option_or}
+use Rattle.std.proofs.lemmas.List.{append-nil, append_assoc, get_or-append-add, length-append, take-append-drop, take-append-le, take_more, map-append}
+use Rattle.std.proofs.lemmas.Option.{slice_get-get_or}
 use Rattle.std.proofs.lemmas.List.Elements.{All-nil, All-drop, All-filter}
 use Rattle.std.proofs.lemmas.List.Sorted.{IsPermutation-map, All-permutation, length_permutation, sum_by-IsPermutation}
 use Rattle.std.proofs.lemmas.List.Sums.{sum_by-append}
-use Rattle.std.proofs.Math.Seq.{drop-append_seam}
+use Rattle.std.proofs.Math.Seq.{drop-append_seam, take-add}
 use Rattle.tact_base.proofs.CommitLemmas.{committed_to-tentative_past, committed_to_prefix}
 use Rattle.tact_base.proofs.OrderLemmas.{IsPermutation-in_order, IsSorted-in_order}
 use Rattle.tact_base.proofs.SumsLemmas.{weights_on-append, net_sum-parts}
@@ -19,7 +21,7 @@ use Rattle.conit_sums.specs.ConitSums.{SumsState, AreSumsOf, write_sum, sum_of}
 use Rattle.conit_sums.specs.declared.Summed.TheVariants.{Plus, Minus, Order}
 use Rattle.conit_weights.specs.Running.{RunningState, HoldsAll, net_of}
 use Rattle.rollback_apply.specs.Image.{ImageState, base_of}
-use Rattle.replica_core.specs.Seen.{SeenState, weights_of, AreOnConits, HasSums, KeepsSeen}
+use Rattle.replica_core.specs.Seen.{SeenState, weights_of, last_one, AreOnConits, HasSums, KeepsSeen}
 
 abbrev weights_in : Write → List Weight
 weights_in write = write.weights
@@ -27,6 +29,7 @@ weights_in write = write.weights
 -- of no writes
 pub KeepsSeen-made : (seen : SeenState) (order_room : ℕ) (image : ImageState) (all : RunningState) (settled : SumsState)
     → seen.writes ≡ []
+    → seen.dropped ≡ 0
     → seen.point ≡ 0
     → seen.room ≡ 0
     → image.committed ≡ 0
@@ -35,8 +38,8 @@ pub KeepsSeen-made : (seen : SeenState) (order_room : ℕ) (image : ImageState) 
     → HoldsAll all []
     → AreSumsOf settled []
     → length settled.sums ≡ seen.conits
-    → KeepsSeen seen order_room image all settled
-KeepsSeen-made seen order_room image all settled no_writes no_point no_room none base no_ops nothing settled_none conits = record {
+    → KeepsSeen seen None order_room image all settled
+KeepsSeen-made seen order_room image all settled no_writes none_gone no_point no_room none base no_ops nothing settled_none conits = record {
   sorted = subst (IsSorted write_cmp) (sym no_writes) (IsSorted-in_order []);
   few = omega (arith, ap length no_writes);
   on_conits = subst (AreOnConits seen.conits) (sym no_writes) (All-nil (λ (write : Write). All (λ (weight : Weight). weight.conit < seen.conits) write.weights));
@@ -45,7 +48,41 @@ KeepsSeen-made seen order_room image all settled no_writes no_point no_room none
   conits = conits;
   order = omega (arith, no_room);
   image = omega (arith, no_room);
+  gone = omega (arith, none_gone);
+  gone_last = rw none_gone refl;
 }
+
+-- the last of some writes, or else the last of those before them, is the last of all
+pub last_one-append : (front back : List Write) → option_or (last_one back) (last_one front) ≡ last_one (front ++ back)
+last_one-append front [] = ap last_one (sym (append-nil front))
+last_one-append front (write ∷ writes) =
+    let back = write ∷ writes in
+    let place : length (front ++ back) - 1 ≡ length front + length writes = omega (arith, length-append front back) in
+    let of_back : slice_get back (length back - 1) ≡ Some (get_or back (length writes) write) =
+    ap (slice_get back) (omega arith) ∙ slice_get-get_or back (length writes) write (omega arith) in
+    let of_all : slice_get (front ++ back) (length (front ++ back) - 1) ≡ Some (get_or back (length writes) write) =
+    ap (slice_get (front ++ back)) place
+    ∙ slice_get-get_or (front ++ back) (length front + length writes) write (omega (arith, length-append front back))
+    ∙ ap Some (get_or-append-add front back (length writes) write) in
+    rw (of_back, of_all) refl
+
+-- Writes that were given up, all of them committed, and then some more: which is the last.
+module _ (committed : List Write) (dropped : ℕ) where
+  pub last-all : option_or (last_one (drop dropped committed)) (last_one (take dropped committed)) ≡ last_one committed
+  last-all = last_one-append (take dropped committed) (drop dropped committed) ∙ ap last_one (take-append-drop dropped committed)
+
+  pub last-more : (count : ℕ) → option_or (last_one (take count (drop dropped committed))) (last_one (take dropped committed)) ≡ last_one (take (dropped + count) committed)
+  last-more count = last_one-append (take dropped committed) (take count (drop dropped committed)) ∙ ap last_one (sym (take-add dropped count committed))
+
+-- as more is committed, what was given up stays
+pub gone-committed : (seen : List Write) (sorted : IsSorted write_cmp seen) (point later : ℕ)
+    → point ≤ later
+    → (dropped : ℕ)
+    → dropped ≤ length (committed_to point seen)
+    → take dropped (committed_to later seen) ≡ take dropped (committed_to point seen)
+gone-committed seen sorted point later rises dropped within =
+    let grown = committed_to_prefix point later seen rises sorted in
+    ap (take dropped) grown.1 ∙ take-append-le dropped (committed_to point seen) grown.0 within
 
 -- sums don't depend on the order of what is summed
 pub AreSumsOf-moved : (state : SumsState) (xs ys : List (List Weight))

@@ -1,5 +1,5 @@
 -- The message that a replica sends.
-use Rattle.std.proofs.Common.{◌≡◌, ◌≢◌, ℕ, ◌<◌, ◌≤◌, max, false, cond, List, [], ◌∷◌, ◌++◌, length, get_or, take, drop, map, refl, sym, ap, ap₂, ◌∙◌, subst, ⊎_elim, arith}
+use Rattle.std.proofs.Common.{◌≡◌, ◌≢◌, ℕ, ◌<◌, ◌≤◌, ◌==◌, min, max, Bool, false, cond, List, [], ◌∷◌, ◌++◌, length, get_or, take, drop, map, refl, sym, ap, ap₂, ◌∙◌, subst, ⊎_elim, arith}
 use Rattle.std.proofs.lemmas.Bool.{cases_eq, eq-eqb, ne_eqb}
 use Rattle.std.proofs.lemmas.List.{length_push}
 use Rattle.tact_base.proofs.ListLemmas.{All-range, flat_map_agree, get_or-map_range, length-filter_map, map_range_agree}
@@ -22,7 +22,7 @@ use Rattle.run_model.proofs.Firsts.{message_again}
 use Rattle.run_model.proofs.PartLemmas.{sent_by, sent_in-push_some, calls_in-push}
 use Rattle.run_model.proofs.SoundViews.{cover_of-same, cover_of-other}
 use Rattle.run_promises.proofs.DueInRange.{due_message_in_range}
-use Rattle.replica_core.specs.States.{Core, log_at, cover_at, known_at, own_cover, origins_of, is_full, entered, with_sent, HasPlaces}
+use Rattle.replica_core.specs.States.{Core, AreBasesHad, base_at, log_at, cover_at, known_at, own_cover, origins_of, is_full, entered, with_sent, HasPlaces}
 use Rattle.replica_core.specs.Sending.{cover_told, first_told, writes_told, next_message}
 use Rattle.replica_core.specs.Stands.{Stands}
 use Rattle.replica_core.proofs.StandsByPlace.{log_at-part, cover_at-part}
@@ -87,6 +87,26 @@ module _ (part : List Entry) (core : Core) (stands : Stands part core) (among : 
       (λ conit within. stands.budgets.lent to conit to_in other within))
       (map_range_agree (returned_to core.budgets to) (returned part to) core.setup.conits
       (λ conit within. stands.budgets.returned to conit to_in other within))
+
+-- What is given up the receiver is known to have, so the writes that it is told begin no earlier.
+pub bases_told : (core : Core)
+    → AreBasesHad core
+    → (to : ℕ) (given : List ℕ)
+    → to < core.setup.replicas
+    → (to ≡ core.replica → ⊥)
+    → (origin : ℕ)
+    → origin < core.setup.replicas
+    → base_at core origin ≤ get_or (map (first_told core to given) (origins_of core)) origin 0
+bases_told core bases to given to_in other origin within =
+    let have = length (log_at core origin) in
+    let told = λ (yes : Bool). cond yes have (min have (max (get_or given origin 0) (known_at core to origin))) in
+    let first : get_or (map (first_told core to given) (origins_of core)) origin 0 ≡ told (origin == to) =
+    get_or-map_range (first_told core to given) core.setup.replicas origin 0 within in
+    ⊎_elim
+    (λ (same : origin ≡ to). omega (arith, first, ap told (eq-eqb origin to same), bases.within origin within))
+    (λ (apart : origin ≡ to → ⊥).
+    omega (arith, first, ap told (ne_eqb origin to apart), bases.within origin within, bases.had to origin to_in within (λ is. apart (sym is)) other))
+    (cases_eq origin to)
 
 -- It stands for its part with the message sent.
 module _ (part : List Entry) (core : Core) (stands : Stands part core) (good : IsSetup core.setup) (free : is_full core ≡ false) (places : HasPlaces core)

@@ -27,12 +27,13 @@ module _ (part : List Entry) (core : Core) (stands : Stands part core) (free : i
       let entry = entry_of core.replica part handed done in
       let after : Core = record core { budgets = budgets; counts = counts } in
       let placed : HasPlaces after =
-      record { among = places.among; logs_sized = places.logs_sized; covers_sized = places.covers_sized; known_sized = places.known_sized; calls_sized = sized } in
+      record { among = places.among; bases_sized = places.bases_sized; logs_sized = places.logs_sized; covers_sized = places.covers_sized; known_sized = places.known_sized; calls_sized = sized } in
       Stands-entered part entry after handed
       (record {
+        before = stands.is_part;
         is_part = goes_on part core stands free places.among handed handed_in done due fits;
         grows = has_grown part core stands free places.among handed handed_in done due;
         writes = AreWritesReady-quiet part entry after stands.writes placed accepts takes;
         budgets = budgeted;
         counts = ready;
-      }) refl placed
+      }) refl placed takes

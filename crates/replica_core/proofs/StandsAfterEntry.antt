@@ -1,7 +1,7 @@
 -- An entry is closed: the replica stands for its part with the entry.
-use Rattle.std.proofs.Common.{◌≡◌, ℕ, ◌<◌, ◌≤◌, max, true, nat_le, map, List, [], ◌∷◌, ◌++◌, length, get_or, set, refl, sym, ap, ap₂, ◌∙◌, ⊎_elim, arith, get_or-set_same, get_or-set_other}
+use Rattle.std.proofs.Common.{◌≡◌, ℕ, ◌<◌, ◌≤◌, max, true, nat_le, map, take, None, List, [], ◌∷◌, ◌++◌, length, get_or, set, refl, sym, ap, ap₂, ◌∙◌, subst, ⊎_elim, arith, get_or-set_same, get_or-set_other}
 use Rattle.std.proofs.lemmas.Bool.{cases_eq, le-leb}
-use Rattle.std.proofs.lemmas.List.{length-map, length-set, length_push, get_or-map, ext_get_or}
+use Rattle.std.proofs.lemmas.List.{length-map, length-set, length_push, take-append-le, get_or-map, ext_get_or}
 use Rattle.std.proofs.lemmas.List.FromFn.{length-map-range_with_len, get_or-map-range_with_len, fill_by_all}
 use Rattle.tact_base.proofs.ListLemmas.{get_or-map_range}
 use Rattle.tact_base.specs.Setup.{replicas_of}
@@ -12,15 +12,18 @@ use Rattle.tact_base.specs.declared.write.Cover.{Cover}
 use Rattle.run_model.specs.Histories.{last_moment, moment_at, sent_in, calls_in}
 use Rattle.run_model.specs.OwnWrites.{own}
 use Rattle.run_model.specs.Taking.{origin_state, log_of, clock, cover_of, covers_of, known}
-use Rattle.run_model.specs.Order.{seen}
+use Rattle.run_model.specs.Order.{seen, committed}
 use Rattle.run_model.specs.Runs.{IsPart}
 use Rattle.run_model.specs.declared.entry.Entry.{Entry}
-use Rattle.run_model.proofs.PartLemmas.{last_moment-push}
+use Rattle.run_model.proofs.PartLemmas.{taken_by, last_moment-push}
 use Rattle.run_model.proofs.Accepted.{log_of-same}
 use Rattle.run_model.proofs.Growth.{Grows}
 use Rattle.run_model.proofs.SoundViews.{cover_of-same, cover_of-other}
 use Rattle.replica_core.specs.States.{Core, CountsKept, HasPlaces, log_at, cover_at, known_at, own_cover, covers_with_own, entered}
-use Rattle.replica_core.specs.Stands.{Stands, BudgetsStand}
+use Rattle.replica_core.specs.Dropped.{past_of, dropped, dropped_of}
+use Rattle.replica_core.specs.Stands.{Stands, BudgetsStand, CountsStand}
+use Rattle.replica_core.proofs.DroppedLemmas.{committed-goes_on, dropped-few, dropped-same}
+use Rattle.replica_core.proofs.TrimmedStands.{WritesHeld, WritesStand-held}
 use Rattle.replica_core.proofs.StandsByPlace.{stamps_of}
 
 -- a told cover none of whose numbers is less is kept
@@ -35,8 +38,10 @@ later_cover-told kept told count stamp moment =
     let m : nat_le kept.moment told.moment ≡ true = le-leb kept.moment told.moment moment in
     rw (c, s, m) refl
 
--- What is kept of writes, but its own cover and its point, is that of a part with one more entry; its own cover is that of the part before.
+-- What is kept of writes, but its own cover and its point, is that of a part with one more entry; its own cover is that of the part before,
+-- and so is what is given up.
 pub record AreWritesReady (part : List Entry) (entry : Entry) (core : Core) : Type 0 where
+  pub bases : core.writes.bases ≡ map (dropped_of core.setup core.replica part) (replicas_of core.setup)
   pub logs : core.writes.logs ≡ map (log_of core.replica (part ++ entry ∷ [])) (replicas_of core.setup)
   pub covers : (origin : ℕ)
       → origin < core.setup.replicas
@@ -48,6 +53,7 @@ pub record AreWritesReady (part : List Entry) (entry : Entry) (core : Core) : Ty
       → origin < core.setup.replicas
       → known_at core peer origin ≡ known (part ++ entry ∷ []) peer origin
   pub seen : core.writes.seen ≡ seen core.setup core.replica (part ++ entry ∷ [])
+  pub dropped : core.writes.dropped ≡ dropped core.setup core.replica part
   pub clock : core.writes.clock ≡ clock (part ++ entry ∷ [])
 
 -- the counts of calls and of messages are those of the part with the entry, and the others those of the part before
@@ -61,6 +67,7 @@ pub record AreCountsReady (part : List Entry) (entry : Entry) (kept : CountsKept
 
 -- A replica that has done all of an entry but to close it.
 pub record IsReadyToEnter (part : List Entry) (entry : Entry) (core : Core) : Type 0 where
+  pub before : IsPart core.setup core.replica part
   pub is_part : IsPart core.setup core.replica (part ++ entry ∷ [])
   pub grows : Grows core.replica part (part ++ entry ∷ [])
   pub writes : AreWritesReady part entry core
@@ -140,24 +147,46 @@ module _ (part : List Entry) (entry : Entry) (core : Core) (handed : ℕ) (ready
       ∙ ap stamp (sym (get_or-map-range_with_len (cover_of core.replica further 0) 0 core.setup.replicas i i no_cover within (omega arith)))
       ∙ sym (get_or-map stamp defined i no_cover 0 (omega (arith, within, size'))))
 
-  pub Stands-entered : Stands further (entered core handed)
-  Stands-entered = record {
-    is_part = ready.is_part;
-    writes = record {
-      logs = ready.writes.logs;
-      covers =
-          fill_by_all (cover_of core.replica further (last_moment further)) (covers_with_own core last) core.setup.replicas no_cover
-          (length-set core.writes.covers core.replica (later_cover (cover_at core core.replica) (own_cover core last)) ∙ places.covers_sized) covers_are;
-      known = ready.writes.known;
-      seen = ready.writes.seen;
-      point = ap least_of stamps_are;
-      clock = ready.writes.clock;
-    };
-    budgets = ready.budgets;
-    counts = record {
-      calls = ready.counts.calls;
-      sends = ready.counts.sends;
-      count = omega (arith, ready.counts.count, length_push part entry);
-      last = last_is;
-    };
+  pub WritesHeld-entered : WritesHeld core.setup core.replica further (dropped core.setup core.replica part) (dropped_of core.setup core.replica part) (entered core handed).writes
+  WritesHeld-entered = record {
+    bases = ready.writes.bases;
+    logs = ready.writes.logs;
+    covers =
+        fill_by_all (cover_of core.replica further (last_moment further)) (covers_with_own core last) core.setup.replicas no_cover
+        (length-set core.writes.covers core.replica (later_cover (cover_at core core.replica) (own_cover core last)) ∙ places.covers_sized) covers_are;
+    known = ready.writes.known;
+    seen = ready.writes.seen;
+    dropped = ready.writes.dropped;
+    point = ap least_of stamps_are;
+    clock = ready.writes.clock;
   }
+
+  pub CountsStand-entered : CountsStand further (entered core handed).counts
+  CountsStand-entered = record {
+    calls = ready.counts.calls;
+    sends = ready.counts.sends;
+    count = omega (arith, ready.counts.count, length_push part entry);
+    last = last_is;
+  }
+
+  -- where no message is taken, nothing more is given up
+  pub Stands-entered : taken_by entry ≡ None → Stands further (entered core handed)
+  Stands-entered takes =
+      let same = dropped-same core.setup core.replica part entry ready.is_part takes in
+      let was = dropped core.setup core.replica part in
+      let longer = committed-goes_on core.setup core.replica part entry ready.is_part in
+      let first : take was (committed core.setup core.replica further) ≡ take was (committed core.setup core.replica part) =
+      ap (take was) longer.1 ∙ take-append-le was (committed core.setup core.replica part) longer.0 (dropped-few core.setup core.replica part ready.before) in
+      let gone : take (dropped core.setup core.replica further) (committed core.setup core.replica further) ≡ take was (committed core.setup core.replica part) =
+      ap (λ (n : ℕ). take n (committed core.setup core.replica further)) same ∙ first in
+      let base_of : List Write → ℕ → ℕ = λ ws origin. past_of ws origin in
+      let same_base : dropped_of core.setup core.replica part ≡ dropped_of core.setup core.replica further = ap base_of (sym gone) in
+      record {
+        is_part = ready.is_part;
+        writes =
+            WritesStand-held core.setup core.replica further (entered core handed).writes
+            (subst (λ (n : ℕ). WritesHeld core.setup core.replica further n (dropped_of core.setup core.replica further) (entered core handed).writes) (sym same)
+            (subst (λ (base : ℕ → ℕ). WritesHeld core.setup core.replica further was base (entered core handed).writes) same_base WritesHeld-entered));
+        budgets = ready.budgets;
+        counts = CountsStand-entered;
+      }

@@ -37,9 +37,10 @@ module _ (part : List Entry) (core : Core) (stands : Stands part core) (free : i
       let entry = entry_of core.replica part handed done in
       let counted : Core = record core { counts = counts } in
       let placed : HasPlaces counted =
-      record { among = places.among; logs_sized = places.logs_sized; covers_sized = places.covers_sized; known_sized = places.known_sized; calls_sized = sized } in
+      record { among = places.among; bases_sized = places.bases_sized; logs_sized = places.logs_sized; covers_sized = places.covers_sized; known_sized = places.known_sized; calls_sized = sized } in
       Stands-entered part entry counted handed
       (record {
+        before = stands.is_part;
         is_part = goes_on part core stands free places.among handed handed_in done due fits;
         grows = has_grown part core stands free places.among handed handed_in done due;
         writes = AreWritesReady-quiet part entry counted stands.writes placed (quiet.accepts core.replica entry.moment) quiet.takes;
@@ -52,7 +53,7 @@ module _ (part : List Entry) (core : Core) (stands : Stands part core) (free : i
             (lent-same core.setup core.replica part entry kept before quiet.takes quiet.lends)
             (returned-same core.setup core.replica part entry kept before quiet.takes quiet.gives);
         counts = ready;
-      }) refl placed
+      }) refl placed quiet.takes
 
   -- a restart leaves all but the counts
   pub Stands-restarted : Stands (part ++ entry_of core.replica part handed act.Restart ∷ []) (entered core handed)

@@ -4,6 +4,7 @@ use Rattle.std.specs.List.{range_with_len}
 use Rattle.std.proofs.lemmas.List.Sums.{sum_by_push}
 use Rattle.std.proofs.lemmas.Bool.{cases_eq, eq-eqb, ne_eqb}
 use Rattle.std.proofs.lemmas.List.{drop-drop, length-drop, length-map}
+use Rattle.std.proofs.lemmas.List.Elements.{All-weaker}
 use Rattle.std.proofs.lemmas.List.FromFn.{fill_by_all}
 use Rattle.tact_base.proofs.ListLemmas.{All-range, flat_map_agree}
 use Rattle.tact_base.specs.Setup.{Setup, loan_of}
@@ -30,10 +31,12 @@ use Rattle.run_promises.proofs.LoanSteps.{most_told, most_told-push_some, lent-p
 use Rattle.split_budget.specs.Budgets.{BudgetState, lent_to, returned_to}
 use Rattle.replica_core.specs.States.{Core, WritesKept, HasPlaces, IsKept, log_at, entered, is_full}
 use Rattle.replica_core.specs.Stands.{Stands, BudgetsStand}
+use Rattle.replica_core.specs.Trimming.{trimmed}
 use Rattle.replica_core.specs.Taking.{FitsAt, added_at, kept_at, raised_by, AreWritesTaken, AreBudgetsTaken}
 use Rattle.replica_core.proofs.StandsByPlace.{log_at-part, cover_at-part}
-use Rattle.replica_core.proofs.StandsAfterEntry.{AreWritesReady, IsReadyToEnter, Stands-entered}
+use Rattle.replica_core.proofs.StandsAfterEntry.{AreWritesReady, IsReadyToEnter, WritesHeld-entered, CountsStand-entered}
 use Rattle.replica_core.proofs.DueEntries.{entry_of, is_due, goes_on, has_grown}
+use Rattle.replica_core.proofs.TrimmedStands.{WritesStand-trimmed}
 
 -- Where a replica stands for a part, the messages that it can take are those that fit the part.
 module _ (part : List Entry) (core : Core) (stands : Stands part core) (among : core.replica < core.setup.replicas) (message : Message) where
@@ -137,6 +140,7 @@ module _ (part : List Entry) (core : Core) (stands : Stands part core) (free : i
 
     writes_ready : AreWritesReady part entry after
     writes_ready = record {
+      bases = are_writes.bases ∙ stands.writes.bases;
       logs = fill_by_all (log_of core.replica (part ++ entry ∷ [])) writes.logs core.setup.replicas [] kept.places.logs_sized logs_are;
       covers = λ origin within other. ap (λ (k : OriginState). k.cover) (kept_other origin within other);
       own = ap (λ (k : OriginState). k.cover) kept_own ∙ cover_at-part part core stands.writes core.replica places.among;
@@ -148,6 +152,7 @@ module _ (part : List Entry) (core : Core) (stands : Stands part core) (free : i
           kept.between.ordered
           ∙ ap in_order (flat_map_agree (log_at after) (log_of core.replica (part ++ entry ∷ [])) (range_with_len 0 core.setup.replicas)
           (All-range (λ origin. log_at after origin ≡ log_of core.replica (part ++ entry ∷ []) origin) 0 core.setup.replicas (λ origin low high. logs_are origin (omega (arith, high)))));
+      dropped = are_writes.dropped ∙ stands.writes.dropped;
       clock =
           are_writes.clock ∙ ap (λ (n : ℕ). max n (greatest (map (λ (cover : Cover). cover.stamp) message.covers))) stands.writes.clock
           ∙ sym (clock-taken part entry message refl refl);
@@ -210,10 +215,12 @@ module _ (part : List Entry) (core : Core) (stands : Stands part core) (free : i
         reserved-taken : (conit : ℕ) → reserved (part ++ entry ∷ []) conit ≡ reserved part conit
         reserved-taken conit = omega (arith, sum_by_push (λ (e : Entry). granted_by conit e.act) part entry, sum_by_push (λ (e : Entry). used_by conit e.act) part entry)
 
-    pub Stands-taken : Stands (part ++ entry ∷ []) (entered after handed)
+    -- and what it gives up then is what is given up after the part
+    pub Stands-taken : Stands (part ++ entry ∷ []) (trimmed (entered after handed))
     Stands-taken =
         let due : IsDue core.setup part entry = is_due part core stands free places.among handed handed_in (act.Take message) (fits.in_range, fits.addressed) fits.addressed in
         let ready : IsReadyToEnter part entry after = record {
+          before = stands.is_part;
           is_part = goes_on part core stands free places.among handed handed_in (act.Take message) due (Fits-part part core stands places.among message fits);
           grows = has_grown part core stands free places.among handed handed_in (act.Take message) due;
           writes = writes_ready;
@@ -225,4 +232,11 @@ module _ (part : List Entry) (core : Core) (stands : Stands part core) (free : i
             last = stands.counts.last;
           };
         } in
-        Stands-entered part entry after handed ready refl kept.places
+        let entered_in : All (λ (write : Write). write.origin < core.setup.replicas) writes.seen =
+        All-weaker (λ (write : Write). (write.origin < core.setup.replicas) × (write.index < length (log_at after write.origin))) (λ (write : Write). write.origin < core.setup.replicas) (λ write placed. placed.0) writes.seen kept.between.placed in
+        record {
+          is_part = ready.is_part;
+          writes = WritesStand-trimmed part entry message refl (entered after handed) ready.is_part stands.is_part entered_in (WritesHeld-entered part entry after handed ready refl kept.places);
+          budgets = ready.budgets;
+          counts = CountsStand-entered part entry after handed ready refl kept.places;
+        }

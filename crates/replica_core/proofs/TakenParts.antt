@@ -1,5 +1,5 @@
 -- What a message does to a replica's budgets and covers.
-use Rattle.std.proofs.Common.{◌≡◌, ℕ, ◌+◌, ◌-◌, ◌<◌, ◌≤◌, nat_le, max, true, false, if◌then◌else◌, List, ◌∷◌, length, get_or, slice_index, set, drop, map, refl, sym, ap, ◌∙◌, le_trans, ⊎_elim, arith, get_or-set_same, get_or-set_other}
+use Rattle.std.proofs.Common.{◌≡◌, ℕ, ◌+◌, ◌-◌, ◌<◌, ◌≤◌, ◌==◌, nat_le, max, true, false, if◌then◌else◌, List, ◌∷◌, length, get_or, slice_index, set, drop, map, refl, sym, ap, ◌∙◌, le_trans, ⊎_elim, arith, get_or-set_same, get_or-set_other}
 use Rattle.std.proofs.lemmas.Bool.{cases_eq, eq-eqb, ne_eqb}
 use Rattle.std.proofs.lemmas.List.{length-set}
 use Rattle.tact_base.proofs.CoversLemmas.{least_of-le, least_stamp-le, least_stamp-ge, later_cover-stamp}
@@ -33,6 +33,14 @@ least_stamp-rises before after some size each =
     (λ k within.
     let inside : k < length before = omega (arith, within, size) in
     le_trans (least_stamp-le before k no_cover inside) (each k inside))
+
+-- a number that is raised doesn't fall
+pub raised_by-ge : (message : Message) (peer before told : ℕ) → before ≤ raised_by message peer before told
+raised_by-ge message peer before told =
+    elim (peer == message.from) as (λ yes. before ≤ (if yes then max before told else before)) [
+      | true ↦ omega arith
+      | false ↦ omega arith
+    ]
 
 -- Budgets that noted what a message tells of its sender.
 module _ (setup : Setup) (replica : ℕ) (old new : BudgetState) (message : Message) (is_setup : old.setup ≡ setup) (is_replica : old.replica ≡ replica) (from_in : message.from < setup.replicas) (other : message.from ≡ replica → ⊥) (kept : KeepsBudgets new)

@@ -7,3 +7,5 @@ pub mod Lending
 pub mod Calling
 pub mod Fitting
 pub mod Reading
+pub mod Dropped
+pub mod Trimming

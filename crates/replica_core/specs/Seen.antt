@@ -1,5 +1,5 @@
 -- What a replica has seen, in order, and what it keeps of that: the image of its operations, and the sums of its weights by conit.
-use Rattle.std.specs.Prelude.{◌≡◌, ℕ, ◌-◌, ◌<◌, ◌≤◌, List, All, length, map, slice_get, Option}
+use Rattle.std.specs.Prelude.{◌≡◌, ℕ, ◌-◌, ◌<◌, ◌≤◌, List, All, length, map, slice_get, take, Option}
 use Rattle.std.specs.List.Sorted.{IsSorted}
 use Rattle.std.specs.Option.{option_map}
 use Rattle.tact_base.specs.Images.{image_of, ops_of}
@@ -12,11 +12,12 @@ use Rattle.conit_weights.specs.Running.{RunningState, HoldsAll}
 use Rattle.rollback_apply.specs.Image.{ImageState, base_of}
 use Rattle.replica_core.specs.declared.last_one.LastOne.{LastOne}
 
--- on how many conits its writes may weigh, the writes in order, the last point, and how many more writes can surely be put in
--- without taking memory
+-- on how many conits its writes may weigh, all writes in order, how many of them aren't held any more, the last point, and how many more
+-- writes can surely be put in without taking memory
 pub record SeenState : Type 0 where
   pub conits : ℕ
   pub writes : List Write
+  pub dropped : ℕ
   pub point : ℕ
   pub room : ℕ
 
@@ -27,6 +28,10 @@ weights_of writes = map (λ write. write.weights) writes
 -- writes that weigh on so many conits alone
 abbrev pub AreOnConits : ℕ → List Write → Type 0
 AreOnConits conits writes = All (λ write. All (λ weight. weight.conit < conits) write.weights) writes
+
+-- which write is the last of some, where there is one
+abbrev pub last_one : List Write → Option LastOne
+last_one writes = option_map (λ write. record { origin = write.origin; index = write.index }) (slice_get writes (length writes - 1))
 
 -- An image is that of writes in order: those up to a point are committed in it, and the others tentative.
 pub record HasImage (seen : List Write) (point : ℕ) (image : ImageState) : Type 0 where
@@ -40,8 +45,8 @@ pub record HasSums (seen : List Write) (point : ℕ) (sums : RunningState) (tota
   pub settled : AreSumsOf totals (weights_of (committed_to point seen))
 
 -- What is kept of all that is seen: the writes are in order and not too many to be summed, on these conits, with their image and
--- sums, and there is the room in the order and in the image.
-pub record KeepsSeen (seen : SeenState) (order_room : ℕ) (kept : ImageState) (sums : RunningState) (totals : SumsState) : Type 0 where
+-- sums; the last of those that were given up, which are committed, is known; and there is the room in the order and in the image.
+pub record KeepsSeen (seen : SeenState) (last : Option LastOne) (order_room : ℕ) (kept : ImageState) (sums : RunningState) (totals : SumsState) : Type 0 where
   pub sorted : IsSorted write_cmp seen.writes
   pub few : length seen.writes ≤ SUMMED_WRITES
   pub on_conits : AreOnConits seen.conits seen.writes
@@ -50,7 +55,5 @@ pub record KeepsSeen (seen : SeenState) (order_room : ℕ) (kept : ImageState) (
   pub conits : length totals.sums ≡ seen.conits
   pub order : seen.room ≤ order_room
   pub image : seen.room ≤ kept.room
-
--- which write is the last of some, where there is one
-abbrev pub last_one : List Write → Option LastOne
-last_one writes = option_map (λ write. record { origin = write.origin; index = write.index }) (slice_get writes (length writes - 1))
+  pub gone : seen.dropped ≤ length (committed_to seen.point seen.writes)
+  pub gone_last : last ≡ last_one (take seen.dropped (committed_to seen.point seen.writes))

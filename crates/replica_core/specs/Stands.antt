@@ -12,17 +12,20 @@ use Rattle.run_model.specs.Taking.{log_of, cover_of, clock, known}
 use Rattle.run_model.specs.declared.entry.Act.{Act}
 use Rattle.run_model.specs.declared.entry.Entry.{Entry}
 use Rattle.split_budget.specs.Budgets.{BudgetState, reserved_on, lent_to, returned_by, lent_by, returned_to}
+use Rattle.replica_core.specs.Dropped.{dropped, dropped_of}
 use Rattle.replica_core.specs.States.{Core, WritesKept, CountsKept, is_full}
 use Rattle.replica_core.specs.declared.fault.CoreFault.{CoreFault}
 use Rattle.replica_core.specs.declared.fault.CoreFault.TheVariants as fault
 
 -- what is kept of writes is what the definitions say of a part of a replica
 pub record WritesStand (setup : Setup) (replica : ℕ) (part : List Entry) (kept : WritesKept) : Type 0 where
+  pub bases : kept.bases ≡ map (dropped_of setup replica part) (replicas_of setup)
   pub logs : kept.logs ≡ map (log_of replica part) (replicas_of setup)
   pub covers : kept.covers ≡ map (cover_of replica part (last_moment part)) (replicas_of setup)
   pub known : (peer origin : ℕ) → peer < setup.replicas → origin < setup.replicas
       → slice_index kept.known (peer * setup.replicas + origin) ≡ known part peer origin
   pub seen : kept.seen ≡ seen setup replica part
+  pub dropped : kept.dropped ≡ dropped setup replica part
   pub point : kept.point ≡ point setup replica part
   pub clock : kept.clock ≡ clock part
 

@@ -14,13 +14,16 @@ use Rattle.split_budget.specs.Budgets.{BudgetState}
 use Rattle.write_log.specs.Logs.{LogState, room_of}
 use Rattle.replica_core.specs.Seen.{AreOnConits}
 
--- What it keeps of writes. By origin: its log, and its cover, its own at the moment of its last entry. By peer and then origin: how
--- many of the origin's writes the peer is known to have. All writes in order, of which those up to the point are committed. Its clock.
+-- What it keeps of writes. By origin: how many of its first writes are given up, its whole log, and its cover, its own at the moment of
+-- its last entry. By peer and then origin: how many of the origin's writes the peer is known to have. All writes in order, of which those
+-- up to the point are committed, and the first so many of these are given up. Its clock.
 pub record WritesKept : Type 0 where
+  pub bases : List ℕ
   pub logs : List (List Write)
   pub covers : List Cover
   pub known : List ℕ
   pub seen : List Write
+  pub dropped : ℕ
   pub point : ℕ
   pub clock : ℕ
 
@@ -55,6 +58,10 @@ cover_at core origin = slice_index_or core.writes.covers origin no_cover
 abbrev pub known_at : Core → ℕ → ℕ → ℕ
 known_at core peer origin = slice_index core.writes.known (peer * core.setup.replicas + origin)
 
+-- how many of the first writes of an origin are given up
+abbrev pub base_at : Core → ℕ → ℕ
+base_at core origin = slice_index core.writes.bases origin
+
 -- the numbers of its origins
 abbrev pub origins_of : Core → List ℕ
 origins_of core = range_with_len 0 core.setup.replicas
@@ -66,6 +73,7 @@ is_full core = nat_le HISTORY_MAX core.counts.count || nat_le STAMP_MAX core.wri
 -- its lists have a place for each origin, for each peer and origin, and for each client
 pub record HasPlaces (core : Core) : Type 0 where
   pub among : core.replica < core.setup.replicas
+  pub bases_sized : length core.writes.bases ≡ core.setup.replicas
   pub logs_sized : length core.writes.logs ≡ core.setup.replicas
   pub covers_sized : length core.writes.covers ≡ core.setup.replicas
   pub known_sized : length core.writes.known ≡ core.setup.replicas * core.setup.replicas
@@ -96,6 +104,12 @@ pub record IsBetweenEntries (core : Core) : Type 0 where
   pub own : (cover_at core core.replica).stamp ≤ core.writes.clock
   pub committed : core.writes.point ≤ least_stamp core.writes.covers
 
+-- What is given up of an origin is in its log, and each replica is known to have it.
+pub record AreBasesHad (core : Core) : Type 0 where
+  pub within : (origin : ℕ) → origin < core.setup.replicas → base_at core origin ≤ length (log_at core origin)
+  pub had : (peer origin : ℕ) → peer < core.setup.replicas → origin < core.setup.replicas → peer ≢ origin → peer ≢ core.replica
+      → base_at core origin ≤ known_at core peer origin
+
 -- numbers that an opening and so many entries can have lent: each at most the greatest alpha, and the greatest amount for each entry
 abbrev pub AreLentBy : ℕ → List ℕ → Type 0
 AreLentBy count numbers = All (λ lent. lent ≤ ALPHA_MAX + count * AMOUNT_MAX) numbers
@@ -112,6 +126,7 @@ pub record IsKept (core : Core) : Type 0 where
   pub places : HasPlaces core
   pub budgets : HasBudgets core
   pub between : IsBetweenEntries core
+  pub bases : AreBasesHad core
   pub few : AreFew core.replica core.counts.count core.writes.logs
   pub lent : AreLentBy core.counts.count core.budgets.lent
 

@@ -65,8 +65,11 @@ abbrev pub with_known : BudgetState → ℕ → ℕ → BudgetState
 with_known budgets peer count =
     with_given_up (record budgets { known = slice_set budgets.known peer (max (slice_index budgets.known peer) count) })
 
--- The writes of a replica after a message: of each origin its log and its cover, what peers are known to have, and the clock.
+-- The writes of a replica after a message: of each origin its log and its cover, what peers are known to have, and the clock. What is
+-- given up stays so.
 pub record AreWritesTaken (old new : Core) (message : Message) : Type 0 where
+  pub bases : new.writes.bases ≡ old.writes.bases
+  pub dropped : new.writes.dropped ≡ old.writes.dropped
   pub kept : (origin : ℕ) → origin < old.setup.replicas → kept_at new origin ≡ kept_after old message origin
   pub known : (peer origin : ℕ) → peer < old.setup.replicas → origin < old.setup.replicas
       → known_at new peer origin ≡ raised_by message peer (known_at old peer origin) (told_have message origin)

@@ -1,5 +1,5 @@
 //! The state of a replica, and what can be read of it.
-ghost use Rattle.std.specs.Prelude.{◌≡◌, ◌↔◌, ℕ, ◌*◌, ◌<◌, ◌≤◌, List, [], suc, length, map, replicate, slice_index, IfOk, OnOk, OnErr, IsOk, IfErr, IsTrue, true, false, max};
+ghost use Rattle.std.specs.Prelude.{◌≡◌, ◌↔◌, ℕ, ◌*◌, ◌<◌, ◌≤◌, List, [], suc, length, map, drop, replicate, slice_index, IfOk, OnOk, OnErr, IsOk, IfErr, IsTrue, true, false, max};
 ghost use Rattle.tact_base.specs.declared.limits.TheConstants.{CLIENTS, HISTORY_MAX, MOMENT_MAX};
 ghost use Rattle.tact_base.specs.WriteOrder.{committed_to, tentative_past};
 ghost use Rattle.replica_core.specs.States.{IsKept, log_at, known_at, cover_at, entered, closed, is_full};
@@ -8,7 +8,9 @@ ghost use Rattle.split_budget.specs.Budgets.{opening};
 ghost use Rattle.tact_base.specs.Images.{image_of, ops_of};
 ghost use Rattle.tact_base.specs.Sums.{net_sum, order_sum};
 ghost use Rattle.run_model.specs.Order.{point, committed, tentative, value, image};
+ghost use Rattle.replica_core.specs.Dropped.{dropped};
 ghost use Rattle.replica_core.specs.Seen.{last_one};
+ghost use Rattle.replica_core.specs.Trimming.{held_committed};
 ghost use Rattle.run_model.specs.declared.entry.Entry.{Entry};
 ghost use Rattle.run_model.specs.declared.entry.Act.TheVariants.{Restart};
 
@@ -16,11 +18,13 @@ mod admitting;
 mod calling;
 mod fitting;
 mod lending;
+mod peeking;
 mod reading;
 mod refusing;
 mod reserving;
 mod sending;
 mod taking;
+mod trimming;
 mod writing;
 
 use crate::seen::Seen;
@@ -65,10 +69,12 @@ impl Model for Replica {
         setup = r.config;
         replica = r.replica;
         writes = record {
+          bases = r.logs.bases;
           logs = r.logs.logs;
           covers = r.vector;
           known = r.known.items;
           seen = r.seen.writes;
+          dropped = r.seen.dropped;
           point = r.seen.point;
           clock = r.clock;
         };
@@ -172,9 +178,11 @@ impl Replica {
         self.seen.point()
     }
 
-    /// The committed writes, in order. Takes no memory.
+    /// The committed writes, in order, without those that are given up (`dropped`). Takes no memory.
     pub fn committed(&self) -> &[Write]
-        ensures { result.now ≡ committed_to self.now.core.writes.point self.now.core.writes.seen }
+        ensures held { result.now ≡ held_committed self.now.core }
+        ensures of_part { (part : List Entry) → Stands part self.now.core
+            → result.now ≡ drop (dropped self.now.core.setup self.now.core.replica part) (committed self.now.core.setup self.now.core.replica part) }
     {
         self.seen.committed()
     }
@@ -186,13 +194,13 @@ impl Replica {
         self.seen.tentative()
     }
 
-    /// How many writes are committed. Takes no memory.
+    /// How many writes are committed, those that are given up among them. Takes no memory.
     pub fn committed_count(&self) -> u64
         ensures count { result ≡ length (committed_to self.now.core.writes.point self.now.core.writes.seen) }
         ensures of_part { (part : List Entry) → Stands part self.now.core
             → result ≡ length (committed self.now.core.setup self.now.core.replica part) }
     {
-        self.seen.committed().len() as u64
+        self.seen.committed_count()
     }
 
     /// Which write is the last of the committed ones: `None` exactly where none is. Takes no memory.
@@ -202,6 +210,16 @@ impl Replica {
             → result ≡ last_one (committed self.now.core.setup self.now.core.replica part) }
     {
         self.seen.last_committed()
+    }
+
+    /// How many committed writes are given up: where it last took a message, the longest front of them in which it knew
+    /// each write to be had by every replica (docs/MODEL.md). Takes no memory.
+    pub fn dropped(&self) -> u64
+        ensures dropped { result ≡ self.now.core.writes.dropped }
+        ensures of_part { (part : List Entry) → Stands part self.now.core
+            → result ≡ dropped self.now.core.setup self.now.core.replica part }
+    {
+        self.seen.dropped()
     }
 
     /// How many entries it made. Takes no memory.

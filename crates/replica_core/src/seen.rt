@@ -23,15 +23,17 @@ use std::marker::Model;
 use tact_base::{NoMemory, Write};
 
 /// The writes that a replica has seen, in order, of which those up to the last point are committed, with the
-/// image of their operations and the sums of their weights, which are kept as writes come and are committed.
-/// Contracts see on how many conits the writes may weigh, the writes, the last point, and the room: how many
-/// more writes can surely be put in without taking memory.
+/// image of their operations and the sums of their weights, which are kept as writes come and are committed. The
+/// first of the committed ones can be given up: they aren't held any more, and still count in the image and the
+/// sums. Contracts see on how many conits the writes may weigh, all writes, how many of them were given up, the
+/// last point, and the room: how many more writes can surely be put in without taking memory.
 #[derive(Drop)]
 pub(crate) struct Seen {
     ordered: Ordered,
     image: Image,
     sums: Running,
     settled: Totals,
+    last_dropped: Option<LastOne>,
     room: u64,
 }
 
@@ -44,23 +46,25 @@ impl Model for Seen {
     ghost view = { λ s. record {
       conits = conits_of s.sums;
       writes = s.ordered.writes;
+      dropped = s.ordered.dropped;
       point = s.ordered.point;
       room = s.room;
     } };
 
-    ghost invariant = { λ s. KeepsSeen (view s) s.ordered.room s.image s.sums s.settled };
+    ghost invariant = { λ s. KeepsSeen (view s) s.last_dropped s.ordered.room s.image s.sums s.settled };
 }
 
 impl Seen {
     /// No writes, on so many conits, with the last point 0 and without room, in memory of `alloc`.
     pub(crate) fn new(alloc: Global, conits: u32) -> Result<Seen, NoMemory>
-        ensures { IfOk result (λ made. made ≡ record { conits = conits; writes = []; point = 0; room = 0 }) }
+        ensures { IfOk result (λ made. made ≡ record { conits = conits; writes = []; dropped = 0; point = 0; room = 0 }) }
     {
         Ok(Seen {
             ordered: Ordered::new(alloc),
             image: Image::new(alloc),
             sums: Running::new(alloc, conits)?,
             settled: Totals::new(alloc, conits)?,
+            last_dropped: None,
             room: 0,
         })
     }
@@ -121,9 +125,10 @@ impl Seen {
         self.ordered.point()
     }
 
-    /// The committed writes, in order. Takes no memory.
+    /// The committed writes that are held, in order: all but those that were given up. Takes no memory.
     pub(crate) fn committed(&self) -> &[Write]
-        ensures { result.now ≡ committed_to self.now.point self.now.writes }
+        ensures committed { result.now ≡ drop self.now.dropped (committed_to self.now.point self.now.writes) }
+        ensures within { self.now.dropped ≤ length (committed_to self.now.point self.now.writes) }
     {
         self.ordered.committed()
     }
@@ -135,15 +140,37 @@ impl Seen {
         self.ordered.tentative()
     }
 
+    /// How many writes are committed, those that were given up among them. Takes no memory.
+    pub(crate) fn committed_count(&self) -> u64
+        ensures { result ≡ length (committed_to self.now.point self.now.writes) }
+    {
+        self.ordered.dropped() + self.ordered.committed().len() as u64
+    }
+
+    /// How many writes were given up, all of them committed. Takes no memory.
+    pub(crate) fn dropped(&self) -> u64
+        ensures dropped { result ≡ self.now.dropped }
+        ensures within { result ≤ length (committed_to self.now.point self.now.writes) }
+    {
+        self.ordered.dropped()
+    }
+
+    /// Gives up the first `count` of the committed writes that are held. It costs what goes, and a move of what
+    /// stays. Takes no memory.
+    pub(crate) fn trim(&mut self, count: u64)
+        requires { self.old.dropped + count ≤ length (committed_to self.old.point self.old.writes) }
+        ensures { self.new ≡ record self.old { dropped = self.old.dropped + count } }
+    {
+        let going = &self.ordered.committed()[..count as usize];
+        self.last_dropped = last_of(going).or(self.last_dropped);
+        self.ordered.drop_front(count);
+    }
+
     /// Which write is the last of the committed ones, if there is one. Takes no memory.
     pub(crate) fn last_committed(&self) -> Option<LastOne>
         ensures { result ≡ last_one (committed_to self.now.point self.now.writes) }
     {
-        let last = self.ordered.committed().last()?;
-        Some(LastOne {
-            origin: last.origin,
-            index: last.index,
-        })
+        last_of(self.ordered.committed()).or(self.last_dropped)
     }
 
     /// The value of a key after all writes. Takes no memory.
@@ -168,6 +195,17 @@ impl Seen {
     {
         self.sums.order(conit) - self.settled.weight(conit)
     }
+}
+
+// Which of some writes is the last.
+fn last_of(writes: &[Write]) -> Option<LastOne>
+    ensures { result ≡ last_one writes.now }
+{
+    let last = writes.last()?;
+    Some(LastOne {
+        origin: last.origin,
+        index: last.index,
+    })
 }
 
 // Makes the image that of the order, which is as it was before a place.
@@ -197,14 +235,14 @@ fn tentative_from(ordered: &Ordered, place: u64) -> &[Write]
         ≡ drop (place - length (committed_to ordered.now.point ordered.now.writes))
         (tentative_past ordered.now.point ordered.now.writes) }
 {
-    let committed = ordered.committed().len() as u64;
+    let committed = ordered.dropped() + ordered.committed().len() as u64;
     &ordered.tentative()[(place - committed) as usize..]
 }
 
-// The committed writes from a place on.
+// The committed writes that are held, from a place among these on.
 fn committed_from(ordered: &Ordered, place: usize) -> &[Write]
-    requires { place ≤ length (committed_to ordered.now.point ordered.now.writes) }
-    ensures { result.now ≡ drop place (committed_to ordered.now.point ordered.now.writes) }
+    requires { ordered.now.dropped + place ≤ length (committed_to ordered.now.point ordered.now.writes) }
+    ensures { result.now ≡ drop (ordered.now.dropped + place) (committed_to ordered.now.point ordered.now.writes) }
 {
     &ordered.committed()[place..]
 }

@@ -1,1 +1,2 @@
+pub mod OneLog
 pub mod Logs

@@ -1,24 +1,18 @@
-ghost use Rattle.std.specs.Prelude.{◌≡◌, ◌≢◌, ℕ, ◌+◌, ◌-◌, ◌<◌, ◌≤◌, [], IfOk, OnOk, OnErr, IsOk, length, replicate, slice_range};
-ghost use Rattle.write_log.specs.Logs.{log_of, room_of, TakesWrites};
+ghost use Rattle.std.specs.Prelude.{◌≡◌, ◌≢◌, ℕ, ◌+◌, ◌-◌, ◌<◌, ◌≤◌, [], max, IfOk, OnOk, OnErr, IsOk, length, replicate, slice_range, slice_set};
+ghost use Rattle.write_log.specs.Logs.{log_of, base_of, room_of, TakesWrites};
 
+use crate::Taken;
+use crate::log::Log;
 use std::alloc::Global;
 use std::marker::Model;
-use tact_base::{NoMemory, RoomyList, Write};
+use tact_base::{NoMemory, Write};
 
-/// What became of told writes.
-#[derive(Clone, Copy, Debug, PartialEq, Eq)]
-pub enum Taken {
-    /// So many of them were new, and were added.
-    Added(u64),
-    /// They begin at the index `first`, past the `have` writes that the log has. Nothing changed.
-    Gap { have: u64, first: u64 },
-}
-
-/// The logs of origins, by origin. Contracts see the log of each origin and its room: how many more of its
-/// writes can surely be held without taking memory.
+/// The logs of origins, by origin, of each of which the first writes may be given up. Contracts see the whole log of
+/// each origin, how many of its first writes were given up, and its room: how many more of its writes can surely be
+/// held without taking memory.
 #[derive(Debug, Drop)]
 pub struct Logs {
-    logs: Vec<RoomyList<Write>>,
+    logs: Vec<Log>,
 }
 
 impl Model for Logs {
@@ -28,7 +22,8 @@ impl Model for Logs {
     ghost Value = { LogState };
 
     ghost view = { λ s. record {
-      logs = map (λ log. log.items) s.logs.items;
+      logs = map (λ log. log.all) s.logs.items;
+      bases = map (λ log. log.base) s.logs.items;
       room = map (λ log. log.room) s.logs.items;
     } };
 }
@@ -36,11 +31,12 @@ impl Model for Logs {
 impl Logs {
     /// The empty logs of `n` origins, whose writes will lie in memory of `alloc`.
     pub fn new(alloc: Global, n: u32) -> Result<Logs, NoMemory>
-        ensures { IfOk result (λ made. made.logs ≡ replicate n []) }
+        ensures logs { IfOk result (λ made. made.logs ≡ replicate n []) }
+        ensures bases { IfOk result (λ made. made.bases ≡ replicate n 0) }
     {
         let mut logs = Vec::with_capacity(alloc, n as usize)?;
         for _ in 0..n {
-            logs.push(RoomyList::new(alloc))?;
+            logs.push(Log::new(alloc))?;
         }
         Ok(Logs { logs })
     }
@@ -50,6 +46,7 @@ impl Logs {
     pub fn reserve(&mut self, i: u32, k: u64) -> Result<(), NoMemory>
         requires { i < length self.old.logs }
         ensures logs { self.new.logs ≡ self.old.logs }
+        ensures bases { self.new.bases ≡ self.old.bases }
         ensures room { OnOk result (k ≤ room_of self.new i) }
         ensures enough { k ≤ room_of self.old i → IsOk result }
         ensures kept { room_of self.old i ≤ room_of self.new i }
@@ -69,30 +66,48 @@ impl Logs {
         ensures others { (j : ℕ) → j ≢ i → room_of self.new j ≡ room_of self.old j }
     {
         let log = &mut self.logs[i as usize];
-        let have = log.items().len() as u64;
-        if first > have {
-            return Taken::Gap { have, first };
-        }
-        let held = ((have - first) as usize).min(writes.len());
-        log.append(&writes[held..]);
-        Taken::Added((writes.len() - held) as u64)
+        log.extend(first, writes)
     }
 
-    /// The number of writes of the origin `i`. Takes no memory.
+    /// Gives up the writes of the origin `i` below the index `upto`. All other logs stay. Takes no memory.
+    pub fn trim(&mut self, i: u32, upto: u64)
+        requires origin { i < length self.old.logs }
+        requires within { upto ≤ length (log_of self.old i) }
+        ensures logs { self.new.logs ≡ self.old.logs }
+        ensures bases { self.new.bases ≡ slice_set self.old.bases i (max (base_of self.old i) upto) }
+        ensures room { room_of self.old i ≤ room_of self.new i }
+        ensures others { (j : ℕ) → j ≢ i → room_of self.new j ≡ room_of self.old j }
+    {
+        let log = &mut self.logs[i as usize];
+        log.trim(upto);
+    }
+
+    /// The number of writes of the origin `i`, those that were given up among them. Takes no memory.
     pub fn count(&self, i: u32) -> u64
         requires { i < length self.now.logs }
         ensures { result ≡ length (log_of self.now i) }
     {
-        self.logs[i as usize].items().len() as u64
+        self.logs[i as usize].count()
     }
 
-    /// The `k` writes of the origin `i` from the index `first` on. Takes no memory.
+    /// How many of the first writes of the origin `i` were given up: the greatest index that its log was trimmed
+    /// up to, 0 at first. Takes no memory.
+    pub fn base(&self, i: u32) -> u64
+        requires { i < length self.now.logs }
+        ensures base { result ≡ base_of self.now i }
+        ensures within { result ≤ length (log_of self.now i) }
+    {
+        self.logs[i as usize].base()
+    }
+
+    /// The `k` writes of the origin `i` from the index `first` on, none of which was given up. Takes no memory.
     pub fn slice(&self, i: u32, first: u64, k: u64) -> &[Write]
         requires origin { i < length self.now.logs }
+        requires base { base_of self.now i ≤ first }
         requires held { first + k ≤ length (log_of self.now i) }
         ensures { result.now ≡ slice_range (log_of self.now i) first (first + k) }
     {
-        &self.logs[i as usize].items()[first as usize..(first + k) as usize]
+        self.logs[i as usize].slice(first, k)
     }
 }
 
@@ -116,17 +131,26 @@ mod tests {
     #[test]
     fn takes_what_is_told(rt: HostRuntime) -> Result<(), Fail> {
         let writes = [write(0)?, write(1)?, write(2)?];
-        for (first, answer, count) in [
-            (0, Taken::Added(1), 3),
-            (1, Taken::Added(2), 4),
-            (2, Taken::Added(3), 5),
-            (3, Taken::Gap { have: 2, first: 3 }, 2),
+        for (upto, first, answer, count) in [
+            (0, 0, Taken::Added(1), 3),
+            (0, 1, Taken::Added(2), 4),
+            (0, 2, Taken::Added(3), 5),
+            (0, 3, Taken::Gap { have: 2, first: 3 }, 2),
+            (1, 0, Taken::Added(1), 3),
+            (2, 0, Taken::Added(1), 3),
+            (2, 2, Taken::Added(3), 5),
+            (2, 3, Taken::Gap { have: 2, first: 3 }, 2),
         ] {
             let mut logs = Logs::new(rt.alloc(), 2)?;
             logs.reserve(1, 2)?;
             assert_eq!(rt; logs.extend(1, 0, &writes[..2]), Taken::Added(2));
+            logs.trim(1, upto);
             assert_eq!(rt; logs.reserve(1, 3), Ok(()));
-            assert_eq!(rt; logs.extend(1, first, &writes), answer, "from {first} on");
+            assert_eq!(rt;
+                logs.extend(1, first, &writes),
+                answer,
+                "{first} behind {upto}"
+            );
             assert_eq!(rt; logs.count(1), count);
             assert_eq!(rt; logs.count(0), 0);
         }
@@ -136,16 +160,18 @@ mod tests {
     #[test]
     fn lends_what_is_held(rt: HostRuntime) -> Result<(), Fail> {
         let writes = [write(0)?, write(1)?, write(2)?];
-        let mut logs = Logs::new(rt.alloc(), 8)?;
-        logs.reserve(7, 3)?;
-        assert_eq!(rt; logs.extend(7, 0, &writes), Taken::Added(3));
-        let count = logs.count(7);
-        assert_eq!(rt; count, 3);
-        for (first, k) in [(0, 3), (1, 2), (2, 1), (3, 0)] {
-            let held = logs.slice(7, first, k);
-            assert_eq!(rt; held.len(), k as usize);
+        for (upto, then, base) in [(0, 0, 0), (1, 0, 1), (2, 1, 2), (1, 2, 2), (3, 3, 3)] {
+            let mut logs = Logs::new(rt.alloc(), 8)?;
+            logs.reserve(7, 3)?;
+            assert_eq!(rt; logs.extend(7, 0, &writes), Taken::Added(3));
+            logs.trim(7, upto);
+            logs.trim(7, then);
+            let first = logs.base(7);
+            assert_eq!(rt; first, base);
+            let held = logs.slice(7, first, logs.count(7) - first);
+            assert_eq!(rt; held.len() as u64, 3 - base);
             for (i, write) in held.iter().enumerate() {
-                assert_eq!(rt; write.index, first + i as u64);
+                assert_eq!(rt; write.index, base + i as u64);
             }
         }
         Ok(())

@@ -23,6 +23,7 @@ pub(crate) fn admit(logs: &mut Logs, seen: &mut Seen, origin: u32, writes: &[Wri
     requires few { length seen.old.writes + length writes.now ≤ SUMMED_WRITES }
     requires placed { All (λ held. held.index < length (log_of logs.old held.origin)) seen.old.writes }
     ensures logs { logs.new.logs ≡ slice_set logs.old.logs origin (log_of logs.old origin ++ writes.now) }
+    ensures bases { logs.new.bases ≡ logs.old.bases }
     ensures seen { seen.new ≡ record seen.old {
       writes = with_writes writes.now seen.old.writes;
       room = seen.old.room - length writes.now;

@@ -1,5 +1,5 @@
 //! The message that a replica sends.
-ghost use Rattle.std.specs.Prelude.{◌≡◌, ◌≢◌, ◌<◌, ◌≤◌, List, true, false, take, drop, length, map, slice_index, IfOk, IfErr, OnOk, OnErr};
+ghost use Rattle.std.specs.Prelude.{◌≡◌, ◌≢◌, ℕ, ◌<◌, ◌≤◌, List, true, false, take, drop, length, map, slice_index, IfOk, IfErr, OnOk, OnErr};
 ghost use Rattle.tact_base.specs.declared.limits.TheConstants.{MOMENT_MAX};
 ghost use Rattle.tact_base.specs.Setup.{conits_of};
 ghost use Rattle.split_budget.specs.Budgets.{lent_to, returned_to};
@@ -7,7 +7,7 @@ ghost use Rattle.run_model.specs.Histories.{moment_at};
 ghost use Rattle.run_model.specs.Messages.{message_of};
 ghost use Rattle.run_model.specs.declared.entry.Act.TheVariants as act;
 ghost use Rattle.run_model.specs.declared.entry.Entry.{Entry};
-ghost use Rattle.replica_core.specs.States.{log_at, origins_of, is_full};
+ghost use Rattle.replica_core.specs.States.{log_at, base_at, origins_of, is_full};
 ghost use Rattle.replica_core.specs.Sending.{cover_told, first_told, writes_told, next_message};
 ghost use Rattle.replica_core.specs.Stands.{Stands, GoesOn, IsSameReplica, IsFaultOf};
 
@@ -45,7 +45,12 @@ impl Replica {
     }
 
     // The message that is sent at this moment, where these firsts are given.
-    fn next_message(&self, moment: u64, to: u32, given: &[u64]) -> Result<Message, NoMemory>
+    pub(crate) fn next_message(
+        &self,
+        moment: u64,
+        to: u32,
+        given: &[u64],
+    ) -> Result<Message, NoMemory>
         requires to { to < self.now.core.setup.replicas }
         requires other { to ≢ self.now.core.replica }
         requires given { length given.now ≡ self.now.core.setup.replicas }
@@ -125,9 +130,10 @@ impl Replica {
         }
     }
 
-    // From each origin in rising order the writes from its first on, as many as there is room for.
+    // From each origin in rising order the writes from its first on, none of which is given up, as many as there is room for.
     fn writes(&self, firsts: &[u64]) -> Result<WriteList, NoMemory>
-        requires { length firsts.now ≡ self.now.core.setup.replicas }
+        requires sized { length firsts.now ≡ self.now.core.setup.replicas }
+        requires held { (origin : ℕ) → origin < self.now.core.setup.replicas → base_at self.now.core origin ≤ slice_index firsts.now origin }
         ensures { IfOk result (λ writes. writes ≡ writes_told self.now.core firsts.now) }
     {
         let mut writes = WriteList::new(self.alloc);
@@ -138,9 +144,10 @@ impl Replica {
         Ok(writes)
     }
 
-    // At most so many writes of an origin from the first on.
+    // At most so many writes of an origin from the first on, none of which is given up.
     fn writes_from(&self, origin: u32, first: u64, most: usize) -> &[Write]
-        requires { origin < self.now.core.setup.replicas }
+        requires origin { origin < self.now.core.setup.replicas }
+        requires held { base_at self.now.core origin ≤ first }
         ensures { result.now ≡ take most (drop first (log_at self.now.core origin)) }
     {
         let have = self.logs.count(origin);

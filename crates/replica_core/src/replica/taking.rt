@@ -60,6 +60,7 @@ impl Replica {
             message,
         );
         self.enter(moment);
+        self.trim();
         Ok(())
     }
 }
@@ -203,6 +204,7 @@ fn lacking(told: &[Write], first: u64, have: u64) -> &[Write]
 fn reserve_each(logs: &mut Logs, replicas: u32, count: u64) -> Result<(), NoMemory>
     requires { length logs.old.logs ≡ replicas }
     ensures logs { logs.new.logs ≡ logs.old.logs }
+    ensures bases { logs.new.bases ≡ logs.old.bases }
     ensures kept { (origin : ℕ) → room_of logs.old origin ≤ room_of logs.new origin }
     ensures room { OnOk result ((origin : ℕ) → origin < replicas → count ≤ room_of logs.new origin) }
 {

@@ -1,18 +1,35 @@
-use Rattle.std.proofs.Common.{arith, ◌≡◌, length, ap, sym}
+use Rattle.std.proofs.Common.{arith, ◌≡◌, length, ap, sym, ◌∙◌}
+use Rattle.commit_order.proofs.Given.{held-sorted, committed-held, committed-length, tentative-is}
 use Rattle.commit_order.proofs.WriteOrderLemmas.{committed-few, committed-front, tentative-rest}
 use Rattle.commit_order.proofs.ordered.Ordered.parts.Goals as goal
 
 pub split_at-requires : goal.split_at-requires
 split_at-requires c =
     let held : length c.items.result.now ≡ length c.self.inside.writes.items = ap length c.items.ensures in
-    omega (arith, held, c.self.invariant.1, committed-few c.self.inside.point c.self.inside.writes.items)
+    omega (arith, held, c.self.invariant.committed, committed-few c.self.inside.point c.self.inside.writes.items)
 
 pub returns-clause-committed : goal.returns-clause-committed
 returns-clause-committed c =
-    rw (c.split_at.ensures.front, c.items.ensures, c.self.invariant.1, ← c.self.view_is)
-    (sym (committed-front c.self.inside.point c.self.inside.writes.items c.self.invariant.0))
+    let gone = c.self.inside.gone.items in
+    let held = c.self.inside.writes.items in
+    let point = c.self.inside.point in
+    let kept = c.self.invariant in
+    rw (c.split_at.ensures.front, c.items.ensures, kept.committed, ← c.self.view_is, ← kept.many)
+    (sym (committed-front point held (held-sorted gone held point kept.past kept.sorted))
+    ∙ sym (committed-held gone held point kept.past point (omega arith)))
 
 pub returns-clause-tentative : goal.returns-clause-tentative
 returns-clause-tentative c =
-    rw (c.split_at.ensures.back, c.items.ensures, c.self.invariant.1, ← c.self.view_is)
-    (sym (tentative-rest c.self.inside.point c.self.inside.writes.items c.self.invariant.0))
+    let gone = c.self.inside.gone.items in
+    let held = c.self.inside.writes.items in
+    let point = c.self.inside.point in
+    let kept = c.self.invariant in
+    rw (c.split_at.ensures.back, c.items.ensures, kept.committed, ← c.self.view_is)
+    (sym (tentative-rest point held (held-sorted gone held point kept.past kept.sorted))
+    ∙ sym (tentative-is gone held point kept.past))
+
+pub returns-clause-within : goal.returns-clause-within
+returns-clause-within c =
+    let inside = c.self.inside in
+    let kept = c.self.invariant in
+    rw (← c.self.view_is) (omega (arith, kept.many, committed-length inside.gone.items inside.writes.items inside.point kept.past inside.point (omega arith)))

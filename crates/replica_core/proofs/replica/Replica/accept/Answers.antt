@@ -16,7 +16,7 @@ use Rattle.replica_core.specs.Seen.{SeenState}
 use Rattle.replica_core.proofs.BudgetRoom.{MayCount-room}
 use Rattle.replica_core.proofs.DueEntries.{not_full}
 use Rattle.replica_core.proofs.LentLemmas.{AreLentBy-same, AreLentBy-later}
-use Rattle.replica_core.proofs.AdmitLemmas.{AreAdmitted, admitted_all, seen-few, AreNext-own, AreFew-own}
+use Rattle.replica_core.proofs.AdmitLemmas.{AreAdmitted, admitted_all, seen-few, AreNext-own, AreFew-own, bases-grown}
 use Rattle.replica_core.proofs.replica.Replica.accept.Goals as goal
 
 pub admit-requires-clause-past : goal.admit-requires-clause-past
@@ -70,6 +70,7 @@ invariant_of-self c =
         setup = c.self.invariant.0.setup;
         places = record {
           among = places.among;
+          bases_sized = ap length c.admit.ensures.bases ∙ places.bases_sized;
           logs_sized = ap length c.admit.ensures.logs ∙ length-set c.self.inside.logs.logs c.self.inside.replica _ ∙ places.logs_sized;
           covers_sized = places.covers_sized;
           known_sized = places.known_sized;
@@ -78,6 +79,11 @@ invariant_of-self c =
         budgets = record { setup = ap (λ b. b.setup) c.count.ensures.counted ∙ budgets.setup; replica = ap (λ b. b.replica) c.count.ensures.counted ∙ budgets.replica };
         between = rw (c.admit.ensures.logs, c.admit.ensures.seen)
             (record { ordered = admitted.ordered; placed = admitted.placed; own = omega (arith, kept.own); committed = kept.committed });
+        bases = rw (c.admit.ensures.logs, c.admit.ensures.bases)
+            (record {
+              within = bases-grown c.self.inside.config.replicas c.self.inside.logs.bases logs c.self.inside.replica c.from_ref-one.result.now (omega (arith, places.among, places.logs_sized)) c.self.invariant.0.bases.within;
+              had = c.self.invariant.0.bases.had;
+            });
         few = rw c.admit.ensures.logs (AreFew-own c.self.inside.replica c.self.inside.count c.self.inside.logs.logs c.from_ref-one.result.now (omega (arith, places.among, places.logs_sized)) (omega (arith, one)) entries c.self.invariant.0.few);
         lent = AreLentBy-later c.self.inside.count (c.self.inside.count + 1) c.count.new.budgets.lent (omega arith) (AreLentBy-same c.self.inside.count (ap (λ b. b.lent) c.count.ensures.counted) c.self.invariant.0.lent);
       },

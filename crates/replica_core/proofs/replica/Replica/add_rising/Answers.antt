@@ -6,7 +6,7 @@ use Rattle.tact_base.specs.declared.write.Write.{Write}
 use Rattle.write_log.specs.Logs.{room_of}
 use Rattle.replica_core.specs.Seen.{SeenState}
 use Rattle.replica_core.specs.States.{ReplicaState, AreNext, log_at}
-use Rattle.replica_core.proofs.AdmitLemmas.{admitted_all, seen-few, AreFew-other}
+use Rattle.replica_core.proofs.AdmitLemmas.{admitted_all, seen-few, AreFew-other, bases-grown}
 use Rattle.replica_core.proofs.replica.Replica.add_rising.Goals as goal
 
 pub admit-requires-clause-next : goal.admit-requires-clause-next
@@ -42,6 +42,7 @@ invariant_of-self c =
         setup = kept.setup;
         places = record {
           among = places.among;
+          bases_sized = ap length c.admit.ensures.bases ∙ places.bases_sized;
           logs_sized = ap length c.admit.ensures.logs ∙ length-set logs origin grown ∙ places.logs_sized;
           covers_sized = places.covers_sized;
           known_sized = places.known_sized;
@@ -50,6 +51,11 @@ invariant_of-self c =
         budgets = record { setup = kept.budgets.setup; replica = kept.budgets.replica };
         between = rw (c.admit.ensures.logs, c.admit.ensures.seen)
             (record { ordered = admitted.ordered; placed = admitted.placed; own = kept.between.own; committed = kept.between.committed });
+        bases = rw (c.admit.ensures.logs, c.admit.ensures.bases)
+            (record {
+              within = bases-grown c.self.inside.config.replicas c.self.inside.logs.bases logs origin writes (omega (arith, among, places.logs_sized)) kept.bases.within;
+              had = kept.bases.had;
+            });
         few = rw c.admit.ensures.logs (AreFew-other c.self.inside.replica c.self.inside.count logs origin writes (omega (arith, among, places.logs_sized)) other next.few kept.few);
         lent = kept.lent;
       },

@@ -36,6 +36,16 @@ returns-in-Reserve-clause-cause c =
     (sym ((c.answer_reserve.ensures.answers part stands).0 ∙ sym (ap (reply_of old.setup old.replica part at) c.in-Reserve.is)))
     (reply_names_cause old.setup old.replica part at kept.places.among (HasCounts-from_IsSetup old.setup kept.setup).replicas_low c.args.request.now)
 
+pub returns-in-Release-clause-cause : goal.returns-in-Release-clause-cause
+returns-in-Release-clause-cause c =
+    let old = c.args.self.now.core in
+    let kept = c.in_ok-may_enter.ensures.kept in
+    λ part stands.
+    let at = moment_at part c.args.moment in
+    subst (NamesCause old.setup old.replica part at c.args.request.now)
+    (sym ((c.answer_release.ensures.answers part stands).0 ∙ sym (ap (reply_of old.setup old.replica part at) c.in-Release.is)))
+    (reply_names_cause old.setup old.replica part at kept.places.among (HasCounts-from_IsSetup old.setup kept.setup).replicas_low c.args.request.now)
+
 pub returns-in-Read-clause-cause : goal.returns-in-Read-clause-cause
 returns-in-Read-clause-cause c =
     let old = c.args.self.now.core in

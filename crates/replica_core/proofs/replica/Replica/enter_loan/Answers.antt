@@ -17,6 +17,7 @@ invariant_of-self c =
         setup = kept.setup;
         places = record {
           among = places.among;
+          bases_sized = places.bases_sized;
           logs_sized = places.logs_sized;
           covers_sized = places.covers_sized;
           known_sized = places.known_sized;
@@ -24,6 +25,7 @@ invariant_of-self c =
         };
         budgets = record { setup = ap (λ b. b.setup) c.lend.ensures ∙ kept.budgets.setup; replica = ap (λ b. b.replica) c.lend.ensures ∙ kept.budgets.replica };
         between = record { ordered = between.ordered; placed = between.placed; own = between.own; committed = between.committed };
+        bases = record { within = kept.bases.within; had = kept.bases.had };
         few = kept.few;
         lent = AreLentBy-same c.self.inside.count (ap (λ b. b.lent) c.lend.ensures)
             (subst (λ (s : ReplicaState). AreLentBy s.core.counts.count (set s.core.budgets.lent place (get_or s.core.budgets.lent place 0 + c.args.amount)))

@@ -22,10 +22,12 @@ returns-clause-goes_on c =
       setup = c.self.inside.config;
       replica = c.self.inside.replica;
       writes = record {
+        bases = c.self.inside.logs.bases;
         logs = c.self.inside.logs.logs;
         covers = c.self.inside.vector;
         known = c.self.inside.known.items;
         seen = c.self.inside.seen.writes;
+        dropped = c.self.inside.seen.dropped;
         point = c.self.inside.seen.point;
         clock = c.self.inside.clock;
       };

@@ -10,11 +10,12 @@ use Rattle.run_model.specs.declared.entry.Act.TheVariants as act
 use Rattle.split_budget.specs.Budgets.{BudgetState}
 use Rattle.replica_core.specs.States.{Core, ReplicaState, IsKept, log_at, cover_at, entered}
 use Rattle.replica_core.specs.Stands.{Stands, with_act}
+use Rattle.replica_core.specs.Trimming.{trimmed}
 use Rattle.replica_core.specs.Taking.{AreWritesTaken, AreBudgetsTaken, kept_at, kept_after, log_told, raised_by}
 use Rattle.replica_core.proofs.BudgetRoom.{with_room}
 use Rattle.replica_core.proofs.LentLemmas.{AreLentBy-same}
 use Rattle.replica_core.proofs.Taken.{Stands-taken}
-use Rattle.replica_core.proofs.TakenParts.{cover_after-stamp, least_stamp-rises, AreBudgetsTaken-noted}
+use Rattle.replica_core.proofs.TakenParts.{cover_after-stamp, least_stamp-rises, raised_by-ge, AreBudgetsTaken-noted}
 use Rattle.replica_core.proofs.replica.Replica.take.Goals as goal
 
 pub invariant_of-self : goal.invariant_of-self
@@ -40,6 +41,7 @@ invariant_of-self c =
         setup = kept.setup;
         places = record {
           among = places.among;
+          bases_sized = places.bases_sized;
           logs_sized = places.logs_sized;
           covers_sized = c.raise_covers.ensures.sized ∙ places.covers_sized;
           known_sized = c.learn_haves.ensures.sized ∙ places.known_sized;
@@ -51,6 +53,11 @@ invariant_of-self c =
           placed = kept.between.placed;
           own = omega (arith, ap (λ (cover : Cover). cover.stamp) own, kept.between.own, c.max-self-inside.ensures);
           committed = omega (arith, kept.between.committed, least);
+        };
+        bases = record {
+          within = kept.bases.within;
+          had = λ peer origin peer_in origin_in apart other.
+              omega (arith, kept.bases.had peer origin peer_in origin_in apart other, c.learn_haves.ensures.known peer origin peer_in origin_in, raised_by-ge c.args.message.now peer (get_or inside.known.items (peer * inside.config.replicas + origin) 0) (told_have c.args.message.now origin));
         };
         few = kept.few;
         lent = AreLentBy-same inside.count (ap (λ (b : BudgetState). b.lent) noted) kept.lent;
@@ -70,10 +77,12 @@ returns-clause-goes_on c part stands =
       setup = inside.config;
       replica = inside.replica;
       writes = record {
+        bases = inside.logs.bases;
         logs = inside.logs.logs;
         covers = inside.vector;
         known = inside.known.items;
         seen = inside.seen.writes;
+        dropped = inside.seen.dropped;
         point = inside.seen.point;
         clock = inside.clock;
       };
@@ -92,9 +101,10 @@ returns-clause-goes_on c part stands =
     let closed : Core → Core = λ k. let t : Core = record k { writes = record k.writes { covers = c.raise_covers.new.vector; known = c.learn_haves.new.known.items; clock = c.max-self-inside.result }; budgets = budgets } in t in
     let final : closed view ≡ closed (logged inside.logs.logs inside.seen.writes) = ap closed mid in
     let after = closed (logged inside.logs.logs inside.seen.writes) in
-    let reached : c.enter.new.self.core ≡ entered after c.args.moment =
-    ap (λ (s : ReplicaState). s.core) c.enter.ensures ∙ ap (λ (k : Core). entered k c.args.moment) final in
-    let kept : IsKept after = subst IsKept final (invariant_of-self c.before.before).0 in
+    let reached : c.trim.new.self.core ≡ trimmed (entered after c.args.moment) =
+    ap (λ (s : ReplicaState). s.core) c.trim.ensures
+    ∙ ap (λ (s : ReplicaState). trimmed s.core) c.enter.ensures ∙ ap (λ (k : Core). trimmed (entered k c.args.moment)) final in
+    let kept : IsKept after = subst IsKept final (invariant_of-self c.before.before.before.before).0 in
     let covers_are : inside.vector ≡ old.writes.covers = ap (λ (k : Core). k.writes.covers) mid in
     let known_are : inside.known.items ≡ old.writes.known = ap (λ (k : Core). k.writes.known) mid in
     let clock_is : inside.clock ≡ old.writes.clock = ap (λ (k : Core). k.writes.clock) mid in
@@ -125,6 +135,8 @@ returns-clause-goes_on c part stands =
     ∙ sym (ap (λ b. cond b (kept_at old origin) (after_taking origin (kept_at old origin) message)) no))
     (cases_eq origin old.replica) in
     let are_writes : AreWritesTaken old after message = record {
+      bases = refl;
+      dropped = refl;
       kept = kept_is;
       known = λ peer origin peer_in origin_in.
           ap (λ (n : ℕ). get_or c.learn_haves.new.known.items (peer * n + origin) 0) (sym replicas_are)

@@ -130,4 +130,6 @@ invariant_of-self c =
         c.follow.ensures.room,
         kept.image,
       );
+      gone = rw (made.ensures.dropped, made.ensures.point, same) kept.gone;
+      gone_last = rw (made.ensures.dropped, made.ensures.point, same) kept.gone_last;
     }

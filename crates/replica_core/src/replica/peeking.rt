@@ -1,0 +1,25 @@
+//! The message that a replica would send now.
+ghost use Rattle.std.specs.Prelude.{◌≡◌, ◌≢◌, ◌<◌, List, length, IfOk};
+ghost use Rattle.run_model.specs.Histories.{moment_at};
+ghost use Rattle.run_model.specs.Messages.{message_of};
+ghost use Rattle.run_model.specs.declared.entry.Entry.{Entry};
+ghost use Rattle.replica_core.specs.Stands.{Stands};
+
+use super::Replica;
+use run_model::Message;
+use tact_base::{NoMemory, Numbers};
+
+impl Replica {
+    /// The message that `send` would send to another replica at this moment, where these firsts are given, in the memory
+    /// that the replica was made in. Who needs a second one takes it before sending: afterwards nothing is left to fail.
+    /// `NoMemory` is its only error.
+    pub fn message(&self, moment: u64, to: u32, firsts: &Numbers) -> Result<Message, NoMemory>
+        requires to { to < self.now.core.setup.replicas }
+        requires other { to ≢ self.now.core.replica }
+        requires firsts { length firsts.now ≡ self.now.core.setup.replicas }
+        ensures due { IfOk result (λ message. (part : List Entry) → Stands part self.now.core
+            → message ≡ message_of self.now.core.setup self.now.core.replica part (moment_at part moment) to firsts.now) }
+    {
+        self.next_message(moment.max(self.last), to, firsts.items())
+    }
+}
