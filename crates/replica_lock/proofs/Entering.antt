@@ -105,10 +105,10 @@ module _ (before after : LockedView) (setup : Setup) (client : ℕ) (entry : Ent
       ap entries_of (stored ∙ drawn.pairs) ∙ entries-push before.clerk.pairs (length drawn.front) entry
       ∙ ap (λ pairs. entries_of pairs ++ entry ∷ []) kept.drawn
 
-  replica-after : after.clerk.replica ≡ after.core.replica
+  pub replica-after : after.clerk.replica ≡ after.core.replica
   replica-after = drawn.replica ∙ kept.replica ∙ sym same.1
 
-  own-after : part_of after.clerk.seen after.core.replica ≡ part_in after
+  pub own-after : part_of after.clerk.seen after.core.replica ≡ part_in after
   own-after = sym (ap (part_of after.clerk.seen) replica-after) ∙ drawn.own ∙ ap entries_of (sym stored)
 
   pub IsLocked-call : IsQuietCall client entry.act

@@ -3,3 +3,6 @@ mod Entering
 mod Seeing
 mod Turning
 mod Opening
+mod Making
+mod Made
+mod Dues

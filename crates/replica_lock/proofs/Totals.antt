@@ -55,3 +55,19 @@ module _ (conits client : ℕ) (totals : List ℕ) (places : length totals ≡ c
   counted-made =
       sum_from-more (conits + CLIENTS) client turned (omega (arith, length-set totals (turns_place conits client) (get_or totals (turns_place conits client) 0 + 1), places, among))
       ∙ ap (λ rest. sum rest + 1) (drop-set-lt (conits + CLIENTS) totals (turns_place conits client) _ (omega (arith, among)))
+
+-- One more entry made for a client, and no turn.
+module _ (conits client : ℕ) (totals : List ℕ) (places : length totals ≡ conits + 2 * CLIENTS) (among : client < CLIENTS) where
+  abbrev pub entered : List ℕ
+  entered = one_more_at (made_place conits client) totals
+
+  pub entered-places : length entered ≡ conits + 2 * CLIENTS
+  entered-places = length-set totals (made_place conits client) _ ∙ places
+
+  pub entered-else : (place : ℕ)
+      → place ≢ made_place conits client
+      → get_or entered place 0 ≡ get_or totals place 0
+  entered-else place other = get_or-set_other totals (made_place conits client) place _ 0 other
+
+  pub entered-made : sum (drop (conits + CLIENTS) entered) ≡ sum (drop (conits + CLIENTS) totals) + 1
+  entered-made = sum_from-more (conits + CLIENTS) client totals (omega (arith, places, among))

@@ -18,6 +18,10 @@ pub record Tells (node : NodeView) (locked : LockedView) (session : SessionView)
   pub calls : session.calls ≡ calls_in (part_in locked) session.client
   pub known : calls_in (part_of session.seen session.replica) session.client ≡ session.calls
 
+-- the setup of a turn's node is that of the value behind the lock
+pub turn-setup : (node : NodeView) (held : HeldView Label) (locked : LockedView) → KeepsTurn node held locked → node.desk.setup ≡ locked.core.setup
+turn-setup node held locked turn = sym (ap (λ (d : DeskView). d.setup) (ap (λ (l : Label). l.desk) turn.label ∙ turn.keeps.desk_is))
+
 pub tells : (node : NodeView) (held : HeldView Label) (locked : LockedView) (session : SessionView) (tally : TallyView)
     → KeepsTurn node held locked
     → IsLocked locked
@@ -26,7 +30,7 @@ pub tells : (node : NodeView) (held : HeldView Label) (locked : LockedView) (ses
     → ((p : ℕ) → slice_index tally.owns p ≢ 0 → slice_index held.book p ≡ slice_index tally.amounts p)
     → Tells node locked session
 tells node held locked session tally turn kept of keeps agrees =
-    let setup : node.desk.setup ≡ locked.core.setup = sym (ap (λ (d : DeskView). d.setup) (ap (λ (l : Label). l.desk) turn.label ∙ turn.keeps.desk_is)) in
+    let setup = turn-setup node held locked turn in
     let place = turns_place session.conits session.client in
     record {
       setup = setup;

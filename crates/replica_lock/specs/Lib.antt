@@ -1,5 +1,6 @@
 pub mod Faults
 pub mod Locks
+pub mod Parcels
 pub mod Sessions
 pub mod Nodes
 pub mod Rosters

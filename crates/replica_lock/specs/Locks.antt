@@ -2,11 +2,12 @@
 use Rattle.std.specs.Prelude.{◌≡◌, ℕ, ◌+◌, ◌*◌, ◌<◌, List, [], ◌∷◌, ◌++◌, drop, length, slice_index, slice_set, sum}
 use Rattle.tact_base.specs.Setup.{Setup}
 use Rattle.tact_base.specs.declared.limits.TheConstants.{CLIENTS}
-use Rattle.run_model.specs.Histories.{part_of, calls_in, IsPrefix}
+use Rattle.run_model.specs.Histories.{part_of, calls_in, moment_at, IsPrefix}
 use Rattle.run_model.specs.Missing.{reserved}
 use Rattle.run_model.specs.Runs.{IsRun}
 use Rattle.run_model.specs.declared.call.Request.{Request}
 use Rattle.run_model.specs.declared.call.Request.TheVariants as request
+use Rattle.run_model.specs.declared.entry.Act.{Act}
 use Rattle.run_model.specs.declared.entry.Entry.{Entry}
 use Rattle.run_history.specs.Seats.{ClerkView, DeskView}
 use Rattle.run_history.specs.Ticks.{entries_of}
@@ -34,6 +35,10 @@ made_place conits client = conits + CLIENTS + client
 -- the replica's part: its stored entries
 abbrev pub part_in : LockedView → List Entry
 part_in locked = entries_of locked.stored
+
+-- the entry of an act of the replica, at the moment that follows a handed one
+abbrev pub entry_in : LockedView → ℕ → Act → Entry
+entry_in locked moment done = record { replica = locked.core.replica; moment = moment_at (part_in locked) moment; act = done }
 
 -- What the lock keeps, whenever the value behind it can be got: the replica stands for the stored entries; these are the clerk's part,
 -- and all that it has seen of its replica; what is reserved on each conit is the total of the allowances out; the calls of each client

@@ -6,15 +6,18 @@ use Rattle.tact_base.specs.declared.limits.TheConstants.{CLIENTS, CONITS_MAX, HI
 use Rattle.run_model.specs.Histories.{part_of, calls_in, is_call_of, moment_at, IsPrefix}
 use Rattle.run_model.specs.Promises.{IsKept}
 use Rattle.run_model.specs.Replies.{reply_of}
-use Rattle.run_model.specs.Runs.{IsRun}
+use Rattle.run_model.specs.Runs.{IsDue, IsRun}
 use Rattle.run_model.specs.Taking.{clock}
 use Rattle.run_model.specs.declared.call.Reply.{Reply}
 use Rattle.run_model.specs.declared.call.Request.{Request}
+use Rattle.run_model.specs.declared.entry.Act.{Act}
 use Rattle.run_model.specs.declared.entry.Act.TheVariants as act
 use Rattle.run_model.specs.declared.entry.Entry.{Entry}
+use Rattle.run_model.specs.declared.entry.Message.{Message}
 use Rattle.run_history.specs.Seats.{DeskView}
 use Rattle.weight_ledger.specs.Seen.{TallyView}
 use Rattle.replica_lock.specs.Locks.{LockedView, turns_place, made_place}
+use Rattle.replica_lock.specs.Parcels.{message_to}
 use Rattle.replica_lock.specs.declared.fault.NodeFault.{NodeFault}
 use Rattle.replica_lock.specs.declared.fault.NodeFault.TheVariants as fault
 
@@ -87,6 +90,31 @@ pub record HasCalled (setup : Setup) (before after : SessionView) (moment : ℕ)
   pub run : IsRun setup after.seen
   pub promised : IsKept setup after.seen
   pub counts : after ≡ record before { calls = before.calls + 1; made = before.made + 1; seen = after.seen }
+
+-- an act of a session's replica, as the entry that follows a front of the history
+abbrev pub entry_after : SessionView → List Entry → ℕ → Act → Entry
+entry_after session front moment done = record {
+  replica = session.replica;
+  moment = moment_at (part_of front session.replica) moment;
+  act = done;
+}
+
+-- What a session has seen after an entry was made for its client that is no call: a run that keeps its promises, begins with all that
+-- the session had seen and ends with this entry, which is due there. It has the same calls of the client.
+pub record HasMade (setup : Setup) (before after : SessionView) (moment : ℕ) (done : Act) : Type 0 where
+  pub front : List Entry
+  pub seen : after.seen ≡ front ++ entry_after before front moment done ∷ []
+  pub told : IsPrefix before.seen front
+  pub due : IsDue setup (part_of front before.replica) (entry_after before front moment done)
+  pub calls : own_calls after ≡ own_calls before
+  pub run : IsRun setup after.seen
+  pub promised : IsKept setup after.seen
+  pub counts : after ≡ record before { made = before.made + 1; seen = after.seen }
+
+-- After a message was sent to a replica: it is the one that is due there, where no firsts are given.
+pub record HasSent (setup : Setup) (before after : SessionView) (moment to : ℕ) (message : Message) : Type 0 where
+  pub made : HasMade setup before after moment (act.Send message)
+  pub message_is : message ≡ message_to setup before.replica (part_of made.front before.replica) moment to
 
 -- What a session has seen after a call that was refused: a run that begins with all that it had seen, and has the same calls of the
 -- client.

@@ -1,3 +1,4 @@
+use crate::parcel::Parcel;
 use replica_core::CoreFault;
 use run_history::Clerk;
 use tact_base::NoMemory;
@@ -60,4 +61,11 @@ impl From<NoMemory> for SessionFault {
 #[derive(Drop)]
 pub struct NewFault {
     pub clerk: Clerk,
+}
+
+/// Why a node took no parcel, which comes back.
+#[derive(Drop)]
+pub struct TakeFault {
+    pub fault: NodeFault,
+    pub parcel: Parcel,
 }

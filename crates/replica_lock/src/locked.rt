@@ -19,22 +19,23 @@ use run_history::{Clerk, Desk, Note};
 use run_model::{Act, Config, Entry, Reply, Request};
 use std::alloc::{AllocError, Global};
 use std::marker::Model;
-use tact_base::{CLIENTS, HISTORY_MAX, RoomyList, STAMP_MAX};
+use tact_base::{CLIENTS, HISTORY_MAX, Numbers, RoomyList, STAMP_MAX};
 use weight_ledger::Counted;
 
 /// The value behind a node's lock: its replica, the clerk that draws the replica's entries, the entries that were drawn
-/// with their ticks, and the totals by place that tallies outside add up.
+/// with their ticks, the totals by place that tallies outside add up, and the zeros that a sending is handed as firsts.
 #[derive(Drop)]
 pub struct Locked {
-    replica: Replica,
-    clerk: Clerk,
-    stored: RoomyList<(u64, Entry)>,
-    conits: u32,
-    totals: Vec<u64>,
+    pub(crate) replica: Replica,
+    pub(crate) clerk: Clerk,
+    pub(crate) stored: RoomyList<(u64, Entry)>,
+    pub(crate) conits: u32,
+    pub(crate) totals: Vec<u64>,
+    pub(crate) firsts: Numbers,
 }
 
 impl Model for Locked {
-    ghost use Rattle.std.specs.Prelude.{◌≡◌};
+    ghost use Rattle.std.specs.Prelude.{◌≡◌, replicate};
     ghost use Rattle.replica_lock.specs.Locks.{IsLocked, LockedView};
 
     ghost Value = { LockedView };
@@ -48,7 +49,7 @@ impl Model for Locked {
       room = l.stored.room;
     } };
 
-    ghost invariant = { λ l. IsLocked (view l) × (l.conits ≡ l.replica.core.setup.conits) };
+    ghost invariant = { λ l. IsLocked (view l) × (l.conits ≡ l.replica.core.setup.conits) × (l.firsts ≡ replicate l.replica.core.setup.replicas 0) };
 }
 
 impl Counted for Locked {
@@ -79,12 +80,16 @@ impl Locked {
         let Ok(totals) = zeros(alloc, conits as usize + 2 * CLIENTS as usize) else {
             return Err(NewFault { clerk });
         };
+        let Ok(firsts) = Numbers::filled(alloc, 0, config.replicas()) else {
+            return Err(NewFault { clerk });
+        };
         Ok(Locked {
             replica,
             clerk,
             stored: RoomyList::new(alloc),
             conits,
             totals,
+            firsts,
         })
     }
 
@@ -186,7 +191,7 @@ impl Locked {
     }
 
     // The clerk learns what a note has seen.
-    fn learn(&mut self, desk: &Desk, note: &mut Note)
+    pub(crate) fn learn(&mut self, desk: &Desk, note: &mut Note)
         requires desk { IsOfDesk desk.now self.old }
         requires note { note.old.table ≡ desk.now.table }
         ensures kept { IsLocked self.new }
@@ -201,7 +206,7 @@ impl Locked {
     }
 
     // A note sees what the clerk has seen.
-    fn tell(&mut self, desk: &Desk, note: &mut Note)
+    pub(crate) fn tell(&mut self, desk: &Desk, note: &mut Note)
         requires { self.old.clerk.table ≡ desk.now.table }
         ensures value { self.new ≡ self.old }
         ensures note { note.new ≡ record { table = desk.now.table; seen = self.old.clerk.seen } }
@@ -211,29 +216,15 @@ impl Locked {
 }
 
 impl Locked {
-    // Whether an entry may follow.
-    fn may_enter(&self) -> Result<(), NodeFault>
-        ensures ok { OnOk result (is_full self.now.core ≡ false) }
-        ensures err { OnErr result (is_full self.now.core ≡ true) }
-        ensures fault { IfErr result (IsNodeFaultOf self.now.core) }
-    {
-        let count = self.replica.count();
-        let clock = self.replica.clock();
-        if count >= HISTORY_MAX || clock >= STAMP_MAX {
-            return Err(NodeFault::Full { count, clock });
-        }
-        Ok(())
-    }
-
     // The number of its replica.
-    fn replica_number(&self) -> u32
+    pub(crate) fn replica_number(&self) -> u32
         ensures { result ≡ self.now.core.replica }
     {
         self.clerk.replica()
     }
 
     // The moment of an entry that is made now, where this one is handed.
-    fn moment_after(&self, handed: u64) -> u64
+    pub(crate) fn moment_after(&self, handed: u64) -> u64
         ensures { result ≡ moment_at (part_in self.now) handed }
     {
         handed.max(self.replica.last())
@@ -277,7 +268,7 @@ impl Locked {
         ensures fault { IfErr result (IsNodeFaultOf self.old.core) }
         ensures err { OnErr result ((self.new.core ≡ self.old.core) × (self.new.stored ≡ self.old.stored) × (self.new.totals ≡ self.old.totals) × (self.new.clerk ≡ self.old.clerk)) }
     {
-        self.may_enter()?;
+        may_enter(&self.replica)?;
         let replica = self.replica_number();
         let at = self.moment_after(moment);
         let number = self.calls_of(client);
@@ -300,8 +291,27 @@ impl Locked {
     }
 }
 
+// Whether an entry of a replica may follow.
+pub(crate) fn may_enter(replica: &Replica) -> Result<(), NodeFault>
+    ensures ok { OnOk result (is_full replica.now.core ≡ false) }
+    ensures err { OnErr result (is_full replica.now.core ≡ true) }
+    ensures fault { IfErr result (IsNodeFaultOf replica.now.core) }
+{
+    let count = replica.count();
+    let clock = replica.clock();
+    if count >= HISTORY_MAX || clock >= STAMP_MAX {
+        return Err(NodeFault::Full { count, clock });
+    }
+    Ok(())
+}
+
 // Draws an entry, and stores it with its tick.
-fn draw(clerk: &mut Clerk, stored: &mut RoomyList<(u64, Entry)>, desk: &Desk, entry: Entry)
+pub(crate) fn draw(
+    clerk: &mut Clerk,
+    stored: &mut RoomyList<(u64, Entry)>,
+    desk: &Desk,
+    entry: Entry,
+)
     requires desk { clerk.old.table ≡ desk.now.table }
     requires replica { entry.replica ≡ clerk.old.replica }
     requires drawn { clerk.old.pairs ≡ stored.old.items }
@@ -327,6 +337,16 @@ fn count_call(totals: &mut Vec<u64>, conits: u32, client: u32)
     let place = conits as usize + client as usize;
     totals[place] += 1;
     totals[place + CLIENTS as usize] += 1;
+}
+
+// Counts an entry that is no call among those made for a client.
+pub(crate) fn count_entry(totals: &mut Vec<u64>, conits: u32, client: u32)
+    requires client { client < CLIENTS }
+    requires places { length totals.old.items ≡ conits + 2 * CLIENTS }
+    requires made { slice_index totals.old.items (made_place conits client) + 1 < 2 ^ 64 }
+    ensures { totals.new.items ≡ one_more_at (made_place conits client) totals.old.items }
+{
+    totals[conits as usize + CLIENTS as usize + client as usize] += 1;
 }
 
 // The same reply, which takes no memory.

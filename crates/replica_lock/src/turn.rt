@@ -155,3 +155,23 @@ fn count(held: &mut Held<'_, Locked>, tally: &mut Tally<Label>, conits: u32, cli
     held.raise(tally, place, 1);
     held.raise(tally, place + CLIENTS, 1);
 }
+
+// Counts an entry that is no call among those made for a client, in the totals and in the tally that owns them.
+pub(crate) fn count_made(
+    held: &mut Held<'_, Locked>,
+    tally: &mut Tally<Label>,
+    conits: u32,
+    client: u32,
+)
+    requires cell { tally.old.id ≡ held.old.cell.id }
+    requires client { client < CLIENTS }
+    requires few { conits ≤ CONITS_MAX }
+    requires places { (held.old.cell.shared ≡ conits) × (held.old.cell.owned ≡ 2 * CLIENTS) }
+    requires made { (slice_index tally.old.owns (made_place conits client) ≢ 0) × (slice_index held.old.book (made_place conits client) + 1 < 2 ^ 64) }
+    ensures book { held.new ≡ record held.old { book = one_more_at (made_place conits client) held.old.book } }
+    ensures id { tally.new ≡ record tally.old { amounts = tally.new.amounts } }
+    ensures turns { slice_index tally.new.amounts (turns_place conits client) ≡ slice_index tally.old.amounts (turns_place conits client) }
+    ensures made { slice_index tally.new.amounts (made_place conits client) ≡ slice_index tally.old.amounts (made_place conits client) + 1 }
+{
+    held.raise(tally, conits + CLIENTS + client, 1);
+}

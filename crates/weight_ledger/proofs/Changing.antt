@@ -10,7 +10,7 @@ use Rattle.atomic_table.specs.Table.{State, Me, step, keeps, Allows}
 use Rattle.atomic_table.proofs.Lists.{at_set}
 use Rattle.weight_ledger.specs.declared.view.View.{View}
 use Rattle.weight_ledger.specs.Keeping.{total, one_if, amount, owner, busy, changed, Knows, Kept}
-use Rattle.weight_ledger.specs.Telling.{raised, lowered, agreed}
+use Rattle.weight_ledger.specs.Telling.{raised, lowered, agreed, bounded}
 use Rattle.weight_ledger.proofs.Sums.{term_le, terms_le, total-set, total_kept}
 use Rattle.weight_ledger.proofs.Words.{past, drop_place, lock_kept, full}
 use Rattle.weight_ledger.proofs.Locking.{one_busy, unmoved}
@@ -47,6 +47,20 @@ module _ {T L : Type 0} (label : T → L) (totals : T → List ℕ) (name : L) (
         tt,
         unmoved label totals name shared owned s id 0 v k at,
         (refl, (λ p. omega (arith, is p, term_le (amount p) s.views id v at)), (λ p m. is p ∙ k.sole p id v at m)),
+      )
+
+  -- a seat's amount at a place is within the place's word
+  pub bounds : (slots id p : ℕ) (me : Me (Option T) (View L))
+      → Allows K slots id me (p + 1) (λ n. n) (bounded (step slots (p + 1) 0 0 none) me)
+  bounds slots id p me s k len at low =
+      let v : View L = me.0 in
+      let q : (p + 1) - 1 ≡ p = omega arith in
+      let most : amount p v ≤ get_or s.words (p + 1) 0 = omega (arith, k.sums p, term_le (amount p) s.views id v at) in (
+        v,
+        keeps,
+        tt,
+        unmoved label totals name shared owned s id (p + 1) v k at,
+        (refl, subst (λ (r : ℕ). amount r v ≤ get_or s.words (p + 1) 0) (sym q) most),
       )
 
   -- the holder's book and its amount at a place change alike

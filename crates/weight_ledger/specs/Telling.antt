@@ -28,6 +28,10 @@ module _ {S L : Type 0} where
   abbrev pub lowered : Step S → Me S (View L) → ℕ → Me S (View L) → Type 0
   lowered st me found new = let p = st.word - 1 in new ≡ (changed me.0 p (slice_index me.0.book p - st.first) (amount p me.0 - st.first), me.1)
 
+  -- nothing changes; the number found is at least the seat's amount at the place
+  abbrev pub bounded : Step S → Me S (View L) → ℕ → Me S (View L) → Type 0
+  bounded st me found new = (new ≡ me) × (amount (st.word - 1) me.0 ≤ found)
+
   -- nothing changes; the book has at least the holder's amounts, and just these where it owns the place
   abbrev pub agreed : Step S → Me S (View L) → ℕ → Me S (View L) → Type 0
   agreed st me found new = (new ≡ me) × ((p : ℕ) → amount p me.0 ≤ slice_index me.0.book p)

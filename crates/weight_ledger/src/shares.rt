@@ -1,10 +1,10 @@
-ghost use Rattle.std.specs.Prelude.{◌≡◌, ◌≢◌, ℕ, ◌+◌, ◌-◌, ◌≤◌, ◌<◌, All, length, slice_index, slice_set, []};
+ghost use Rattle.std.specs.Prelude.{◌≡◌, ◌≢◌, ℕ, ◌+◌, ◌-◌, ◌^◌, ◌≤◌, ◌<◌, All, length, slice_index, slice_set, []};
 ghost use Rattle.weight_ledger.specs.Amounts.{lessened, picked, alone, joined, left_after, gone_after, IsMoved, IsLeft, IsPartOf};
 
 use crate::cell::Cell;
 use crate::counted::Counted;
 use crate::seats::taken;
-use crate::steps::{Both, Cut, Part};
+use crate::steps::{Both, Bound, Cut, Part};
 use crate::tally::Tally;
 use std::marker::Brand;
 
@@ -89,6 +89,20 @@ impl<T: Counted> Cell<T> {
         self.table
             .shared
             .join_seat::<Both>(&mut mine, badge.into_seat());
+        tally.badge = mine.into_badge();
+    }
+
+    /// Changes nothing. It tells that a tally's amount at a place is at most the greatest u64, as the place's total is.
+    pub fn bound(&self, tally: &mut Tally<T::Label>, place: u32)
+        requires cell { tally.old.id ≡ self.now.id }
+        requires place { place < self.now.shared + self.now.owned }
+        ensures tally { tally.new ≡ tally.old }
+        ensures bound { slice_index tally.old.amounts place < 2 ^ 64 }
+    {
+        let mut mine = taken(&mut tally.badge);
+        self.table
+            .shared
+            .load::<Bound>(&mut mine, place as usize + 1);
         tally.badge = mine.into_badge();
     }
 }

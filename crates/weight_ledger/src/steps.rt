@@ -76,6 +76,15 @@ impl<S, L> Play<S, View<L>> for Agree {
     ghost then = { agreed };
 }
 
+/// A seat reads the total of a place.
+pub struct Bound;
+
+impl<S, L> Play<S, View<L>> for Bound {
+    ghost use Rattle.weight_ledger.specs.Telling.{bounded};
+
+    ghost then = { bounded };
+}
+
 /// A seat takes in all that an idle one has.
 pub struct Both;
 

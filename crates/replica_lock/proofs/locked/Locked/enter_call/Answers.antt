@@ -1,4 +1,4 @@
-use Rattle.std.proofs.Common.{refl, sym, ap, ◌∙◌, subst}
+use Rattle.std.proofs.Common.{replicate, refl, sym, ap, ◌∙◌, subst}
 use Rattle.tact_base.specs.Setup.{Setup}
 use Rattle.run_model.specs.Histories.{calls_in, moment_at}
 use Rattle.replica_lock.specs.Locks.{HasEntered, LockedView, part_in, made_place, turns_place, one_more_at}
@@ -44,6 +44,7 @@ invariant_of-self-2 c =
     let totals = c.count_call.ensures ∙ ap (λ n. one_more_at (made_place n c.args.client) (one_more_at (turns_place n c.args.client) c.self.inside.totals.items)) c.self.invariant.1 in (
       IsLocked-call _ _ _ c.args.client _ c.self.invariant.0 c.requires.client c.in_ok-reply.ensures.same c.draw.ensures.drawn c.draw.ensures.stored (quiet-call _ _ _ _ c.requires.plain) stands totals,
       c.self.invariant.1 ∙ sym (ap (λ (s : Setup). s.conits) c.in_ok-reply.ensures.same.0),
+      c.self.invariant.2 ∙ sym (ap (λ (s : Setup). replicate s.replicas 0) c.in_ok-reply.ensures.same.0),
     )
 
 pub returns-clause-kept : goal.returns-clause-kept

@@ -1,4 +1,4 @@
-use Rattle.std.proofs.Common.{◌+◌, ◌*◌, sym, ap, ◌∙◌}
+use Rattle.std.proofs.Common.{◌+◌, ◌*◌, replicate, sym, ap, ◌∙◌}
 use Rattle.tact_base.specs.Setup.{Setup}
 use Rattle.tact_base.specs.declared.limits.TheConstants.{CLIENTS}
 use Rattle.weight_ledger.specs.Amounts.{zeros}
@@ -11,4 +11,5 @@ invariant_of-result c =
       IsLocked-new _ (sym (c.in-Ok.ensures.setup.1 ∙ c.replica-number.ensures.replica)) c.in-Ok.ensures.stands c.requires.drawn c.new-2.ensures c.replica-number.ensures.own
           (c.in-Ok-zeros.ensures ∙ ap (λ n. zeros (n + 2 * CLIENTS)) conits),
       conits,
+      c.in-Ok-filled.ensures ∙ ap (λ n. replicate n 0) (c.replicas.ensures.count ∙ ap (λ (s : Setup). s.replicas) (sym c.in-Ok.ensures.setup.0)),
     )

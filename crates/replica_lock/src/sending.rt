@@ -1,0 +1,236 @@
+//! What a node sends.
+ghost use Rattle.std.specs.Prelude.{◌≡◌, ◌≢◌, ◌<◌, ◌≤◌, ◌+◌, ◌^◌, slice_index, ◌↔◌, IsTrue, IfOk, IfErr, OnErr, OnOk};
+ghost use Rattle.tact_base.specs.Setup.{IsSetup};
+ghost use Rattle.tact_base.specs.declared.limits.TheConstants.{CLIENTS, MOMENT_MAX};
+ghost use Rattle.run_model.specs.Histories.{IsPrefix};
+ghost use Rattle.run_model.specs.Runs.{IsDue, IsRun};
+ghost use Rattle.run_model.specs.declared.entry.Act.TheVariants as act;
+ghost use Rattle.anti_entropy.specs.Counts.{IsBehind};
+ghost use Rattle.replica_lock.specs.Faults.{IsNodeFaultOf};
+ghost use Rattle.run_history.specs.Ticks.{entries_of};
+ghost use Rattle.replica_lock.specs.Locks.{HasDrawn, HasEntered, IsLocked, IsOfDesk, entry_in, made_place, one_more_at, part_in};
+ghost use Rattle.replica_lock.specs.Parcels.{message_to};
+ghost use Rattle.replica_lock.specs.Sessions.{HasHeard, HasSent, IsFaultSeen, IsSessionOf};
+
+use crate::NodeFault;
+use crate::locked::{Locked, count_entry, draw, may_enter};
+use crate::node::Node;
+use crate::parcel::Parcel;
+use crate::session::Session;
+use crate::turn::{Turn, count_made};
+use run_history::{Clerk, Desk, Note};
+use run_model::{Act, Entry, Message};
+use std::sync::Wait;
+use tact_base::RoomyList;
+use tact_io::Gate;
+
+impl<'d, G: Gate> Node<'d, G> {
+    /// Sends a message to another replica, in a turn of its own: by origin its writes begin past those that the other is known
+    /// to have. The moment of the entry is the greater of the handed one and that of the replica's last entry.
+    pub fn send<R: Wait>(
+        &self,
+        rt: &R,
+        session: &mut Session,
+        moment: u64,
+        to: u32,
+    ) -> Result<Parcel, NodeFault>
+        requires session { IsSessionOf self.now session.old }
+        requires moment { moment ≤ MOMENT_MAX }
+        requires to { to < self.now.desk.setup.replicas }
+        requires other { to ≢ self.now.replica }
+        ensures sent { IfOk result (λ parcel. HasSent self.now.desk.setup session.old session.new moment to parcel.message) }
+        ensures parcel { IfOk result (λ parcel. (parcel.desk ≡ self.now.desk.table) × (parcel.seen ≡ session.new.seen)) }
+        ensures refused { OnErr result (HasHeard self.now.desk.setup session.old session.new) }
+        ensures fault { IfErr result (IsFaultSeen session.new) }
+    {
+        let mut turn = self.turn(rt);
+        let answer = turn.send(session, moment, to);
+        turn.end();
+        answer
+    }
+}
+
+impl<'n, 'd, G: Gate> Turn<'n, 'd, G> {
+    /// Whether a message to a replica is due: of some other origin it has more writes than it knows that replica to have.
+    /// It makes no entry and takes no memory.
+    pub fn due(&self, to: u32) -> bool
+        requires { to < self.now.node.desk.setup.replicas }
+        ensures { IsTrue result ↔ IsBehind self.now.state.core.setup self.now.state.core.replica (part_in self.now.state) to }
+    {
+        self.locked.due(to)
+    }
+
+    /// Sends a message to another replica, as `Replica::send` does where no firsts are given; draws the entry and stores it.
+    /// The parcel carries the same message.
+    pub fn send(&mut self, session: &mut Session, moment: u64, to: u32) -> Result<Parcel, NodeFault>
+        requires session { IsSessionOf self.old.node session.old }
+        requires moment { moment ≤ MOMENT_MAX }
+        requires to { to < self.old.node.desk.setup.replicas }
+        requires other { to ≢ self.old.node.replica }
+        ensures node { self.new.node ≡ self.old.node }
+        ensures kept { IsLocked self.new.state }
+        ensures entered { IfOk result (λ parcel. HasEntered self.old.state self.new.state session.old.seen (entry_in self.old.state moment (act.Send parcel.message))) }
+        ensures message { IfOk result (λ parcel.
+            parcel.message ≡ message_to self.old.state.core.setup self.old.state.core.replica (part_in self.old.state) moment to) }
+        ensures parcel { IfOk result (λ parcel. (parcel.desk ≡ self.old.node.desk.table) × (parcel.seen ≡ session.new.seen)) }
+        ensures totals { OnOk result (self.new.state.totals ≡ one_more_at (made_place session.old.conits session.old.client) self.old.state.totals) }
+        ensures seen { session.new.seen ≡ self.new.state.clerk.seen }
+        ensures sent { IfOk result (λ parcel. HasSent self.old.node.desk.setup session.old session.new moment to parcel.message) }
+        ensures refused { OnErr result (HasHeard self.old.node.desk.setup session.old session.new) }
+        ensures spare { self.new.state.spare ≡ self.old.state.spare }
+        ensures room { self.old.state.room ≤ self.new.state.room + 1 }
+        ensures fault { IfErr result (IsNodeFaultOf self.old.state.core) }
+        ensures fault_seen { IfErr result (IsFaultSeen session.new) }
+        ensures err { OnErr result ((self.new.state.core ≡ self.old.state.core) × (self.new.state.stored ≡ self.old.state.stored) × (self.new.state.totals ≡ self.old.state.totals)) }
+    {
+        let node = self.node;
+        self.locked.stand();
+        self.held.agree(&mut session.tally);
+        let answer = self
+            .locked
+            .send(node.desk, &mut session.note, moment, session.client, to);
+        match answer {
+            Ok(parcel) => {
+                count_made(
+                    &mut self.held,
+                    &mut session.tally,
+                    session.conits,
+                    session.client,
+                );
+                session.made += 1;
+                Ok(parcel)
+            }
+            Err(fault) => Err(fault),
+        }
+    }
+}
+
+impl Locked {
+    /// Whether a message to a replica is due.
+    pub fn due(&self, to: u32) -> bool
+        requires sound { IsSetup self.now.core.setup }
+        requires to { to < self.now.core.setup.replicas }
+        ensures { IsTrue result ↔ IsBehind self.now.core.setup self.now.core.replica (part_in self.now) to }
+    {
+        for origin in 0..self.replicas() {
+            if origin != to && self.replica.known(to, origin) < self.replica.have(origin) {
+                return true;
+            }
+        }
+        false
+    }
+
+    // How many replicas there are.
+    pub(crate) fn replicas(&self) -> u32
+        requires { IsSetup self.now.core.setup }
+        ensures { result ≡ self.now.core.setup.replicas }
+    {
+        self.firsts.len() as u32
+    }
+
+    /// Sends a message to another replica, for a session that has seen what a note has. The clerk learns the note; where it isn't
+    /// refused the sending is drawn and stored; then the note sees what the clerk has seen, and so has the parcel.
+    pub fn send(
+        &mut self,
+        desk: &Desk,
+        note: &mut Note,
+        moment: u64,
+        client: u32,
+        to: u32,
+    ) -> Result<Parcel, NodeFault>
+        requires desk { IsOfDesk desk.now self.old }
+        requires note { note.old.table ≡ desk.now.table }
+        requires moment { moment ≤ MOMENT_MAX }
+        requires client { client < CLIENTS }
+        requires to { to < self.old.core.setup.replicas }
+        requires other { to ≢ self.old.core.replica }
+        ensures kept { IsLocked self.new }
+        ensures label { (self.new.core.setup ≡ self.old.core.setup) × (self.new.core.replica ≡ self.old.core.replica) × (self.new.clerk.table ≡ self.old.clerk.table) }
+        ensures note { (note.new.table ≡ note.old.table) × (note.new.seen ≡ self.new.clerk.seen) }
+        ensures run { IsRun desk.now.setup note.new.seen }
+        ensures entered { IfOk result (λ parcel. HasEntered self.old self.new note.old.seen (entry_in self.old moment (act.Send parcel.message))) }
+        ensures message { IfOk result (λ parcel. parcel.message ≡ message_to self.old.core.setup self.old.core.replica (part_in self.old) moment to) }
+        ensures parcel { IfOk result (λ parcel. (parcel.desk ≡ desk.now.table) × (parcel.seen ≡ note.new.seen)) }
+        ensures rooms { OnOk result (slice_index self.old.totals (made_place self.old.core.setup.conits client) + 1 < 2 ^ 64) }
+        ensures totals { OnOk result (self.new.totals ≡ one_more_at (made_place self.old.core.setup.conits client) self.old.totals) }
+        ensures spare { self.new.spare ≡ self.old.spare }
+        ensures room { self.old.room ≤ self.new.room + 1 }
+        ensures fault { IfErr result (IsNodeFaultOf self.old.core) }
+        ensures err { OnErr result ((self.new.core ≡ self.old.core) × (self.new.stored ≡ self.old.stored) × (self.new.totals ≡ self.old.totals)) }
+        ensures learnt { IsPrefix self.old.clerk.seen note.new.seen × IsPrefix note.old.seen note.new.seen }
+    {
+        self.learn(desk, note);
+        let answer = self.enter_send(desk, moment, client, to);
+        self.tell(desk, note);
+        answer
+    }
+
+    // Sends a message to another replica. The second of it, which the parcel carries, is made before anything changes.
+    fn enter_send(
+        &mut self,
+        desk: &Desk,
+        moment: u64,
+        client: u32,
+        to: u32,
+    ) -> Result<Parcel, NodeFault>
+        requires desk { IsOfDesk desk.now self.old }
+        requires moment { moment ≤ MOMENT_MAX }
+        requires client { client < CLIENTS }
+        requires to { to < self.old.core.setup.replicas }
+        requires other { to ≢ self.old.core.replica }
+        ensures kept { IsLocked self.new }
+        ensures label { (self.new.core.setup ≡ self.old.core.setup) × (self.new.core.replica ≡ self.old.core.replica) × (self.new.clerk.table ≡ self.old.clerk.table) }
+        ensures entered { IfOk result (λ parcel. HasEntered self.old self.new self.old.clerk.seen (entry_in self.old moment (act.Send parcel.message))) }
+        ensures message { IfOk result (λ parcel. parcel.message ≡ message_to self.old.core.setup self.old.core.replica (part_in self.old) moment to) }
+        ensures parcel { IfOk result (λ parcel. (parcel.desk ≡ desk.now.table) × (parcel.seen ≡ self.new.clerk.seen)) }
+        ensures rooms { OnOk result (slice_index self.old.totals (made_place self.old.core.setup.conits client) + 1 < 2 ^ 64) }
+        ensures totals { OnOk result (self.new.totals ≡ one_more_at (made_place self.old.core.setup.conits client) self.old.totals) }
+        ensures grows { IsPrefix self.old.clerk.seen self.new.clerk.seen }
+        ensures run { IsRun desk.now.setup self.old.clerk.seen → IsRun desk.now.setup self.new.clerk.seen }
+        ensures spare { self.new.spare ≡ self.old.spare }
+        ensures room { self.old.room ≤ self.new.room + 1 }
+        ensures fault { IfErr result (IsNodeFaultOf self.old.core) }
+        ensures err { OnErr result ((self.new.core ≡ self.old.core) × (self.new.stored ≡ self.old.stored) × (self.new.totals ≡ self.old.totals) × (self.new.clerk ≡ self.old.clerk)) }
+    {
+        may_enter(&self.replica)?;
+        let replica = self.replica_number();
+        let at = self.moment_after(moment);
+        let carried = self.replica.message(moment, to, &self.firsts)?;
+        self.stored.reserve(1)?;
+        let message = self.replica.send(moment, to, &self.firsts)?;
+        let entry = Entry {
+            replica,
+            moment: at,
+            act: Act::Send { message },
+        };
+        let parcel = draw_sending(&mut self.clerk, &mut self.stored, desk, entry, carried);
+        count_entry(&mut self.totals, self.conits, client);
+        Ok(parcel)
+    }
+}
+
+// Draws the entry of a sending and stores it, and gives a parcel with its message.
+fn draw_sending(
+    clerk: &mut Clerk,
+    stored: &mut RoomyList<(u64, Entry)>,
+    desk: &Desk,
+    entry: Entry,
+    message: Message,
+) -> Parcel
+    requires desk { clerk.old.table ≡ desk.now.table }
+    requires replica { entry.replica ≡ clerk.old.replica }
+    requires drawn { clerk.old.pairs ≡ stored.old.items }
+    requires due { IsDue desk.now.setup (entries_of stored.old.items) entry }
+    requires sends { entry.act ≡ act.Send message }
+    requires room { 0 < stored.old.room }
+    ensures drawn { HasDrawn desk.now.setup clerk.old clerk.new entry }
+    ensures stored { stored.new.items ≡ clerk.new.pairs }
+    ensures room { stored.old.room ≤ stored.new.room + 1 }
+    ensures parcel { result ≡ record { message = message; desk = desk.now.table; seen = clerk.new.seen } }
+{
+    draw(clerk, stored, desk, entry);
+    Parcel {
+        message,
+        note: clerk.note(desk),
+    }
+}

@@ -1,0 +1,245 @@
+//! What a node takes.
+ghost use Rattle.std.specs.Prelude.{◌≡◌, ◌<◌, ◌≤◌, ◌+◌, ◌^◌, slice_index, false, ◌↔◌, IsTrue, IfErr, OnErr, OnOk};
+ghost use Rattle.tact_base.specs.Setup.{IsSetup};
+ghost use Rattle.tact_base.specs.declared.limits.TheConstants.{CLIENTS, MOMENT_MAX};
+ghost use Rattle.run_model.specs.Histories.{IsPrefix};
+ghost use Rattle.run_model.specs.Runs.{IsRun};
+ghost use Rattle.run_model.specs.Taking.{told_have};
+ghost use Rattle.run_model.specs.declared.entry.Act.TheVariants as act;
+ghost use Rattle.replica_core.specs.Stands.{GoesOn, IsSameReplica};
+ghost use Rattle.replica_core.specs.States.{is_full};
+ghost use Rattle.replica_core.specs.Taking.{FitsAt};
+ghost use Rattle.replica_lock.specs.Faults.{IsNodeFaultOf};
+ghost use Rattle.replica_lock.specs.Locks.{HasEntered, IsLocked, IsOfDesk, entry_in, made_place, one_more_at, part_in};
+ghost use Rattle.replica_lock.specs.Parcels.{HasSending, IsAnswerDue};
+ghost use Rattle.replica_lock.specs.Sessions.{HasHeard, HasMade, IsFaultSeen, IsSessionOf};
+
+use crate::locked::{Locked, count_entry, draw, may_enter};
+use crate::node::Node;
+use crate::parcel::Parcel;
+use crate::session::Session;
+use crate::turn::{Turn, count_made};
+use crate::{NodeFault, TakeFault};
+use replica_core::Replica;
+use run_history::{Desk, Note};
+use run_model::{Act, Entry, Message};
+use std::sync::Wait;
+use tact_base::RoomyList;
+use tact_io::Gate;
+
+impl<'d, G: Gate> Node<'d, G> {
+    /// Takes a parcel that is addressed to its replica, in a turn of its own. The moment of the entry is the greater of the
+    /// handed one and that of the replica's last entry. A refusal gives the parcel back, with the same message.
+    pub fn take<R: Wait>(
+        &self,
+        rt: &R,
+        session: &mut Session,
+        moment: u64,
+        parcel: Parcel,
+    ) -> Result<(), TakeFault>
+        requires session { IsSessionOf self.now session.old }
+        requires moment { moment ≤ MOMENT_MAX }
+        requires desk { parcel.desk ≡ self.now.desk.table }
+        requires addressed { parcel.message.to ≡ self.now.replica }
+        ensures taken { OnOk result (HasMade self.now.desk.setup session.old session.new moment (act.Take parcel.message)) }
+        ensures told { IsPrefix parcel.seen session.new.seen }
+        ensures refused { OnErr result (HasHeard self.now.desk.setup session.old session.new) }
+        ensures fault { IfErr result (λ refused. IsFaultSeen session.new refused.fault) }
+        ensures back { IfErr result (λ refused. refused.parcel ≡ parcel) }
+    {
+        let mut turn = self.turn(rt);
+        let answer = turn.take(session, moment, parcel);
+        turn.end();
+        answer
+    }
+}
+
+impl<'n, 'd, G: Gate> Turn<'n, 'd, G> {
+    /// Whether a message is to be answered by one to its sender: it has writes, or of some origin the replica has more than
+    /// it tells of. It makes no entry and takes no memory.
+    pub fn answer_due(&self, message: &Message) -> bool
+        ensures { IsTrue result ↔ IsAnswerDue self.now.state.core.setup self.now.state.core.replica (part_in self.now.state) message.now }
+    {
+        self.locked.answer_due(message)
+    }
+
+    /// Takes a parcel that is addressed to its replica, as `Replica::take` does its message, which fits since it was sent;
+    /// draws the entry and stores it. A refusal gives the parcel back, with the same message.
+    pub fn take(
+        &mut self,
+        session: &mut Session,
+        moment: u64,
+        parcel: Parcel,
+    ) -> Result<(), TakeFault>
+        requires session { IsSessionOf self.old.node session.old }
+        requires moment { moment ≤ MOMENT_MAX }
+        requires desk { parcel.desk ≡ self.old.node.desk.table }
+        requires addressed { parcel.message.to ≡ self.old.node.replica }
+        ensures node { self.new.node ≡ self.old.node }
+        ensures kept { IsLocked self.new.state }
+        ensures entered { OnOk result (HasEntered self.old.state self.new.state session.old.seen (entry_in self.old.state moment (act.Take parcel.message))) }
+        ensures totals { OnOk result (self.new.state.totals ≡ one_more_at (made_place session.old.conits session.old.client) self.old.state.totals) }
+        ensures seen { session.new.seen ≡ self.new.state.clerk.seen }
+        ensures taken { OnOk result (HasMade self.old.node.desk.setup session.old session.new moment (act.Take parcel.message)) }
+        ensures told { IsPrefix parcel.seen session.new.seen }
+        ensures refused { OnErr result (HasHeard self.old.node.desk.setup session.old session.new) }
+        ensures spare { self.new.state.spare ≡ self.old.state.spare }
+        ensures room { self.old.state.room ≤ self.new.state.room + 1 }
+        ensures fault { IfErr result (λ refused. IsNodeFaultOf self.old.state.core refused.fault) }
+        ensures fault_seen { IfErr result (λ refused. IsFaultSeen session.new refused.fault) }
+        ensures back { IfErr result (λ refused. refused.parcel ≡ parcel) }
+        ensures err { OnErr result ((self.new.state.core ≡ self.old.state.core) × (self.new.state.stored ≡ self.old.state.stored) × (self.new.state.totals ≡ self.old.state.totals)) }
+    {
+        let node = self.node;
+        self.locked.stand();
+        self.held.agree(&mut session.tally);
+        let answer = self.locked.take(node.desk, &mut session.note, moment, session.client, parcel);
+        match answer {
+            Ok(()) => {
+                count_made(
+                    &mut self.held,
+                    &mut session.tally,
+                    session.conits,
+                    session.client,
+                );
+                session.made += 1;
+                Ok(())
+            }
+            Err(fault) => Err(fault),
+        }
+    }
+}
+
+impl Locked {
+    /// Whether a message is to be answered.
+    pub fn answer_due(&self, message: &Message) -> bool
+        requires { IsSetup self.now.core.setup }
+        ensures { IsTrue result ↔ IsAnswerDue self.now.core.setup self.now.core.replica (part_in self.now) message.now }
+    {
+        if !message.writes.is_empty() {
+            return true;
+        }
+        for origin in 0..self.replicas() {
+            if told_count(message, origin) < self.replica.have(origin) {
+                return true;
+            }
+        }
+        false
+    }
+
+    /// Takes a parcel that is addressed to its replica, for a session that has seen what a note has. The clerk learns that note
+    /// and the parcel's; where it isn't refused the taking is drawn and stored; then the note sees what the clerk has seen.
+    pub fn take(
+        &mut self,
+        desk: &Desk,
+        note: &mut Note,
+        moment: u64,
+        client: u32,
+        mut parcel: Parcel,
+    ) -> Result<(), TakeFault>
+        requires desk { IsOfDesk desk.now self.old }
+        requires note { note.old.table ≡ desk.now.table }
+        requires moment { moment ≤ MOMENT_MAX }
+        requires client { client < CLIENTS }
+        requires parcel { parcel.desk ≡ desk.now.table }
+        requires addressed { parcel.message.to ≡ self.old.core.replica }
+        ensures kept { IsLocked self.new }
+        ensures label { (self.new.core.setup ≡ self.old.core.setup) × (self.new.core.replica ≡ self.old.core.replica) × (self.new.clerk.table ≡ self.old.clerk.table) }
+        ensures note { (note.new.table ≡ note.old.table) × (note.new.seen ≡ self.new.clerk.seen) }
+        ensures run { IsRun desk.now.setup note.new.seen }
+        ensures entered { OnOk result (HasEntered self.old self.new note.old.seen (entry_in self.old moment (act.Take parcel.message))) }
+        ensures rooms { OnOk result (slice_index self.old.totals (made_place self.old.core.setup.conits client) + 1 < 2 ^ 64) }
+        ensures totals { OnOk result (self.new.totals ≡ one_more_at (made_place self.old.core.setup.conits client) self.old.totals) }
+        ensures spare { self.new.spare ≡ self.old.spare }
+        ensures room { self.old.room ≤ self.new.room + 1 }
+        ensures fault { IfErr result (λ refused. IsNodeFaultOf self.old.core refused.fault) }
+        ensures back { IfErr result (λ refused. refused.parcel ≡ parcel) }
+        ensures err { OnErr result ((self.new.core ≡ self.old.core) × (self.new.stored ≡ self.old.stored) × (self.new.totals ≡ self.old.totals)) }
+        ensures learnt { IsPrefix self.old.clerk.seen note.new.seen × IsPrefix note.old.seen note.new.seen × IsPrefix parcel.seen note.new.seen }
+    {
+        self.learn(desk, note);
+        self.learn(desk, &mut parcel.note);
+        let answer = self.enter_take(desk, moment, client, parcel);
+        self.tell(desk, note);
+        answer
+    }
+
+    // Takes a parcel whose message the clerk has seen sent to its replica.
+    fn enter_take(
+        &mut self,
+        desk: &Desk,
+        moment: u64,
+        client: u32,
+        parcel: Parcel,
+    ) -> Result<(), TakeFault>
+        requires desk { IsOfDesk desk.now self.old }
+        requires moment { moment ≤ MOMENT_MAX }
+        requires client { client < CLIENTS }
+        requires addressed { parcel.message.to ≡ self.old.core.replica }
+        requires sent { HasSending self.old.clerk.seen parcel.message }
+        requires run { IsRun desk.now.setup self.old.clerk.seen }
+        ensures kept { IsLocked self.new }
+        ensures label { (self.new.core.setup ≡ self.old.core.setup) × (self.new.core.replica ≡ self.old.core.replica) × (self.new.clerk.table ≡ self.old.clerk.table) }
+        ensures entered { OnOk result (HasEntered self.old self.new self.old.clerk.seen (entry_in self.old moment (act.Take parcel.message))) }
+        ensures rooms { OnOk result (slice_index self.old.totals (made_place self.old.core.setup.conits client) + 1 < 2 ^ 64) }
+        ensures totals { OnOk result (self.new.totals ≡ one_more_at (made_place self.old.core.setup.conits client) self.old.totals) }
+        ensures grows { IsPrefix self.old.clerk.seen self.new.clerk.seen }
+        ensures run { IsRun desk.now.setup self.new.clerk.seen }
+        ensures spare { self.new.spare ≡ self.old.spare }
+        ensures room { self.old.room ≤ self.new.room + 1 }
+        ensures fault { IfErr result (λ refused. IsNodeFaultOf self.old.core refused.fault) }
+        ensures back { IfErr result (λ refused. refused.parcel ≡ parcel) }
+        ensures err { OnErr result ((self.new.core ≡ self.old.core) × (self.new.stored ≡ self.old.stored) × (self.new.totals ≡ self.old.totals) × (self.new.clerk ≡ self.old.clerk)) }
+    {
+        let replica = self.replica_number();
+        let at = self.moment_after(moment);
+        match take_in(&mut self.replica, &mut self.stored, moment, &parcel.message) {
+            Ok(()) => {
+                let Parcel { message, note: _ } = parcel;
+                let entry = Entry {
+                    replica,
+                    moment: at,
+                    act: Act::Take { message },
+                };
+                draw(&mut self.clerk, &mut self.stored, desk, entry);
+                count_entry(&mut self.totals, self.conits, client);
+                Ok(())
+            }
+            Err(fault) => Err(TakeFault { fault, parcel }),
+        }
+    }
+}
+
+// How many writes of an origin a message tells its sender to have, 0 where it tells nothing.
+fn told_count(message: &Message, origin: u32) -> u64
+    ensures { result ≡ told_have message.now origin }
+{
+    match message.haves.items().get(origin as usize) {
+        Some(have) => *have,
+        None => 0,
+    }
+}
+
+// The replica takes a message, once there is room to store the entry.
+fn take_in(
+    replica: &mut Replica,
+    stored: &mut RoomyList<(u64, Entry)>,
+    moment: u64,
+    message: &Message,
+) -> Result<(), NodeFault>
+    requires moment { moment ≤ MOMENT_MAX }
+    requires fits { is_full replica.old.core ≡ false → FitsAt replica.old.core message.now }
+    ensures goes_on { OnOk result (GoesOn replica.old.core replica.new.core moment (λ part. act.Take message.now)) }
+    ensures same { IsSameReplica replica.old.core replica.new.core }
+    ensures spare { replica.new.spare ≡ replica.old.spare }
+    ensures stored { stored.new.items ≡ stored.old.items }
+    ensures room { stored.old.room ≤ stored.new.room }
+    ensures enough { OnOk result (0 < stored.new.room) }
+    ensures fault { IfErr result (IsNodeFaultOf replica.old.core) }
+    ensures err { OnErr result (replica.new ≡ replica.old) }
+{
+    may_enter(replica)?;
+    stored.reserve(1)?;
+    replica.take(moment, message)?;
+    Ok(())
+}
