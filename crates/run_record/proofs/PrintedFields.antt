@@ -21,7 +21,8 @@ use Rattle.run_record.specs.Splitting.{with_front}
 use Rattle.run_record.specs.Fields.{Tokens, Field, token_at, number_at, count_at, signed_at, other_replica_at, put_at, add_at, shift_at, op_at}
 use Rattle.run_record.specs.Lists.{parts_of, three_of, four_of, weight_by, weight_of, need_by, need_of, weight_at, need_at, is_end, list_at, weights_at, needs_at, numbers_at}
 use Rattle.run_record.specs.CallTokens.{any_signed_at, is_wide, sums_at}
-use Rattle.run_record.proofs.PrintedTokens.{Lacks, decimal_lacks_colon, signed_lacks_colon, signed_of-decimal, whole_number-decimal, whole_signed-decimal}
+use Rattle.run_record.specs.Fronts.{Lacks}
+use Rattle.run_record.proofs.PrintedTokens.{decimal_lacks_colon, signed_lacks_colon, signed_of-decimal, whole_number-decimal, whole_signed-decimal}
 use Rattle.run_record.proofs.Rising.{AreRising, IsItem, kept_rises}
 
 -- ---- numbers

@@ -12,6 +12,7 @@ use Rattle.std.proofs.lemmas.List.Sums.{fold_push}
 use Rattle.tact_base.specs.Numbers.{decimal_value, number_of, signed_of, whole_number, whole_signed}
 use Rattle.run_model.specs.Text.{line_text}
 use Rattle.run_record.specs.Splitting.{has_bytes, pieces_of, tokens, with_front}
+use Rattle.run_record.specs.Fronts.{Lacks}
 use Rattle.run_record.specs.Lines.{fault_of_bytes, is_bad_byte}
 
 -- ---- bytes
@@ -45,11 +46,6 @@ good_shown (x ∷ xs) g = ((omega (arith, g.0.0), g.0.1), good_shown xs g.1)
 shown_append : (xs ys : List ℕ) → AreShown xs → AreShown ys → AreShown (xs ++ ys)
 shown_append [] ys gx gy = gy
 shown_append (x ∷ xs) ys gx gy = (gx.0, shown_append xs ys gx.1 gy)
-
--- without a separator
-abbrev pub Lacks : ℕ → List ℕ → Type 0
-Lacks s [] = Unit {0}
-Lacks s (b ∷ bs) = ((b == s) ≡ false) × Lacks s bs
 
 is_not : (b s : ℕ) → s < b → (b == s) ≡ false
 is_not b s lt = grind (arith, nat_tests)

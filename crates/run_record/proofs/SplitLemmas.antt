@@ -1,5 +1,7 @@
 -- A text's first piece, and the pieces after it.
 use Rattle.std.proofs.Common.{◌≡◌, ◌≢◌, ℕ, zero, suc, ◌+◌, ◌<◌, ◌≤◌, true, false, eqb, List, [], ◌∷◌, length, get_or, take, drop, refl, ap, arith, eq-eqb}
+use Rattle.std.proofs.lemmas.List.{take_all, drop_all}
+use Rattle.memchr.specs.Find.{NoneBefore, Nowhere, Passes, is_byte}
 use Rattle.std.proofs.lemmas.Bool.Decides.{nat_tests}
 use Rattle.run_record.specs.Splitting.{with_front, pieces_of, tokens}
 
@@ -24,6 +26,24 @@ first_piece s (b ∷ c ∷ cs) (suc k) some within before here =
     let more : suc k + 1 ≡ suc (k + 1) = omega arith in
     let rest : pieces_of s (c ∷ cs) ≡ take k (c ∷ cs) ∷ pieces_of s (drop (k + 1) (c ∷ cs)) = first_piece s (c ∷ cs) k (omega arith) (omega arith) (λ j lt. before (suc j) (omega arith)) (λ lt. here (omega arith)) in
     rw (e, more) (ap (with_front b) rest)
+
+-- the first line, which ends where a line feed was found first, and the only one, where none was
+pub first_line : (bs : List ℕ) (k : ℕ)
+    → 0 < length bs
+    → NoneBefore (Passes (is_byte 10) bs) 0 (length bs) k
+    → Passes (is_byte 10) bs k
+    → pieces_of 10 bs ≡ take k bs ∷ pieces_of 10 (drop (k + 1) bs)
+first_line bs k some none here =
+    first_piece 10 bs k some (omega (arith, none.high)) (λ j lt same. none.before j (omega arith) lt (eq-eqb (get_or bs j 0) 10 same)) (λ lt. let found : eqb (get_or bs k 0) 10 ≡ true = here in grind (arith, nat_tests))
+
+pub only_line : (bs : List ℕ)
+    → 0 < length bs
+    → Nowhere (Passes (is_byte 10) bs) 0 (length bs)
+    → pieces_of 10 bs ≡ bs ∷ []
+only_line bs some none =
+    let all : take (length bs) bs ≡ bs = take_all (length bs) bs (omega arith) in
+    let over : drop (length bs + 1) bs ≡ [] = drop_all (length bs + 1) bs (omega arith) in
+    rw (all, over) at (first_piece 10 bs (length bs) some (omega arith) (λ j lt same. none j (omega arith) lt (eq-eqb (get_or bs j 0) 10 same)) (λ lt. absurd (omega arith)))
 
 -- an empty first piece is no token
 pub tokens_empty : (bs t after : List ℕ)

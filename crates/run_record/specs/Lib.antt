@@ -12,3 +12,4 @@ pub mod EntryWords
 pub mod CallTokens
 pub mod ActTokens
 pub mod RecordLines
+pub mod Fronts

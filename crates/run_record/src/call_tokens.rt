@@ -8,6 +8,7 @@ ghost use Rattle.run_record.specs.CallTokens.{any_number_at, name_at, whole_wide
 
 use crate::entry_words::{RequestWord, request_word};
 use crate::fields::{number_at, op_at, token_at};
+use crate::fronts::wide_in_front;
 use crate::line_fault::LineFault;
 use crate::lists::{ListEnd, needs_at, weight_at, weights_at};
 use run_model::{LineKind, Request};
@@ -29,8 +30,8 @@ pub(crate) fn name_at(rest: &[u8]) -> Result<(u32, &[u8]), LineFault>
     Ok((number as u32, rest))
 }
 
-// The number with a minus before it.
-fn negated(size: u64) -> i64
+/// The number with a minus before it.
+pub(crate) fn negated(size: u64) -> i64
     requires { size ≤ 2 ^ 63 }
     ensures { result ≡ neg_ℤ (pos size) }
 {
@@ -63,6 +64,9 @@ fn wide_of(token: &[u8]) -> Result<i64, LineFault>
 pub(crate) fn any_signed_at(rest: &[u8]) -> Result<(i64, &[u8]), LineFault>
     ensures { Gives (λ x. (x.0, tokens x.1.now)) result (any_signed_at (tokens rest.now)) }
 {
+    if let Some((number, after)) = wide_in_front(rest) {
+        return Ok((number, after));
+    }
     let (token, rest) = token_at(rest)?;
     let number = wide_of(token)?;
     Ok((number, rest))

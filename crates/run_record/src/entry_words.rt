@@ -39,6 +39,7 @@ pub(crate) enum ReplyWord {
     NotHeld,
 }
 
+// Each table has the frequent words first.
 const ACT_WORDS: [(&[u8], ActWord); 6] = [
     (b"call", ActWord::Call),
     (b"send", ActWord::Send),
@@ -50,23 +51,23 @@ const ACT_WORDS: [(&[u8], ActWord); 6] = [
 
 const REQUEST_WORDS: [(&[u8], RequestWord); 5] = [
     (b"write", RequestWord::Write),
+    (b"read", RequestWord::Read),
     (b"held", RequestWord::Held),
     (b"reserve", RequestWord::Reserve),
     (b"release", RequestWord::Release),
-    (b"read", RequestWord::Read),
 ];
 
 const REPLY_WORDS: [(&[u8], ReplyWord); 11] = [
     (b"done", ReplyWord::Done),
-    (b"granted", ReplyWord::Granted),
-    (b"released", ReplyWord::Released),
     (b"value", ReplyWord::Value),
-    (b"too-heavy", ReplyWord::TooHeavy),
-    (b"wait-held", ReplyWord::WaitHeld),
     (b"wait-share", ReplyWord::WaitShare),
     (b"wait-lent", ReplyWord::WaitLent),
     (b"wait-order", ReplyWord::WaitOrder),
     (b"wait-stale", ReplyWord::WaitStale),
+    (b"granted", ReplyWord::Granted),
+    (b"released", ReplyWord::Released),
+    (b"too-heavy", ReplyWord::TooHeavy),
+    (b"wait-held", ReplyWord::WaitHeld),
     (b"not-held", ReplyWord::NotHeld),
 ];
 

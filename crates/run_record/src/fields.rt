@@ -7,6 +7,7 @@ ghost use Rattle.run_model.specs.Ranges.{IsOpInRange};
 ghost use Rattle.run_record.specs.Splitting.{tokens};
 ghost use Rattle.run_record.specs.Fields.{Gives, token_at, in_line, number_at, count_at, signed_at, replica_at, other_replica_at, client_at, put_at, add_at, shift_at, op_at, end_at};
 
+use crate::fronts::number_in_front;
 use crate::line_fault::LineFault;
 use crate::splitting::next_token;
 use run_model::LineKind;
@@ -52,6 +53,9 @@ pub fn number_at(rest: &[u8], most: u64) -> Result<(u64, &[u8]), LineFault>
     ensures within { IfOk result (λ x. x.0 ≤ most) }
     ensures number { Gives (λ x. (x.0, tokens x.1.now)) result (number_at most (tokens rest.now)) }
 {
+    if let Some((number, after)) = number_in_front(rest, most) {
+        return Ok((number, after));
+    }
     let (token, rest) = token_at(rest)?;
     let number = number_of(token, most)?;
     Ok((number, rest))

@@ -26,7 +26,11 @@ pub fn fault_of_bytes(raw: &[u8]) -> Option<LineKind>
 fn has_bad_byte(raw: &[u8]) -> bool
     ensures { result ≡ list_any is_bad_byte raw.now }
 {
-    raw.iter().any(|byte| *byte < 32 || *byte > 126)
+    let mut is_bad = false;
+    for byte in raw {
+        is_bad = is_bad | (*byte < 32) | (*byte > 126);
+    }
+    is_bad
 }
 
 /// Whether the line has no token, or its first begins with `#`.

@@ -13,6 +13,7 @@ ghost use Rattle.run_record.specs.Lists.{parts_of, three_of, four_of, both, weig
 
 use crate::call_tokens::any_signed_at;
 use crate::fields::{number_at, token_at};
+use crate::fronts::{need_in_front, weight_in_front};
 use crate::line_fault::LineFault;
 use crate::splitting::{next_token, place_of};
 use run_model::{LineKind, Sums};
@@ -156,8 +157,47 @@ fn need_of(token: &[u8], conits: u32) -> Result<Need, LineFault>
     }
 }
 
+// A weight whose conit is at least `least`.
+#[tactic(auto, unfolding(crate::specs::Lists::weight_at))]
+fn rising_weight_at(rest: &[u8], conits: u32, least: u32) -> Result<(Weight, &[u8]), LineFault>
+    requires { 0 < conits }
+    ensures within { IfOk result (λ x. suc x.0.conit < 2 ^ 32) }
+    ensures weight { Gives (λ x. (x.0, tokens x.1.now)) result (weight_at conits least (tokens rest.now)) }
+{
+    let (token, rest) = token_at(rest)?;
+    let weight = weight_of(token, conits)?;
+    if weight.conit < least {
+        return Err(LineFault::Kind(LineKind::Unordered));
+    }
+    Ok((weight, rest))
+}
+
+// A need whose conit is at least `least`.
+#[tactic(auto, unfolding(crate::specs::Lists::need_at))]
+fn rising_need_at(rest: &[u8], conits: u32, least: u32) -> Result<(Need, &[u8]), LineFault>
+    requires { 0 < conits }
+    ensures within { IfOk result (λ x. suc x.0.conit < 2 ^ 32) }
+    ensures need { Gives (λ x. (x.0, tokens x.1.now)) result (need_at conits least (tokens rest.now)) }
+{
+    let (token, rest) = token_at(rest)?;
+    let need = need_of(token, conits)?;
+    if need.conit < least {
+        return Err(LineFault::Kind(LineKind::Unordered));
+    }
+    Ok((need, rest))
+}
+
 // Whether a list ends where this is left of the line.
 fn is_end(rest: &[u8], end: ListEnd) -> bool
+    ensures { result ≡ is_end end (tokens rest.now) }
+{
+    match rest {
+        [first, ..] if *first != b' ' && *first != b'=' => false,
+        _ => ends_by(rest, end),
+    }
+}
+
+fn ends_by(rest: &[u8], end: ListEnd) -> bool
     ensures { result ≡ is_end end (tokens rest.now) }
 {
     match next_token(rest) {
@@ -194,14 +234,11 @@ impl Listed for Weight {
 
     ghost after = { λ weight. suc weight.conit };
 
-    #[tactic(auto, unfolding(crate::specs::Lists::weight_at))]
     fn read_at(rest: &[u8], conits: u32, least: u32) -> Result<(Self, &[u8]), LineFault> {
-        let (token, rest) = token_at(rest)?;
-        let weight = weight_of(token, conits)?;
-        if weight.conit < least {
-            return Err(LineFault::Kind(LineKind::Unordered));
+        match weight_in_front(rest, conits) {
+            Some((weight, after)) if weight.conit >= least => Ok((weight, after)),
+            _ => rising_weight_at(rest, conits, least),
         }
-        Ok((weight, rest))
     }
 
     fn least_after(&self) -> u32 {
@@ -214,14 +251,11 @@ impl Listed for Need {
 
     ghost after = { λ need. suc need.conit };
 
-    #[tactic(auto, unfolding(crate::specs::Lists::need_at))]
     fn read_at(rest: &[u8], conits: u32, least: u32) -> Result<(Self, &[u8]), LineFault> {
-        let (token, rest) = token_at(rest)?;
-        let need = need_of(token, conits)?;
-        if need.conit < least {
-            return Err(LineFault::Kind(LineKind::Unordered));
+        match need_in_front(rest, conits) {
+            Some((need, after)) if need.conit >= least => Ok((need, after)),
+            _ => rising_need_at(rest, conits, least),
         }
-        Ok((need, rest))
     }
 
     fn least_after(&self) -> u32 {

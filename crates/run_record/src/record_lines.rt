@@ -15,7 +15,7 @@ use crate::line_fault::LineFault;
 use crate::lines::{fault_of_bytes, is_skipped};
 use crate::parts::Counts;
 use crate::setup_lines::{bound_line, header_line};
-use crate::splitting::split_first;
+use crate::splitting::split_line;
 use crate::{Record, RecordFault, Shorts};
 use run_model::{Config, LineKind};
 use std::alloc::Global;
@@ -66,7 +66,7 @@ fn next_line(first: u64, text: &[u8]) -> Result<(Option<&[u8]>, u64, &[u8]), Rec
     let mut rest = text;
     let mut number = first;
     while !rest.is_empty() {
-        let (raw, after) = split_first(rest, b'\n');
+        let (raw, after) = split_line(rest);
         if let Some(kind) = fault_of_bytes(raw) {
             return Err(RecordFault::Text {
                 place: number,

@@ -1,6 +1,8 @@
 //! A text in lines, and a line in tokens.
 ghost use Rattle.std.specs.Prelude.{◌≡◌, ◌≢◌, ℕ, ◌∷◌, [], ◌<◌, ◌≤◌, length, slice_index, MatchOption};
-ghost use Rattle.run_record.specs.Splitting.{pieces_of, tokens};
+ghost use Rattle.run_record.specs.Splitting.{pieces_of, raw_lines, tokens};
+
+use memchr::memchr;
 
 /// The first place where the byte stands, or the length where it doesn't.
 pub(crate) fn place_of(bytes: &[u8], wanted: u8) -> usize
@@ -26,6 +28,17 @@ pub fn split_first(bytes: &[u8], separator: u8) -> (&[u8], &[u8])
         (&bytes[..place], &bytes[place + 1..])
     } else {
         (bytes, &[])
+    }
+}
+
+/// The first line of a text, and what stands after its line feed: all and nothing where there is none.
+pub fn split_line(text: &[u8]) -> (&[u8], &[u8])
+    ensures pieces { 0 < length text.now → raw_lines text.now ≡ result.0.now ∷ raw_lines result.1.now }
+    ensures shorter { 0 < length text.now → length result.1.now < length text.now }
+{
+    match memchr(b'\n', text) {
+        Some(place) => (&text[..place], &text[place + 1..]),
+        None => (text, &[]),
     }
 }
 

@@ -19,7 +19,7 @@ use crate::fault::ScriptFault;
 use crate::sent::Sent;
 use crate::setups::{bounded, opening};
 use run_model::{Config, Line, LineKind};
-use run_record::{LineFault, fault_of_bytes, is_skipped, split_first};
+use run_record::{LineFault, fault_of_bytes, is_skipped, split_line};
 use std::alloc::Global;
 use tact_base::{Items, NoMemory, SCRIPT_LINES};
 
@@ -290,7 +290,7 @@ pub(crate) fn read_first(alloc: Global, bytes: &[u8]) -> Result<(Reader, u64, &[
     let mut rest = bytes;
     let mut number = 1;
     while !rest.is_empty() {
-        let (raw, after) = split_first(rest, b'\n');
+        let (raw, after) = split_line(rest);
         match first_of(alloc, number, raw) {
             Err(fault) => return Err(on_line(number, fault)),
             Ok(None) => {}
@@ -326,7 +326,7 @@ pub(crate) fn read_later(
     let mut rest = text;
     let mut number = first;
     while !rest.is_empty() {
-        let (raw, after) = split_first(rest, b'\n');
+        let (raw, after) = split_line(rest);
         match read_line(reader, alloc, number, raw) {
             Err(fault) => return Err(on_line(number, fault)),
             Ok(()) => {}

@@ -23,24 +23,24 @@ pub(crate) enum Word {
     Ref,
 }
 
-/// Each word and how it is spelled.
+/// Each word and how it is spelled, the frequent ones first.
 const WORDS: [(&[u8], Word); 16] = [
-    (b"start", Word::Start),
-    (b"bound", Word::Bound),
-    (b"at", Word::At),
     (b"write", Word::Write),
-    (b"held", Word::Held),
-    (b"reserve", Word::Reserve),
-    (b"release", Word::Release),
     (b"read", Word::Read),
     (b"send", Word::Send),
     (b"take", Word::Take),
     (b"sync", Word::Sync),
+    (b"at", Word::At),
+    (b"show", Word::Show),
+    (b"held", Word::Held),
+    (b"reserve", Word::Reserve),
+    (b"release", Word::Release),
     (b"lend", Word::Lend),
     (b"back", Word::Back),
     (b"restart", Word::Restart),
-    (b"show", Word::Show),
     (b"ref", Word::Ref),
+    (b"bound", Word::Bound),
+    (b"start", Word::Start),
 ];
 
 /// The word that a token is, if it is one.

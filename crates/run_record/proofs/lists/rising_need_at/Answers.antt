@@ -1,0 +1,8 @@
+use Rattle.std.proofs.Common.{arith}
+use Rattle.run_record.proofs.ItemLemmas.{need_of-limits}
+use Rattle.run_record.proofs.lists.rising_need_at.Goals as goal
+
+pub returns-clause-within : goal.returns-clause-within
+returns-clause-within c =
+    let good = need_of-limits c.args.conits c.requires c.in_ok-token.token.now c.in_ok-need.need c.in_ok-need.ensures in
+    omega (arith, good.0, c.ranges.conits)
