@@ -1,8 +1,6 @@
 //! What is said of records, each given as text.
 
-use run_check::{check_record, put_verdict};
-use run_record::parse_text;
-use std::alloc::Global;
+use crate::saying::said_of;
 use std::test::Fail;
 use tact_base::Bytes;
 
@@ -23,17 +21,6 @@ const EACH_KIND: &[u8] = b"e 0 0 call 0 0 write add 7 1 0:5:1 = done 0 1\n\
     e 0 4 lend 1 0 1\n\
     e 1 5 restart\n\
     end 9\n";
-
-// The line that is said of a record whose text is in two parts.
-fn said_of(alloc: Global, front: &[u8], rest: &[u8]) -> Result<Bytes, Fail> {
-    let mut text = Bytes::from_slice(alloc, front)?;
-    text.append(rest)?;
-    let held = parse_text(alloc, text.items()).map_err(|_| "a record")?;
-    let verdict = check_record(alloc, &held)?;
-    let mut line = Bytes::new(alloc);
-    put_verdict(alloc, &verdict, &mut line)?;
-    Ok(line)
-}
 
 #[test]
 fn records_of_runs(rt: HostRuntime) -> Result<(), Fail> {

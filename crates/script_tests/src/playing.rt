@@ -6,6 +6,19 @@ use std::alloc::Global;
 use std::test::Fail;
 use tact_io::{MemSink, MemSource};
 
+/// What a text begins with where three replicas lend each other 5 of 10.
+pub(crate) const THREE: &str = "tact 1 3 1
+bound 0 0 10 0 5 5
+bound 1 0 10 5 0 5
+bound 2 0 10 5 5 0
+";
+
+/// What a text begins with where two replicas lend each other all of 10.
+pub(crate) const TWO: &str = "tact 1 2 1
+bound 0 0 10 0 10
+bound 1 0 10 10 0
+";
+
 /// The status of a script that is played in memory, where the listed reads and writes fail, and the sink
 /// with what was written.
 pub(crate) fn played(

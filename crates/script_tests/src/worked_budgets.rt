@@ -1,20 +1,9 @@
 //! Scripts on shares, loans and what is reserved, and the text of their runs.
 
-use crate::playing::prints;
+use crate::playing::{THREE, TWO, prints};
 use std::test::Fail;
 
-// The lines that the texts begin with, by their setups.
-const THREE: &str = "tact 1 3 1
-bound 0 0 10 0 5 5
-bound 1 0 10 5 0 5
-bound 2 0 10 5 5 0
-";
-
-const TWO: &str = "tact 1 2 1
-bound 0 0 10 0 10
-bound 1 0 10 10 0
-";
-
+// What a text begins with where two replicas lend 4 of 10.
 const TWO_LENT_FOUR: &str = "tact 1 2 1
 bound 0 0 10 0 4
 bound 1 0 10 4 0

@@ -3,6 +3,8 @@
 #![tactic(auto)]
 
 #[cfg(test)]
+mod bulletin;
+#[cfg(test)]
 mod command_words;
 #[cfg(test)]
 mod drills;
