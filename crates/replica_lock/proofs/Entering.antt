@@ -1,15 +1,18 @@
 -- What stays true behind the lock when an entry is made.
-use Rattle.std.proofs.Common.{◌≡◌, ℕ, ◌+◌, ◌*◌, ◌<◌, ◌≤◌, ◌^◌, ◌==◌, true, false, cond, List, [], ◌∷◌, ◌++◌, drop, length, get_or, sum, refl, sym, ap, ◌∙◌, ⊎_elim, subst, IfOk, Result, arith}
+use Rattle.std.proofs.Common.{◌≡◌, ◌≢◌, ℕ, ◌+◌, ◌*◌, ◌<◌, ◌≤◌, ◌^◌, ◌==◌, Bool, true, false, cond, List, [], ◌∷◌, ◌++◌, drop, length, get_or, sum, unsigned_abs, refl, sym, ap, ◌∙◌, ⊎_elim, subst, IfOk, Result, arith}
 use Rattle.std.proofs.lemmas.Result.{IfOk-weaker}
 use Rattle.std.proofs.lemmas.Bool.{cases_eq, eq-eqb, ne_eqb}
 use Rattle.std.proofs.lemmas.List.{map-append, length_push, length-map, same_from_push}
 use Rattle.std.proofs.lemmas.List.Sums.{length-filter, count_by-le-length, sum_by_push}
 use Rattle.tact_base.specs.Setup.{Setup}
+use Rattle.tact_base.specs.declared.conit_list.Weight.{Weight}
 use Rattle.tact_base.specs.declared.limits.TheConstants.{CLIENTS, HISTORY_MAX}
+use Rattle.tact_base.specs.declared.write.Op.{Op}
 use Rattle.run_model.specs.Histories.{part_of, calls_in, is_call_of, moment_at, IsPrefix}
-use Rattle.run_model.specs.Missing.{granted_by, used_by, reserved}
+use Rattle.run_model.specs.Missing.{granted_on, used_on, granted_by, used_by, reserved}
 use Rattle.run_model.specs.Runs.{IsDue, IsRun, MayFollow}
 use Rattle.run_model.specs.declared.call.Reply.{Reply}
+use Rattle.run_model.specs.declared.call.Reply.TheVariants as reply
 use Rattle.run_model.specs.declared.call.Request.{Request}
 use Rattle.run_model.specs.declared.call.Request.TheVariants as request
 use Rattle.run_model.specs.declared.entry.Act.{Act}
@@ -19,10 +22,12 @@ use Rattle.run_model.proofs.PartLemmas.{calls_in-push, part_of-push_same}
 use Rattle.run_model.proofs.PrefixLemmas.{EachAfter-last, IsPrefix-trans}
 use Rattle.run_history.specs.Seats.{ClerkView}
 use Rattle.run_history.specs.Ticks.{entries_of}
+use Rattle.split_budget.specs.Budgets.{reserved_on}
 use Rattle.replica_core.specs.States.{Core}
 use Rattle.replica_core.specs.Stands.{Stands, GoesOn, IsSameReplica}
-use Rattle.replica_lock.specs.Locks.{HasDrawn, HasEntered, IsLocked, IsWriteOrRead, LockedView, made_place, part_in, turns_place}
-use Rattle.replica_lock.proofs.Totals.{counted, counted-places, counted-else, counted-turns, counted-made, sum_from-le}
+use Rattle.replica_lock.specs.Answering.{MayAskWith}
+use Rattle.replica_lock.specs.Locks.{HasDrawn, HasEntered, IsLocked, LockedView, made_place, part_in, turns_place}
+use Rattle.replica_lock.proofs.Totals.{counted, counted-else, counted-turns, answered, answered-places, answered-conit, answered-else, answered-made, sum_from-le}
 
 -- a call of a client
 abbrev pub call_entry : ℕ → ℕ → ℕ → ℕ → Request → Reply → Entry
@@ -76,23 +81,92 @@ has_room locked client kept among few =
       omega (arith, sum_from-le (locked.core.setup.conits + CLIENTS) client locked.totals (omega (arith, kept.places, among)), kept.made, size, few),
     )
 
--- A client's call that neither reserves nor uses anything.
-pub record IsQuietCall (client : ℕ) (done : Act) : Type 0 where
+-- A client's call that changes what is reserved on no other conit than one.
+pub record IsCallOn (client conit : ℕ) (done : Act) : Type 0 where
   pub calls : (one : ℕ) → is_call_of one done ≡ (client == one)
-  pub grants : (conit : ℕ) → granted_by conit done ≡ 0
-  pub uses : (conit : ℕ) → used_by conit done ≡ 0
+  pub grants : (other : ℕ) → other ≢ conit → granted_by other done ≡ 0
+  pub uses : (other : ℕ) → other ≢ conit → used_by other done ≡ 0
 
-pub quiet-call : (client number : ℕ) (asked : Request) (given : Reply)
-    → IsWriteOrRead asked
-    → IsQuietCall client (act.Call client number asked given)
-quiet-call client number (request.Write weights op) given plain = record { calls = λ one. refl; grants = λ conit. refl; uses = λ conit. refl }
-quiet-call client number (request.Read key needs) given plain = record { calls = λ one. refl; grants = λ conit. refl; uses = λ conit. refl }
-quiet-call client number (request.Held weight op) given plain = elim plain [ ]
-quiet-call client number (request.Reserve conit amount) given plain = elim plain [ ]
-quiet-call client number (request.Release conit amount) given plain = elim plain [ ]
+-- what a conit has of an amount on one
+abbrev pub amount_on : ℕ → ℕ → ℕ → ℕ
+amount_on at amount conit = cond (at == conit) amount 0
+
+-- no more of it is granted, released or spent, whatever the reply
+pub grants_most : (at amount conit : ℕ) (given : Reply) → granted_on conit (request.Reserve at amount) given ≤ amount_on at amount conit
+grants_most at amount on (reply.Done index stamp) = omega arith
+grants_most at amount on reply.Granted = omega arith
+grants_most at amount on reply.Released = omega arith
+grants_most at amount on (reply.Value value sums) = omega arith
+grants_most at amount on (reply.TooHeavy conit peer size share) = omega arith
+grants_most at amount on (reply.WaitHeld conit peer held size share) = omega arith
+grants_most at amount on (reply.WaitShare conit peer missing held size share) = omega arith
+grants_most at amount on (reply.WaitLent conit holder out total num) = omega arith
+grants_most at amount on (reply.WaitOrder conit replica tentative order) = omega arith
+grants_most at amount on (reply.WaitStale conit replica moment wanted) = omega arith
+grants_most at amount on (reply.NotHeld conit held wanted) = omega arith
+
+pub releases_most : (at amount conit : ℕ) (given : Reply) → used_on conit (request.Release at amount) given ≤ amount_on at amount conit
+releases_most at amount on (reply.Done index stamp) = omega arith
+releases_most at amount on reply.Granted = omega arith
+releases_most at amount on reply.Released = omega arith
+releases_most at amount on (reply.Value value sums) = omega arith
+releases_most at amount on (reply.TooHeavy conit peer size share) = omega arith
+releases_most at amount on (reply.WaitHeld conit peer held size share) = omega arith
+releases_most at amount on (reply.WaitShare conit peer missing held size share) = omega arith
+releases_most at amount on (reply.WaitLent conit holder out total num) = omega arith
+releases_most at amount on (reply.WaitOrder conit replica tentative order) = omega arith
+releases_most at amount on (reply.WaitStale conit replica moment wanted) = omega arith
+releases_most at amount on (reply.NotHeld conit held wanted) = omega arith
+
+pub spends_most : (weight : Weight) (op : Op) (conit : ℕ) (given : Reply) → used_on conit (request.Held weight op) given ≤ amount_on weight.conit (unsigned_abs weight.nweight) conit
+spends_most weight op on (reply.Done index stamp) = omega arith
+spends_most weight op on reply.Granted = omega arith
+spends_most weight op on reply.Released = omega arith
+spends_most weight op on (reply.Value value sums) = omega arith
+spends_most weight op on (reply.TooHeavy conit peer size share) = omega arith
+spends_most weight op on (reply.WaitHeld conit peer held size share) = omega arith
+spends_most weight op on (reply.WaitShare conit peer missing held size share) = omega arith
+spends_most weight op on (reply.WaitLent conit holder out total num) = omega arith
+spends_most weight op on (reply.WaitOrder conit replica tentative order) = omega arith
+spends_most weight op on (reply.WaitStale conit replica moment wanted) = omega arith
+spends_most weight op on (reply.NotHeld conit held wanted) = omega arith
+
+-- which is nothing on another conit, and never more than the amount
+amount_on-other : (at amount conit number : ℕ) → number ≤ amount_on at amount conit → conit ≢ at → number ≡ 0
+amount_on-other at amount conit number most other =
+    let none = ap (λ (b : Bool). cond b amount 0) (ne_eqb at conit (λ same. other (sym same))) in
+    omega (arith, most, none)
+
+pub amount_on-most : (at amount conit : ℕ) → amount_on at amount conit ≤ amount
+amount_on-most at amount conit = go (at == conit)
+  where
+    go : (b : Bool) → cond b amount 0 ≤ amount
+    go true = omega arith
+    go false = omega arith
+
+pub call-on : (setup : Setup) (client number conit amount : ℕ) (asked : Request) (given : Reply)
+    → MayAskWith setup conit amount asked
+    → IsCallOn client conit (act.Call client number asked given)
+call-on setup client number conit amount (request.Write weights op) given may = record { calls = λ one. refl; grants = λ other differ. refl; uses = λ other differ. refl }
+call-on setup client number conit amount (request.Read key needs) given may = record { calls = λ one. refl; grants = λ other differ. refl; uses = λ other differ. refl }
+call-on setup client number conit amount (request.Held weight op) given may = record {
+  calls = λ one. refl;
+  grants = λ other differ. refl;
+  uses = λ other differ. amount_on-other weight.conit (unsigned_abs weight.nweight) other _ (spends_most weight op other given) (λ same. differ (same ∙ may.2));
+}
+call-on setup client number conit amount (request.Reserve at more) given may = record {
+  calls = λ one. refl;
+  grants = λ other differ. amount_on-other at more other _ (grants_most at more other given) (λ same. differ (same ∙ may.0));
+  uses = λ other differ. refl;
+}
+call-on setup client number conit amount (request.Release at back) given may = record {
+  calls = λ one. refl;
+  grants = λ other differ. refl;
+  uses = λ other differ. amount_on-other at back other _ (releases_most at back other given) (λ same. differ (same ∙ may.0));
+}
 
 -- a clerk's part with what it drew
-entries-push : (pairs : List (ℕ × Entry)) (tick : ℕ) (entry : Entry)
+pub entries-push : (pairs : List (ℕ × Entry)) (tick : ℕ) (entry : Entry)
     → entries_of (pairs ++ (tick, entry) ∷ []) ≡ entries_of pairs ++ entry ∷ []
 entries-push pairs tick entry = map-append (λ (pair : ℕ × Entry). pair.1) pairs ((tick, entry) ∷ [])
 
@@ -111,47 +185,59 @@ module _ (before after : LockedView) (setup : Setup) (client : ℕ) (entry : Ent
   pub own-after : part_of after.clerk.seen after.core.replica ≡ part_in after
   own-after = sym (ap (part_of after.clerk.seen) replica-after) ∙ drawn.own ∙ ap entries_of (sym stored)
 
-  pub IsLocked-call : IsQuietCall client entry.act
+  pub IsLocked-call : (conit : ℕ)
+      → IsCallOn client conit entry.act
+      → (here : conit < before.core.setup.conits)
       → Stands (part_in before ++ entry ∷ []) after.core
-      → after.totals ≡ counted before.core.setup.conits client before.totals kept.places among
+      → after.totals ≡ answered before.core.setup.conits client before.totals kept.places among conit (reserved_on after.core.budgets conit) here
       → IsLocked after
-  IsLocked-call quiet stands totals =
+  IsLocked-call conit on here stands totals =
       let conits = before.core.setup.conits in
+      let number = reserved_on after.core.budgets conit in
       let width : after.core.setup.conits ≡ conits = ap (λ (s : Setup). s.conits) same.0 in
+      let now : number ≡ reserved (part_in after) conit = stands.budgets.reserved conit (omega (arith, here, width)) ∙ sym (ap (λ part. reserved part conit) part-after) in
       record {
         replica = replica-after;
         stands = subst (λ part. Stands part after.core) (sym part-after) stands;
         drawn = sym stored;
         own = own-after;
-        places = ap length totals ∙ counted-places conits client before.totals kept.places among ∙ ap (λ n. n + 2 * CLIENTS) (sym width);
-        allowances = λ conit within.
-            let here = counted-else conits client before.totals kept.places among conit (λ e. absurd (omega (arith, e, within, width))) (λ e. absurd (omega (arith, e, within, width))) in
-            let were = kept.allowances conit (omega (arith, within, width)) in
-            let grants = sum_by_push (λ (e : Entry). granted_by conit e.act) (part_in before) entry in
-            let uses = sum_by_push (λ (e : Entry). used_by conit e.act) (part_in before) entry in
-            let now : reserved (part_in before ++ entry ∷ []) conit ≡ reserved (part_in before) conit = omega (arith, grants, uses, quiet.grants conit, quiet.uses conit) in
-            ap (λ t. get_or t conit 0) totals ∙ here ∙ were ∙ sym now ∙ sym (ap (λ part. reserved part conit) part-after);
-        turns = λ one within. turns-after one within quiet totals width;
+        places = ap length totals ∙ answered-places conits client before.totals kept.places among conit number here ∙ ap (λ n. n + 2 * CLIENTS) (sym width);
+        allowances = λ one within. ⊎_elim
+            (λ (equal : one ≡ conit).
+            ap (λ t. get_or t one 0) totals
+            ∙ ap (λ k. get_or (answered conits client before.totals kept.places among conit number here) k 0) equal
+            ∙ answered-conit conits client before.totals kept.places among conit number here ∙ now ∙ ap (reserved (part_in after)) (sym equal))
+            (λ (other : one ≡ conit → ⊥).
+            let there = answered-else conits client before.totals kept.places among conit number here one other in
+            let still = counted-else conits client before.totals kept.places among one (λ e. absurd (omega (arith, e, within, width))) (λ e. absurd (omega (arith, e, within, width))) in
+            let were = kept.allowances one (omega (arith, within, width)) in
+            let grants = sum_by_push (λ (e : Entry). granted_by one e.act) (part_in before) entry in
+            let uses = sum_by_push (λ (e : Entry). used_by one e.act) (part_in before) entry in
+            let same_there : reserved (part_in before ++ entry ∷ []) one ≡ reserved (part_in before) one = omega (arith, grants, uses, on.grants one other, on.uses one other) in
+            ap (λ t. get_or t one 0) totals ∙ there ∙ still ∙ were ∙ sym same_there ∙ sym (ap (λ part. reserved part one) part-after))
+            (cases_eq one conit);
+        turns = λ one within. turns-after one within on.calls
+            (λ place other. ap (λ t. get_or t place 0) totals ∙ answered-else conits client before.totals kept.places among conit number here place (λ e. absurd (omega (arith, e, here, other)))) width;
         made =
             ap (λ n. sum (drop (n + CLIENTS) after.totals)) width
             ∙ ap (λ t. sum (drop (conits + CLIENTS) t)) totals
-            ∙ counted-made conits client before.totals kept.places among
+            ∙ answered-made conits client before.totals kept.places among conit number here
             ∙ ap (λ n. n + 1) kept.made
             ∙ sym (ap length (stored ∙ drawn.pairs) ∙ length_push before.clerk.pairs (length drawn.front, entry) ∙ ap (λ pairs. length pairs + 1) kept.drawn);
       }
     where
       turns-after : (one : ℕ)
           → one < CLIENTS
-          → IsQuietCall client entry.act
-          → after.totals ≡ counted before.core.setup.conits client before.totals kept.places among
+          → ((one : ℕ) → is_call_of one entry.act ≡ (client == one))
+          → ((place : ℕ) → before.core.setup.conits ≤ place → get_or after.totals place 0 ≡ get_or (counted before.core.setup.conits client before.totals kept.places among) place 0)
           → after.core.setup.conits ≡ before.core.setup.conits
           → get_or after.totals (turns_place after.core.setup.conits one) 0 ≡ calls_in (part_in after) one
-      turns-after one within quiet totals width =
+      turns-after one within calls totals width =
           let conits = before.core.setup.conits in
           let moved : get_or after.totals (turns_place after.core.setup.conits one) 0 ≡ get_or (counted conits client before.totals kept.places among) (turns_place conits one) 0 =
-          ap (λ n. get_or after.totals (turns_place n one) 0) width ∙ ap (λ t. get_or t (turns_place conits one) 0) totals in
+          ap (λ n. get_or after.totals (turns_place n one) 0) width ∙ totals (turns_place conits one) (omega arith) in
           let pushed : calls_in (part_in after) one ≡ calls_in (part_in before) one + cond (client == one) 1 0 =
-          ap (λ part. calls_in part one) part-after ∙ calls_in-push (part_in before) entry one ∙ ap (λ b. calls_in (part_in before) one + cond b 1 0) (quiet.calls one) in
+          ap (λ part. calls_in part one) part-after ∙ calls_in-push (part_in before) entry one ∙ ap (λ b. calls_in (part_in before) one + cond b 1 0) (calls one) in
           let were = kept.turns one within in
           ⊎_elim
           (λ (equal : one ≡ client).

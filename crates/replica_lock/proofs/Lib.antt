@@ -6,3 +6,8 @@ mod Opening
 mod Making
 mod Made
 mod Dues
+mod Allowing
+mod Replying
+mod Told
+mod Calling
+mod LoanActs

@@ -56,6 +56,25 @@ module _ (conits client : ℕ) (totals : List ℕ) (places : length totals ≡ c
       sum_from-more (conits + CLIENTS) client turned (omega (arith, length-set totals (turns_place conits client) (get_or totals (turns_place conits client) 0 + 1), places, among))
       ∙ ap (λ rest. sum rest + 1) (drop-set-lt (conits + CLIENTS) totals (turns_place conits client) _ (omega (arith, among)))
 
+-- The same with another total on a conit.
+module _ (conits client : ℕ) (totals : List ℕ) (places : length totals ≡ conits + 2 * CLIENTS) (among : client < CLIENTS) (conit number : ℕ) (here : conit < conits) where
+  abbrev pub answered : List ℕ
+  answered = set (counted conits client totals places among) conit number
+
+  pub answered-places : length answered ≡ conits + 2 * CLIENTS
+  answered-places = length-set (counted conits client totals places among) conit number ∙ counted-places conits client totals places among
+
+  pub answered-conit : get_or answered conit 0 ≡ number
+  answered-conit = get_or-set_same (counted conits client totals places among) conit number 0 (omega (arith, counted-places conits client totals places among, here))
+
+  pub answered-else : (place : ℕ) → place ≢ conit → get_or answered place 0 ≡ get_or (counted conits client totals places among) place 0
+  answered-else place other = get_or-set_other (counted conits client totals places among) conit place number 0 other
+
+  pub answered-made : sum (drop (conits + CLIENTS) answered) ≡ sum (drop (conits + CLIENTS) totals) + 1
+  answered-made =
+      ap sum (drop-set-lt (conits + CLIENTS) (counted conits client totals places among) conit number (omega (arith, here)))
+      ∙ counted-made conits client totals places among
+
 -- One more entry made for a client, and no turn.
 module _ (conits client : ℕ) (totals : List ℕ) (places : length totals ≡ conits + 2 * CLIENTS) (among : client < CLIENTS) where
   abbrev pub entered : List ℕ

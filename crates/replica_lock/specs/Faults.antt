@@ -3,6 +3,10 @@ use Rattle.std.specs.Prelude.{◌≡◌, true, false}
 use Rattle.replica_core.specs.States.{Core, is_full}
 use Rattle.replica_core.specs.declared.fault.CoreFault.{CoreFault}
 use Rattle.replica_core.specs.declared.fault.CoreFault.TheVariants as core_fault
+use Rattle.replica_core.specs.declared.fault.LoanFault.{LoanFault}
+use Rattle.replica_core.specs.declared.fault.LoanFault.TheVariants as core_loan
+use Rattle.replica_lock.specs.declared.fault.NodeLoanFault.{NodeLoanFault}
+use Rattle.replica_lock.specs.declared.fault.NodeLoanFault.TheVariants as node_loan
 use Rattle.replica_lock.specs.declared.fault.NodeFault.{NodeFault}
 use Rattle.replica_lock.specs.declared.fault.NodeFault.TheVariants as fault
 
@@ -10,6 +14,12 @@ use Rattle.replica_lock.specs.declared.fault.NodeFault.TheVariants as fault
 abbrev pub node_fault : CoreFault → NodeFault
 node_fault (core_fault.Full count clock) = fault.Full count clock
 node_fault core_fault.NoMemory = fault.NoMemory
+
+-- a fault of a loan, as its node's
+abbrev pub loan_fault : LoanFault → NodeLoanFault
+loan_fault (core_loan.Full count clock) = node_loan.Node (fault.Full count clock)
+loan_fault (core_loan.Home conit home) = node_loan.Home conit home
+loan_fault (core_loan.Free conit free) = node_loan.Free conit free
 
 -- full, with both numbers, exactly where the replica is full
 abbrev pub IsNodeFaultOf : Core → NodeFault → Type 0

@@ -4,3 +4,6 @@ pub mod Parcels
 pub mod Sessions
 pub mod Nodes
 pub mod Rosters
+pub mod Allowances
+pub mod Answering
+pub mod Loans

@@ -1,5 +1,5 @@
 use crate::parcel::Parcel;
-use replica_core::CoreFault;
+use replica_core::{CoreFault, LoanFault};
 use run_history::Clerk;
 use tact_base::NoMemory;
 
@@ -33,6 +33,57 @@ impl From<CoreFault> for NodeFault {
         match fault {
             CoreFault::Full { count, clock } => NodeFault::Full { count, clock },
             CoreFault::NoMemory => NodeFault::NoMemory,
+        }
+    }
+}
+
+/// Why a node neither lent nor gave back.
+#[derive(Clone, Copy, Debug, PartialEq, Eq)]
+pub enum NodeLoanFault {
+    /// It made no entry.
+    Node(NodeFault),
+    /// So much of its own bound on the conit is at home, which is less than the amount.
+    Home { conit: u32, home: u64 },
+    /// So much of its share of the owner's bound on the conit covers nothing, which is less than the amount.
+    Free { conit: u32, free: u64 },
+}
+
+impl From<NodeFault> for NodeLoanFault {
+    ghost use Rattle.std.specs.Prelude.{◌≡◌};
+    ghost use Rattle.replica_lock.specs.declared.fault.NodeLoanFault.TheVariants as fault;
+
+    ghost from_gives = { λ told made. made ≡ fault.Node told };
+
+    fn from(fault: NodeFault) -> Self {
+        NodeLoanFault::Node(fault)
+    }
+}
+
+impl From<NoMemory> for NodeLoanFault {
+    ghost use Rattle.std.specs.Prelude.{◌≡◌};
+    ghost use Rattle.replica_lock.specs.declared.fault.NodeFault.TheVariants as node_fault;
+    ghost use Rattle.replica_lock.specs.declared.fault.NodeLoanFault.TheVariants as fault;
+
+    ghost from_gives = { λ _ made. made ≡ fault.Node node_fault.NoMemory };
+
+    fn from(_fault: NoMemory) -> Self {
+        NodeLoanFault::Node(NodeFault::NoMemory)
+    }
+}
+
+impl From<LoanFault> for NodeLoanFault {
+    ghost use Rattle.std.specs.Prelude.{◌≡◌};
+    ghost use Rattle.replica_lock.specs.Faults.{loan_fault};
+
+    ghost from_gives = { λ fault made. made ≡ loan_fault fault };
+
+    fn from(fault: LoanFault) -> Self {
+        match fault {
+            LoanFault::Full { count, clock } => {
+                NodeLoanFault::Node(NodeFault::Full { count, clock })
+            }
+            LoanFault::Home { conit, home } => NodeLoanFault::Home { conit, home },
+            LoanFault::Free { conit, free } => NodeLoanFault::Free { conit, free },
         }
     }
 }

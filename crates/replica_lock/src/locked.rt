@@ -1,16 +1,20 @@
 //! The value behind a node's lock, and the entries that are made with it.
-ghost use Rattle.std.specs.Prelude.{[], ◌≡◌, ◌+◌, ◌*◌, ◌<◌, ◌≤◌, ◌^◌, true, false, length, slice_index, IfOk, IfErr, IsOk, OnErr, OnOk};
+ghost use Rattle.std.specs.Prelude.{[], ◌≡◌, ◌+◌, ◌*◌, ◌<◌, ◌≤◌, ◌^◌, true, false, length, slice_index, slice_set, IfOk, IfErr, IsOk, OnErr, OnOk};
+ghost use Rattle.tact_base.specs.Setup.{IsSetup};
 ghost use Rattle.tact_base.specs.declared.limits.TheConstants.{CLIENTS, MOMENT_MAX};
 ghost use Rattle.run_model.specs.Histories.{moment_at, calls_in, IsPrefix};
+ghost use Rattle.run_model.specs.Missing.{reserved};
 ghost use Rattle.run_model.specs.Ranges.{IsRequestInRange};
 ghost use Rattle.run_model.specs.Runs.{IsDue, IsRun, WasSent};
 ghost use Rattle.run_model.specs.declared.entry.Act.TheVariants as act;
 ghost use Rattle.run_history.specs.Ticks.{entries_of};
+ghost use Rattle.split_budget.specs.Budgets.{reserved_on};
 ghost use Rattle.replica_core.specs.States.{is_full};
 ghost use Rattle.weight_ledger.specs.Amounts.{zeros};
+ghost use Rattle.replica_lock.specs.Answering.{MayAskWith};
 ghost use Rattle.replica_lock.specs.Faults.{IsNodeFaultOf};
 ghost use Rattle.replica_lock.specs.declared.fault.NodeFault.TheVariants as fault;
-ghost use Rattle.replica_lock.specs.Locks.{HasDrawn, HasEntered, IsLocked, IsOfDesk, IsWriteOrRead, made_place, one_more_at, part_in, turns_place};
+ghost use Rattle.replica_lock.specs.Locks.{HasDrawn, HasEntered, IsLocked, IsOfDesk, made_place, one_more_at, part_in, turns_place};
 
 use crate::label::Label;
 use crate::{NewFault, NodeFault};
@@ -108,22 +112,25 @@ impl Locked {
         let _ = &self.conits;
     }
 
-    /// Answers a call of a client that writes or reads, for a session that has seen what a note has. The clerk learns the
-    /// note; where it isn't refused the call is drawn and stored; then the note sees what the clerk has seen.
+    /// Answers a call of a client, for a session that has seen what a note has. It takes nothing out of what is reserved
+    /// but on the conit, and there no more than there is. The clerk learns the note; where it isn't refused the call is
+    /// drawn and stored; then the note sees what the clerk has seen.
     pub fn call(
         &mut self,
         desk: &Desk,
         note: &mut Note,
         moment: u64,
         client: u32,
+        conit: u32,
         request: Request,
     ) -> Result<Reply, NodeFault>
         requires desk { IsOfDesk desk.now self.old }
+        requires sound { IsSetup desk.now.setup }
         requires note { note.old.table ≡ desk.now.table }
         requires moment { moment ≤ MOMENT_MAX }
         requires client { client < CLIENTS }
-        requires in_range { IsRequestInRange self.old.core.setup request }
-        requires plain { IsWriteOrRead request }
+        requires conit { conit < self.old.core.setup.conits }
+        requires asked { MayAskWith self.old.core.setup conit (reserved (part_in self.old) conit) request }
         ensures kept { IsLocked self.new }
         ensures label { (self.new.core.setup ≡ self.old.core.setup) × (self.new.core.replica ≡ self.old.core.replica) × (self.new.clerk.table ≡ self.old.clerk.table) }
         ensures note { (note.new.table ≡ note.old.table) × (note.new.seen ≡ self.new.clerk.seen) }
@@ -134,7 +141,7 @@ impl Locked {
           act = act.Call client (calls_in (part_in self.old) client) request reply;
         })) }
         ensures rooms { OnOk result ((slice_index self.old.totals (turns_place self.old.core.setup.conits client) + 1 < 2 ^ 64) × (slice_index self.old.totals (made_place self.old.core.setup.conits client) + 1 < 2 ^ 64)) }
-        ensures totals { OnOk result (self.new.totals ≡ one_more_at (made_place self.old.core.setup.conits client) (one_more_at (turns_place self.old.core.setup.conits client) self.old.totals)) }
+        ensures totals { OnOk result (self.new.totals ≡ slice_set (one_more_at (made_place self.old.core.setup.conits client) (one_more_at (turns_place self.old.core.setup.conits client) self.old.totals)) conit (reserved (part_in self.new) conit)) }
         ensures spare { self.old.spare ≤ self.new.spare + 1 }
         ensures room { self.old.room ≤ self.new.room + 1 }
         ensures enough { is_full self.old.core ≡ false → 0 < self.old.spare → 0 < self.old.room → IsOk result }
@@ -143,7 +150,7 @@ impl Locked {
         ensures learnt { IsPrefix self.old.clerk.seen note.new.seen × IsPrefix note.old.seen note.new.seen }
     {
         self.learn(desk, note);
-        let answer = self.enter_call(desk, moment, client, request);
+        let answer = self.enter_call(desk, moment, client, conit, request);
         self.tell(desk, note);
         answer
     }
@@ -201,6 +208,7 @@ impl Locked {
         ensures mine { IsPrefix self.old.clerk.seen self.new.clerk.seen }
         ensures told { IsPrefix note.old.seen self.new.clerk.seen }
         ensures run { IsRun desk.now.setup self.new.clerk.seen }
+        ensures among { self.new.core.replica < desk.now.setup.replicas }
     {
         self.clerk.learn(desk, note.twin(desk));
     }
@@ -216,6 +224,15 @@ impl Locked {
 }
 
 impl Locked {
+    // What is reserved on a conit, which is the total of the allowances out there.
+    pub(crate) fn reserved(&self, conit: u32) -> u64
+        requires { conit < self.now.core.setup.conits }
+        ensures total { result ≡ slice_index self.now.totals conit }
+        ensures reserved { result ≡ reserved (part_in self.now) conit }
+    {
+        self.totals[conit as usize]
+    }
+
     // The number of its replica.
     pub(crate) fn replica_number(&self) -> u32
         ensures { result ≡ self.now.core.replica }
@@ -238,19 +255,21 @@ impl Locked {
         self.replica.calls(client)
     }
 
-    // Answers a call of a client that writes or reads.
+    // Answers a call of a client that changes what is reserved on no other conit.
     fn enter_call(
         &mut self,
         desk: &Desk,
         moment: u64,
         client: u32,
+        conit: u32,
         request: Request,
     ) -> Result<Reply, NodeFault>
         requires desk { IsOfDesk desk.now self.old }
         requires moment { moment ≤ MOMENT_MAX }
         requires client { client < CLIENTS }
+        requires conit { conit < self.old.core.setup.conits }
         requires in_range { IsRequestInRange self.old.core.setup request }
-        requires plain { IsWriteOrRead request }
+        requires asked { MayAskWith self.old.core.setup conit (reserved (part_in self.old) conit) request }
         ensures kept { IsLocked self.new }
         ensures label { (self.new.core.setup ≡ self.old.core.setup) × (self.new.core.replica ≡ self.old.core.replica) × (self.new.clerk.table ≡ self.old.clerk.table) }
         ensures entered { IfOk result (λ reply. HasEntered self.old self.new self.old.clerk.seen (record {
@@ -259,7 +278,7 @@ impl Locked {
           act = act.Call client (calls_in (part_in self.old) client) request reply;
         })) }
         ensures rooms { OnOk result ((slice_index self.old.totals (turns_place self.old.core.setup.conits client) + 1 < 2 ^ 64) × (slice_index self.old.totals (made_place self.old.core.setup.conits client) + 1 < 2 ^ 64)) }
-        ensures totals { OnOk result (self.new.totals ≡ one_more_at (made_place self.old.core.setup.conits client) (one_more_at (turns_place self.old.core.setup.conits client) self.old.totals)) }
+        ensures totals { OnOk result (self.new.totals ≡ slice_set (one_more_at (made_place self.old.core.setup.conits client) (one_more_at (turns_place self.old.core.setup.conits client) self.old.totals)) conit (reserved (part_in self.new) conit)) }
         ensures grows { IsPrefix self.old.clerk.seen self.new.clerk.seen }
         ensures run { IsRun desk.now.setup self.old.clerk.seen → IsRun desk.now.setup self.new.clerk.seen }
         ensures spare { self.old.spare ≤ self.new.spare + 1 }
@@ -287,6 +306,7 @@ impl Locked {
         };
         draw(&mut self.clerk, &mut self.stored, desk, entry);
         count_call(&mut self.totals, self.conits, client);
+        set_reserved(&mut self.totals, &self.replica, conit);
         Ok(answer)
     }
 }
@@ -337,6 +357,15 @@ fn count_call(totals: &mut Vec<u64>, conits: u32, client: u32)
     let place = conits as usize + client as usize;
     totals[place] += 1;
     totals[place + CLIENTS as usize] += 1;
+}
+
+// Sets the total of the allowances out on a conit to what a replica has reserved there.
+fn set_reserved(totals: &mut Vec<u64>, replica: &Replica, conit: u32)
+    requires conit { conit < replica.now.core.setup.conits }
+    requires places { replica.now.core.setup.conits ≤ length totals.old.items }
+    ensures { totals.new.items ≡ slice_set totals.old.items conit (reserved_on replica.now.core.budgets conit) }
+{
+    totals[conit as usize] = replica.budgets().reserved(conit);
 }
 
 // Counts an entry that is no call among those made for a client.

@@ -100,31 +100,9 @@ impl<'n, 'd, G: Gate> Turn<'n, 'd, G> {
         ensures fault_seen { IfErr result (IsFaultSeen session.new) }
         ensures err { OnErr result ((self.new.state.core ≡ self.old.state.core) × (self.new.state.stored ≡ self.old.state.stored) × (self.new.state.totals ≡ self.old.state.totals)) }
     {
-        let node = self.node;
-        node.gate.reached(session.replica, session.client);
         self.locked.stand();
-        self.held.agree(&mut session.tally);
-        let answer = self.locked.call(
-            node.desk,
-            &mut session.note,
-            moment,
-            session.client,
-            request,
-        );
-        match answer {
-            Ok(reply) => {
-                count(
-                    &mut self.held,
-                    &mut session.tally,
-                    session.conits,
-                    session.client,
-                );
-                session.calls += 1;
-                session.made += 1;
-                Ok(reply)
-            }
-            Err(fault) => Err(fault),
-        }
+        let mut none = self.node.empty(session, 0);
+        self.ask(session, &mut none, moment, request)
     }
 
     /// Gives the lock back.
@@ -139,7 +117,7 @@ impl<'n, 'd, G: Gate> Turn<'n, 'd, G> {
 }
 
 // Counts a call among a client's turns and among the entries made for it, in the totals and in the tally that owns them.
-fn count(held: &mut Held<'_, Locked>, tally: &mut Tally<Label>, conits: u32, client: u32)
+pub(crate) fn count(held: &mut Held<'_, Locked>, tally: &mut Tally<Label>, conits: u32, client: u32)
     requires cell { tally.old.id ≡ held.old.cell.id }
     requires client { client < CLIENTS }
     requires few { conits ≤ CONITS_MAX }

@@ -1,9 +1,25 @@
-use Rattle.std.proofs.Common.{refl}
+use Rattle.std.proofs.Common.{◌≡◌, ◌<◌, refl, sym, ap, ◌∙◌, subst}
+use Rattle.tact_base.specs.Setup.{Setup, IsSetup}
 use Rattle.run_model.specs.Histories.{calls_in, moment_at}
+use Rattle.run_model.specs.Missing.{reserved}
+use Rattle.run_model.specs.Runs.{IsRun}
 use Rattle.run_model.proofs.PrefixLemmas.{IsPrefix-trans}
+use Rattle.replica_lock.specs.Answering.{MayAskWith}
 use Rattle.replica_lock.specs.Locks.{LockedView, part_in}
+use Rattle.replica_lock.proofs.Allowing.{in_range-asked}
 use Rattle.replica_lock.proofs.Entering.{call_entry, IfOk-learnt}
 use Rattle.replica_lock.proofs.locked.Locked.call.Goals as goal
+
+pub enter_call-answer-requires-clause-in_range : goal.enter_call-answer-requires-clause-in_range
+enter_call-answer-requires-clause-in_range c =
+    let locked = c.learn.new.self in
+    let value = c.learn.ensures.value in
+    let setup : locked.core.setup ≡ c.args.desk.now.setup = ap (λ (v : LockedView). v.core.setup) value ∙ c.requires.desk.1 in
+    in_range-asked locked c.args.conit c.args.request c.learn.ensures.kept (subst IsSetup (sym setup) c.requires.sound)
+    (subst (λ (s : Setup). IsRun s locked.clerk.seen) (sym setup) c.learn.ensures.run)
+    (subst (λ (s : Setup). locked.core.replica < s.replicas) (sym setup) c.learn.ensures.among)
+    (subst (λ (v : LockedView). c.args.conit < v.core.setup.conits) (sym value) c.requires.conit)
+    (subst (λ (v : LockedView). MayAskWith v.core.setup c.args.conit (reserved (part_in v) c.args.conit) c.args.request) (sym value) c.requires.asked)
 
 pub returns-clause-entered : goal.returns-clause-entered
 returns-clause-entered c = rw c.tell.ensures.value

@@ -1,8 +1,9 @@
-use Rattle.std.proofs.Common.{replicate, refl, sym, ap, ◌∙◌, subst}
+use Rattle.std.proofs.Common.{◌<◌, replicate, set, refl, sym, ap, ◌∙◌, subst}
+use Rattle.split_budget.specs.Budgets.{reserved_on}
 use Rattle.tact_base.specs.Setup.{Setup}
 use Rattle.run_model.specs.Histories.{calls_in, moment_at}
 use Rattle.replica_lock.specs.Locks.{HasEntered, LockedView, part_in, made_place, turns_place, one_more_at}
-use Rattle.replica_lock.proofs.Entering.{goes_on-due, has_room, quiet-call, spelled, stands-spelled, IsLocked-call, HasEntered-drawn, drawn-grows}
+use Rattle.replica_lock.proofs.Entering.{goes_on-due, has_room, call-on, spelled, stands-spelled, IsLocked-call, HasEntered-drawn, drawn-grows}
 use Rattle.replica_lock.proofs.locked.Locked.enter_call.Goals as goal
 
 pub draw-requires-clause-due : goal.draw-requires-clause-due
@@ -41,8 +42,9 @@ invariant_of-self-2 c =
     (c.replica_number-replica.ensures ∙ ap (λ (v : LockedView). v.core.replica) is)
     (c.moment_after-at.ensures ∙ ap (λ (v : LockedView). moment_at (part_in v) c.args.moment) is)
     (c.calls_of-number.ensures ∙ ap (λ (v : LockedView). calls_in (part_in v) c.args.client) is) in
-    let totals = c.count_call.ensures ∙ ap (λ n. one_more_at (made_place n c.args.client) (one_more_at (turns_place n c.args.client) c.self.inside.totals.items)) c.self.invariant.1 in (
-      IsLocked-call _ _ _ c.args.client _ c.self.invariant.0 c.requires.client c.in_ok-reply.ensures.same c.draw.ensures.drawn c.draw.ensures.stored (quiet-call _ _ _ _ c.requires.plain) stands totals,
+    let totals = c.set_reserved.ensures ∙ ap (λ t. set t c.args.conit (reserved_on c.call.new.self.core.budgets c.args.conit))
+    (c.count_call.ensures ∙ ap (λ n. one_more_at (made_place n c.args.client) (one_more_at (turns_place n c.args.client) c.self.inside.totals.items)) c.self.invariant.1) in (
+      IsLocked-call _ _ _ c.args.client _ c.self.invariant.0 c.requires.client c.in_ok-reply.ensures.same c.draw.ensures.drawn c.draw.ensures.stored c.args.conit (call-on _ _ _ _ _ _ _ c.requires.asked) (subst (λ (v : LockedView). c.args.conit < v.core.setup.conits) is c.requires.conit) stands totals,
       c.self.invariant.1 ∙ sym (ap (λ (s : Setup). s.conits) c.in_ok-reply.ensures.same.0),
       c.self.invariant.2 ∙ sym (ap (λ (s : Setup). replicate s.replicas 0) c.in_ok-reply.ensures.same.0),
     )
@@ -54,8 +56,9 @@ returns-clause-kept c =
     (c.replica_number-replica.ensures ∙ ap (λ (v : LockedView). v.core.replica) is)
     (c.moment_after-at.ensures ∙ ap (λ (v : LockedView). moment_at (part_in v) c.args.moment) is)
     (c.calls_of-number.ensures ∙ ap (λ (v : LockedView). calls_in (part_in v) c.args.client) is) in
-    let totals = c.count_call.ensures ∙ ap (λ n. one_more_at (made_place n c.args.client) (one_more_at (turns_place n c.args.client) c.self.inside.totals.items)) c.self.invariant.1 in
-    IsLocked-call _ _ _ c.args.client _ c.self.invariant.0 c.requires.client c.in_ok-reply.ensures.same c.draw.ensures.drawn c.draw.ensures.stored (quiet-call _ _ _ _ c.requires.plain) stands totals
+    let totals = c.set_reserved.ensures ∙ ap (λ t. set t c.args.conit (reserved_on c.call.new.self.core.budgets c.args.conit))
+    (c.count_call.ensures ∙ ap (λ n. one_more_at (made_place n c.args.client) (one_more_at (turns_place n c.args.client) c.self.inside.totals.items)) c.self.invariant.1) in
+    IsLocked-call _ _ _ c.args.client _ c.self.invariant.0 c.requires.client c.in_ok-reply.ensures.same c.draw.ensures.drawn c.draw.ensures.stored c.args.conit (call-on _ _ _ _ _ _ _ c.requires.asked) (subst (λ (v : LockedView). c.args.conit < v.core.setup.conits) is c.requires.conit) stands totals
 
 pub returns-clause-entered : goal.returns-clause-entered
 returns-clause-entered c =
@@ -65,7 +68,7 @@ returns-clause-entered c =
     (c.replica_number-replica.ensures ∙ ap (λ (v : LockedView). v.core.replica) is)
     (c.moment_after-at.ensures ∙ ap (λ (v : LockedView). moment_at (part_in v) c.args.moment) is)
     (c.calls_of-number.ensures ∙ ap (λ (v : LockedView). calls_in (part_in v) c.args.client) is) in
-    let after : LockedView = record { core = c.call.new.self.core; clerk = c.draw.new.clerk; stored = c.draw.new.stored.items; totals = c.count_call.new.totals.items; spare = c.call.new.self.spare; room = c.draw.new.stored.room } in
+    let after : LockedView = record { core = c.call.new.self.core; clerk = c.draw.new.clerk; stored = c.draw.new.stored.items; totals = c.set_reserved.new.totals.items; spare = c.call.new.self.spare; room = c.draw.new.stored.room } in
     let entered = HasEntered-drawn before after _ c.args.client _ c.self.invariant.0 c.requires.client c.in_ok-reply.ensures.same c.draw.ensures.drawn c.draw.ensures.stored
     (c.replica_number-replica.ensures ∙ ap (λ (v : LockedView). v.core.replica) is) (sym c.requires.desk.1 ∙ ap (λ (v : LockedView). v.core.setup) is) in
     rw (← c.self.view_is, c.copied-answer.ensures) (subst (λ e. HasEntered before after c.self.inside.clerk.seen e) (sym same) entered)

@@ -1,51 +1,29 @@
-use Rattle.std.proofs.Common.{◌+◌, sym, ap, ◌∙◌, subst}
-use Rattle.run_model.specs.Histories.{calls_in, IsPrefix}
-use Rattle.run_model.specs.Runs.{IsRun}
-use Rattle.run_history.specs.Ticks.{entries_of}
-use Rattle.replica_lock.specs.Faults.{IsNodeFaultOf}
-use Rattle.weight_ledger.specs.Seen.{TallyView}
-use Rattle.replica_lock.specs.Sessions.{IsSessionOf, TurnView, NodeView, SessionView}
-use Rattle.replica_lock.specs.contracts.session.Session.{the_view}
-use Rattle.replica_lock.proofs.Seeing.{HasCalled-entered, HasHeard-learnt, IsFaultSeen-of}
-use Rattle.replica_lock.proofs.Turning.{tells, session_as}
+use Rattle.std.proofs.Common.{◌≡◌, ◌<◌, IfOk, ap, ◌∙◌, subst, arith}
+use Rattle.tact_base.specs.Setup.{Setup}
+use Rattle.replica_lock.specs.Allowances.{AllowanceView}
+use Rattle.replica_lock.specs.Answering.{HasAnswered}
+use Rattle.replica_lock.specs.Locks.{IsLocked}
+use Rattle.replica_lock.specs.Sessions.{TurnView}
+use Rattle.replica_lock.proofs.Calling.{IsAllowanceOf-empty, first-conit, totals-plain}
+use Rattle.replica_lock.proofs.Turning.{turn-setup}
 use Rattle.replica_lock.proofs.turn.Turn.call.Goals as goal
 
-pub returns-in-Ok-clause-called : goal.returns-in-Ok-clause-called
-returns-in-Ok-clause-called g c =
-    let before : SessionView = the_view c.session.inside in
-    let at = ap (λ (t : TurnView). t.node) c.self.view_is in
-    let of : IsSessionOf c.self.inside.node.now before =
-    subst (λ n. IsSessionOf n before) (sym at) (subst (IsSessionOf c.args.self.now.node) (sym c.session.view_is) c.requires.session) in
-    let knows = tells c.self.inside.node.now c.self.inside.held c.self.inside.locked before c.session.inside.tally c.self.invariant c.stand.ensures of c.session.invariant c.agree.ensures.owned in
-    let value = session_as c.session.inside.replica c.session.inside.conits c.session.inside.client (c.session.inside.calls + 1) (c.session.inside.made + 1) _ _ _ _ _ _
-    (ap (λ (t : TallyView). t.id) (c.count.ensures.id ∙ ap (λ (t : TallyView). record t { amounts = c.count.new.tally.amounts }) c.agree.ensures.tally)) c.in-Ok.ensures.note.0 c.in-Ok.ensures.note.1 in
-    rw (← c.self.view_is, ← c.session.view_is) (HasCalled-entered _ c.self.invariant.keeps.sound _ c.call-answer.new.self _ _ _ _ _ knows.setup knows.replica knows.calls knows.known c.in-Ok.ensures.entered value)
+pub empty-none-requires-clause-conit : goal.empty-none-requires-clause-conit
+empty-none-requires-clause-conit g c = first-conit c.self.inside.node.now.desk.setup c.self.invariant.keeps.sound
 
-pub returns-in-Err-clause-refused : goal.returns-in-Err-clause-refused
-returns-in-Err-clause-refused g c =
-    let before : SessionView = the_view c.session.inside in
-    let at = ap (λ (t : TurnView). t.node) c.self.view_is in
-    let of : IsSessionOf c.self.inside.node.now before =
-    subst (λ n. IsSessionOf n before) (sym at) (subst (IsSessionOf c.args.self.now.node) (sym c.session.view_is) c.requires.session) in
-    let knows = tells c.self.inside.node.now c.self.inside.held c.self.inside.locked before c.session.inside.tally c.self.invariant c.stand.ensures of c.session.invariant c.agree.ensures.owned in
-    let told = c.in-Err.ensures in
-    let value = session_as c.session.inside.replica c.session.inside.conits c.session.inside.client c.session.inside.calls c.session.inside.made _ _ _ _ _ _
-    (ap (λ (t : TallyView). t.id) c.agree.ensures.tally) told.note.0 told.note.1 in
-    rw (← c.self.view_is, ← c.session.view_is) (HasHeard-learnt c.self.inside.node.now.desk.setup c.self.invariant.keeps.sound c.call-answer.new.self _ _ told.kept
-    (knows.replica ∙ sym told.label.1)
-    (knows.calls ∙ sym (ap (λ stored. calls_in (entries_of stored) c.session.inside.client) told.err.1))
-    knows.known
-    (subst (IsPrefix c.session.inside.note.seen) told.note.1 told.learnt.1)
-    (subst (IsRun c.self.inside.node.now.desk.setup) told.note.1 (subst (λ (n : NodeView). IsRun n.desk.setup c.call-answer.new.note.seen) c.node.view_is told.run))
-    value)
+pub ask-requires-clause-allowance : goal.ask-requires-clause-allowance
+ask-requires-clause-allowance g c =
+    IsAllowanceOf-empty c.self.inside.node.now c.args.self.now.node 0 c.empty-none.result c.empty-none.ensures.empty (ap (λ (t : TurnView). t.node) c.self.view_is)
+    (first-conit c.self.inside.node.now.desk.setup c.self.invariant.keeps.sound)
 
-pub returns-in-Err-clause-fault_seen : goal.returns-in-Err-clause-fault_seen
-returns-in-Err-clause-fault_seen g c =
-    let before : SessionView = the_view c.session.inside in
-    let at = ap (λ (t : TurnView). t.node) c.self.view_is in
-    let of : IsSessionOf c.self.inside.node.now before =
-    subst (λ n. IsSessionOf n before) (sym at) (subst (IsSessionOf c.args.self.now.node) (sym c.session.view_is) c.requires.session) in
-    let knows = tells c.self.inside.node.now c.self.inside.held c.self.inside.locked before c.session.inside.tally c.self.invariant c.stand.ensures of c.session.invariant c.agree.ensures.owned in
-    let told = c.in-Err.ensures in
-    let new : SessionView = record { cell = c.agree.new.tally.id; desk = c.call-answer.new.note.table; conits = c.session.inside.conits; replica = c.session.inside.replica; client = c.session.inside.client; calls = c.session.inside.calls; made = c.session.inside.made; seen = c.call-answer.new.note.seen } in
-    IsFaultSeen-of c.self.inside.node.now.desk.setup c.self.invariant.keeps.sound c.call-answer.new.self new c.in-Err.fault told.kept (knows.replica ∙ sym told.label.1) told.note.1 (subst (λ (n : NodeView). IsRun n.desk.setup c.call-answer.new.note.seen) c.node.view_is told.run) (subst (λ core. IsNodeFaultOf core c.in-Err.fault) (sym told.err.0) told.fault)
+pub returns-clause-totals : goal.returns-clause-totals
+returns-clause-totals g c =
+    let setup = turn-setup c.self.inside.node.now c.self.inside.held c.self.inside.locked c.self.invariant in
+    let width = subst (λ (t : TurnView). t.node.desk.setup.conits ≡ t.state.core.setup.conits) c.self.view_is (ap (λ (s : Setup). s.conits) setup) in
+    let some = subst (λ (t : TurnView). 0 < t.node.desk.setup.conits) c.self.view_is (first-conit c.self.inside.node.now.desk.setup c.self.invariant.keeps.sound) in
+    let conit = ap (λ (a : AllowanceView). a.conit) c.empty-none.ensures.empty in
+    let answered = subst (λ session. IfOk c.ask.result (HasAnswered c.args.self.now c.ask.new.self session c.ask.new.session c.args.moment 0 c.args.request)) c.empty-none.ensures.session
+    (subst (λ at. IfOk c.ask.result (HasAnswered c.args.self.now c.ask.new.self c.empty-none.new.session c.ask.new.session c.args.moment at c.args.request)) conit c.ask.ensures.answered) in
+    totals-plain c.args.self.now c.ask.new.self c.args.session.now c.ask.new.session c.args.moment c.args.request c.requires.plain
+    (subst (λ (t : TurnView). IsLocked t.state) c.self.view_is c.stand.ensures) c.ask.ensures.kept
+    (c.requires.session.conits ∙ width) (omega (arith, c.requires.session.conits, some)) c.ask.result answered

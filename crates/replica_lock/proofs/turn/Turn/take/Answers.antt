@@ -1,22 +1,17 @@
-use Rattle.std.proofs.Common.{◌+◌, refl, sym, ap, ◌∙◌, subst}
-use Rattle.run_model.specs.Histories.{calls_in, IsPrefix}
+use Rattle.std.proofs.Common.{◌+◌, refl, ap, ◌∙◌, subst}
 use Rattle.run_model.specs.Runs.{IsRun}
-use Rattle.run_history.specs.Ticks.{entries_of}
-use Rattle.replica_lock.specs.Faults.{IsNodeFaultOf}
 use Rattle.weight_ledger.specs.Seen.{TallyView}
-use Rattle.replica_lock.specs.Sessions.{IsSessionOf, TurnView, NodeView, SessionView}
+use Rattle.replica_lock.specs.Sessions.{IsSessionOf, NodeView, SessionView}
 use Rattle.replica_lock.specs.contracts.session.Session.{the_view}
 use Rattle.replica_lock.proofs.Made.{HasMade-entered}
-use Rattle.replica_lock.proofs.Seeing.{HasHeard-learnt, IsFaultSeen-of}
+use Rattle.replica_lock.proofs.Told.{HasToldNothing, fault-nothing, heard-nothing, session_of}
 use Rattle.replica_lock.proofs.Turning.{tells, session_as}
 use Rattle.replica_lock.proofs.turn.Turn.take.Goals as goal
 
 pub returns-in-Ok-clause-taken : goal.returns-in-Ok-clause-taken
 returns-in-Ok-clause-taken g c =
     let before : SessionView = the_view c.session.inside in
-    let at = ap (λ (t : TurnView). t.node) c.self.view_is in
-    let of : IsSessionOf c.self.inside.node.now before =
-    subst (λ n. IsSessionOf n before) (sym at) (subst (IsSessionOf c.args.self.now.node) (sym c.session.view_is) c.requires.session) in
+    let of : IsSessionOf c.self.inside.node.now before = session_of _ _ before _ c.self.view_is c.session.view_is c.requires.session in
     let knows = tells c.self.inside.node.now c.self.inside.held c.self.inside.locked before c.session.inside.tally c.self.invariant c.stand.ensures of c.session.invariant c.agree.ensures.owned in
     let value = session_as c.session.inside.replica c.session.inside.conits c.session.inside.client c.session.inside.calls (c.session.inside.made + 1) _ _ _ _ _ _
     (ap (λ (t : TallyView). t.id) (c.count_made.ensures.id ∙ ap (λ (t : TallyView). record t { amounts = c.count_made.new.tally.amounts }) c.agree.ensures.tally)) c.in-Ok.ensures.note.0 c.in-Ok.ensures.note.1 in
@@ -26,28 +21,34 @@ returns-in-Ok-clause-taken g c =
 pub returns-in-Err-clause-refused : goal.returns-in-Err-clause-refused
 returns-in-Err-clause-refused g c =
     let before : SessionView = the_view c.session.inside in
-    let at = ap (λ (t : TurnView). t.node) c.self.view_is in
-    let of : IsSessionOf c.self.inside.node.now before =
-    subst (λ n. IsSessionOf n before) (sym at) (subst (IsSessionOf c.args.self.now.node) (sym c.session.view_is) c.requires.session) in
-    let knows = tells c.self.inside.node.now c.self.inside.held c.self.inside.locked before c.session.inside.tally c.self.invariant c.stand.ensures of c.session.invariant c.agree.ensures.owned in
+    let of : IsSessionOf c.self.inside.node.now before = session_of _ _ before _ c.self.view_is c.session.view_is c.requires.session in
     let told = c.in-Err.ensures in
-    let value = session_as c.session.inside.replica c.session.inside.conits c.session.inside.client c.session.inside.calls c.session.inside.made _ _ _ _ _ _
-    (ap (λ (t : TallyView). t.id) c.agree.ensures.tally) told.note.0 told.note.1 in
-    rw (← c.self.view_is, ← c.session.view_is) (HasHeard-learnt c.self.inside.node.now.desk.setup c.self.invariant.keeps.sound c.take-answer.new.self _ _ told.kept
-    (knows.replica ∙ sym told.label.1)
-    (knows.calls ∙ sym (ap (λ stored. calls_in (entries_of stored) c.session.inside.client) told.err.1))
-    knows.known
-    (subst (IsPrefix c.session.inside.note.seen) told.note.1 told.learnt.1)
-    (subst (IsRun c.self.inside.node.now.desk.setup) told.note.1 (subst (λ (n : NodeView). IsRun n.desk.setup c.take-answer.new.note.seen) c.node.view_is told.run))
-    value)
+    let nothing : HasToldNothing c.self.inside.node.now.desk.setup c.self.inside.locked c.take-answer.new.self before c.agree.new.tally.id c.take-answer.new.note = record {
+      kept = told.kept;
+      replica = told.label.1;
+      stored = told.err.1;
+      cell_is = ap (λ (t : TallyView). t.id) c.agree.ensures.tally;
+      desk_is = told.note.0;
+      seen = told.note.1;
+      told = told.learnt.1;
+      run = subst (λ (n : NodeView). IsRun n.desk.setup c.take-answer.new.note.seen) c.node.view_is told.run;
+    } in
+    rw (← c.self.view_is, ← c.session.view_is)
+    (heard-nothing _ _ _ before _ c.self.invariant c.stand.ensures of c.session.invariant c.agree.ensures.owned c.take-answer.new.self _ _ nothing)
 
 pub returns-in-Err-clause-fault_seen : goal.returns-in-Err-clause-fault_seen
 returns-in-Err-clause-fault_seen g c =
     let before : SessionView = the_view c.session.inside in
-    let at = ap (λ (t : TurnView). t.node) c.self.view_is in
-    let of : IsSessionOf c.self.inside.node.now before =
-    subst (λ n. IsSessionOf n before) (sym at) (subst (IsSessionOf c.args.self.now.node) (sym c.session.view_is) c.requires.session) in
-    let knows = tells c.self.inside.node.now c.self.inside.held c.self.inside.locked before c.session.inside.tally c.self.invariant c.stand.ensures of c.session.invariant c.agree.ensures.owned in
+    let of : IsSessionOf c.self.inside.node.now before = session_of _ _ before _ c.self.view_is c.session.view_is c.requires.session in
     let told = c.in-Err.ensures in
-    let new : SessionView = record { cell = c.agree.new.tally.id; desk = c.take-answer.new.note.table; conits = c.session.inside.conits; replica = c.session.inside.replica; client = c.session.inside.client; calls = c.session.inside.calls; made = c.session.inside.made; seen = c.take-answer.new.note.seen } in
-    IsFaultSeen-of c.self.inside.node.now.desk.setup c.self.invariant.keeps.sound c.take-answer.new.self new c.in-Err.fault.fault told.kept (knows.replica ∙ sym told.label.1) told.note.1 (subst (λ (n : NodeView). IsRun n.desk.setup c.take-answer.new.note.seen) c.node.view_is told.run) (subst (λ core. IsNodeFaultOf core c.in-Err.fault.fault) (sym told.err.0) told.fault)
+    let nothing : HasToldNothing c.self.inside.node.now.desk.setup c.self.inside.locked c.take-answer.new.self before c.agree.new.tally.id c.take-answer.new.note = record {
+      kept = told.kept;
+      replica = told.label.1;
+      stored = told.err.1;
+      cell_is = ap (λ (t : TallyView). t.id) c.agree.ensures.tally;
+      desk_is = told.note.0;
+      seen = told.note.1;
+      told = told.learnt.1;
+      run = subst (λ (n : NodeView). IsRun n.desk.setup c.take-answer.new.note.seen) c.node.view_is told.run;
+    } in
+    fault-nothing _ _ _ before _ c.self.invariant c.stand.ensures of c.session.invariant c.agree.ensures.owned c.take-answer.new.self _ _ nothing c.in-Err.fault.fault told.err.0 told.fault

@@ -1,0 +1,79 @@
+//! The library example of the README: two nodes on threads.
+ghost use Rattle.std.specs.Prelude.{◌≡◌};
+ghost use Rattle.replica_lock.specs.Sessions.{IsSessionOf};
+ghost use Rattle.lock_tests.specs.Posts.{IsBoxOf, IsBoxOfAnother};
+
+use crate::opened::{Opened, node_of, open_two, plain_read, plain_write};
+use crate::postbox::Postbox;
+use crate::records::said_of;
+use crate::writers::session;
+use link_faults::LinkPlan;
+use replica_lock::{Node, Session};
+use run_history::Desk;
+use run_model::Reply;
+use std::process::Abort;
+use std::sync::Wait;
+use std::test::Fail;
+use std::thread;
+use tact_io::FreeGate;
+
+const SAID: &[u8] = b"run 8 calls 4 writes 2 waits 0 sends 2 takes 2 lends 0 backs 0 restarts 0\n";
+
+// A client of one of two replicas: adds 1 to a key, tells the other replica, takes what comes from there, and reads.
+fn visit<R: Wait + Abort>(
+    rt: &R,
+    desk: &Desk,
+    node: &Node<'_, FreeGate>,
+    mut session: Session,
+    here: &Postbox,
+    there: &Postbox,
+) -> i64
+    requires session { IsSessionOf node.now session }
+    requires desk { node.now.desk ≡ desk.now }
+    requires here { IsBoxOf node.now here.now }
+    requires there { IsBoxOfAnother node.now there.now }
+{
+    node.call(rt, &mut session, 0, plain_write(rt))
+        .expect(rt, "a write");
+    let parcel = node
+        .send(rt, &mut session, 0, there.to())
+        .expect(rt, "a parcel");
+    there.put(rt, desk, parcel);
+    let Ok(()) = node.take(rt, &mut session, 0, here.wait(rt)) else {
+        panic!(rt; "it wasn't taken")
+    };
+    match node.call(rt, &mut session, 0, plain_read(rt)) {
+        Ok(Reply::Value { value, .. }) => value,
+        _ => panic!(rt; "no value"),
+    }
+}
+
+#[test]
+fn two_nodes_on_threads(rt: HostRuntime) -> Result<(), Fail> {
+    let Opened {
+        desk,
+        config,
+        first,
+        second,
+    } = open_two(rt.alloc())?;
+    let (north, mut north_roster) = node_of(&rt, rt.alloc(), &desk, &config, first);
+    let (south, mut south_roster) = node_of(&rt, rt.alloc(), &desk, &config, second);
+    let mut ann = session(&rt, &north, &mut north_roster, 0);
+    let mut bob = session(&rt, &south, &mut south_roster, 0);
+    let plan = LinkPlan::default();
+    let (to_north, north_key) = Postbox::new(&rt, rt.alloc(), plan, north.note(&mut ann), 0);
+    let (to_south, south_key) = Postbox::new(&rt, rt.alloc(), plan, south.note(&mut bob), 1);
+    let values = thread::join(
+        &rt,
+        || visit(&rt, &desk, &north, ann, &to_north, &to_south),
+        || visit(&rt, &desk, &south, bob, &to_south, &to_north),
+    );
+    to_north.end(&rt, north_key);
+    to_south.end(&rt, south_key);
+    let north = north.finish(&rt, north_roster).stored;
+    let south = south.finish(&rt, south_roster).stored;
+    let said = said_of(rt.alloc(), &config, &[&north, &south])?;
+    assert_eq!(rt; values, (2, 2));
+    assert_eq!(rt; said.items(), SAID);
+    Ok(())
+}

@@ -1,0 +1,86 @@
+use Rattle.std.proofs.Common.{◌≡◌, ◌+◌, ◌-◌, set, sym, ap, ◌∙◌, subst, arith}
+use Rattle.tact_base.specs.Setup.{Setup}
+use Rattle.run_model.specs.Missing.{granted_on, used_on, reserved}
+use Rattle.run_model.specs.Runs.{IsRun}
+use Rattle.weight_ledger.specs.Seen.{TallyView}
+use Rattle.replica_lock.specs.Allowances.{AllowanceView}
+use Rattle.replica_lock.specs.Answering.{MayAskWith}
+use Rattle.replica_lock.specs.Locks.{made_place, one_more_at, part_in, turns_place}
+use Rattle.replica_lock.specs.Sessions.{IsSessionOf, NodeView, SessionView}
+use Rattle.replica_lock.specs.contracts.session.Session.{the_view}
+use Rattle.replica_lock.proofs.Allowing.{used-most, reserved-entered, entered-due}
+use Rattle.replica_lock.proofs.Seeing.{HasCalled-entered}
+use Rattle.replica_lock.proofs.Told.{HasToldNothing, KeepsSession-counted, allowance_as, calls-entered, calls-seen, fault-nothing, heard-nothing, session_of}
+use Rattle.replica_lock.proofs.Turning.{tells, session_as}
+use Rattle.replica_lock.proofs.turn.Turn.ask.Goals as goal
+
+pub move_total-requires-clause-enough : goal.move_total-requires-clause-enough
+move_total-requires-clause-enough g c =
+    let may = subst (λ (a : AllowanceView). MayAskWith c.args.self.now.node.desk.setup a.conit a.amount c.args.request) (sym c.allowance.view_is) c.requires.asked in
+    let used = used-most _ _ _ c.args.request c.in-Ok.reply may in
+    let moved = reserved-entered _ c.call-answer.new.self _ _ c.in-Ok.ensures.entered c.in-Ok.ensures.kept c.allowance.inside.conit in
+    omega (arith, used, moved, c.reserved-before.ensures.reserved, c.reserved-after.ensures.reserved)
+
+pub invariant_of-session : goal.invariant_of-session
+invariant_of-session g c =
+    let before : SessionView = the_view c.session.inside in
+    let of : IsSessionOf c.self.inside.node.now before = session_of _ _ before _ c.self.view_is c.session.view_is c.requires.session in
+    let knows = tells c.self.inside.node.now c.self.inside.held c.self.inside.locked before c.session.inside.tally c.self.invariant c.stand.ensures of c.session.invariant c.agree.ensures.owned in
+    let told = c.in-Ok.ensures in
+    let pushed = calls-entered _ c.call-answer.new.self _ _ _ _ _ _ told.entered in
+    KeepsSession-counted before c.session.inside.tally c.agree.new.tally c.count.new.tally _ _ _ c.session.invariant c.agree.ensures.tally c.count.ensures.id c.count.ensures.turns c.count.ensures.made
+    (calls-seen c.call-answer.new.self _ _ _ told.kept told.note.1 (knows.replica ∙ sym told.label.1) ∙ pushed ∙ ap (λ n. n + 1) (sym knows.calls))
+
+pub returns-in-Ok-clause-moved : goal.returns-in-Ok-clause-moved
+returns-in-Ok-clause-moved g c =
+    let may = subst (λ (a : AllowanceView). MayAskWith c.args.self.now.node.desk.setup a.conit a.amount c.args.request) (sym c.allowance.view_is) c.requires.asked in
+    let used = used-most _ _ _ c.args.request c.in-Ok.reply may in
+    let moved = reserved-entered _ c.call-answer.new.self _ _ c.in-Ok.ensures.entered c.in-Ok.ensures.kept c.allowance.inside.conit in
+    let conit = c.allowance.inside.conit in
+    let amounts : c.allowance.inside.amount + c.reserved-after.result - c.reserved-before.result
+    ≡ c.allowance.inside.amount + granted_on conit c.args.request c.in-Ok.reply - used_on conit c.args.request c.in-Ok.reply =
+    omega (arith, used, moved, c.reserved-before.ensures.reserved, c.reserved-after.ensures.reserved) in
+    rw (← c.allowance.view_is)
+    (c.move_total.ensures.allowance ∙ allowance_as c.allowance.inside.replica conit _ _ _ _ (ap (λ (t : TallyView). t.id) c.agree-2.ensures.tally) amounts)
+
+pub returns-in-Ok-clause-answered : goal.returns-in-Ok-clause-answered
+returns-in-Ok-clause-answered g c =
+    let before : SessionView = the_view c.session.inside in
+    let of : IsSessionOf c.self.inside.node.now before = session_of _ _ before _ c.self.view_is c.session.view_is c.requires.session in
+    let knows = tells c.self.inside.node.now c.self.inside.held c.self.inside.locked before c.session.inside.tally c.self.invariant c.stand.ensures of c.session.invariant c.agree.ensures.owned in
+    let told = c.in-Ok.ensures in
+    let value = session_as c.session.inside.replica c.session.inside.conits c.session.inside.client (c.session.inside.calls + 1) (c.session.inside.made + 1) _ _ _ _ _ _
+    (ap (λ (t : TallyView). t.id) (c.count.ensures.id ∙ ap (λ (t : TallyView). record t { amounts = c.count.new.tally.amounts }) c.agree.ensures.tally)) told.note.0 told.note.1 in
+    let width = of.conits ∙ ap (λ (s : Setup). s.conits) knows.setup in
+    let conit = c.allowance.inside.conit in
+    let client = c.session.inside.client in
+    rw (← c.self.view_is, ← c.session.view_is, ← c.allowance.view_is) (record {
+      entered = told.entered;
+      due = entered-due _ c.call-answer.new.self _ c.args.moment client _ c.args.request c.in-Ok.reply told.entered;
+      totals = told.totals ∙ ap (λ n. set (one_more_at (made_place n client) (one_more_at (turns_place n client) c.self.inside.locked.totals)) conit (reserved (part_in c.call-answer.new.self) conit)) (sym width);
+      called = HasCalled-entered _ c.self.invariant.keeps.sound _ c.call-answer.new.self _ _ _ _ _ knows.setup knows.replica knows.calls knows.known told.entered value;
+    })
+
+pub returns-in-Err-clause-refused : goal.returns-in-Err-clause-refused
+returns-in-Err-clause-refused g c =
+    let before : SessionView = the_view c.session.inside in
+    let of : IsSessionOf c.self.inside.node.now before = session_of _ _ before _ c.self.view_is c.session.view_is c.requires.session in
+    let told = c.in-Err.ensures in
+    let nothing : HasToldNothing c.self.inside.node.now.desk.setup c.self.inside.locked c.call-answer.new.self before c.agree.new.tally.id c.call-answer.new.note = record {
+      kept = told.kept;
+      replica = told.label.1;
+      stored = told.err.1;
+      cell_is = ap (λ (t : TallyView). t.id) c.agree.ensures.tally;
+      desk_is = told.note.0;
+      seen = told.note.1;
+      told = told.learnt.1;
+      run = subst (λ (n : NodeView). IsRun n.desk.setup c.call-answer.new.note.seen) c.node.view_is told.run;
+    } in
+    rw (← c.self.view_is, ← c.session.view_is) (record {
+      core = told.err.0;
+      stored = told.err.1;
+      totals = told.err.2;
+      heard = heard-nothing _ _ _ before _ c.self.invariant c.stand.ensures of c.session.invariant c.agree.ensures.owned c.call-answer.new.self _ _ nothing;
+      fault = told.fault;
+      fault_seen = fault-nothing _ _ _ before _ c.self.invariant c.stand.ensures of c.session.invariant c.agree.ensures.owned c.call-answer.new.self _ _ nothing c.in-Err.fault told.err.0 told.fault;
+    })

@@ -1,0 +1,396 @@
+//! What a node lends of its own bounds, and gives back of its shares of others'.
+ghost use Rattle.std.specs.Prelude.{◌≡◌, ◌≢◌, ◌+◌, ◌<◌, ◌≤◌, ◌^◌, List, slice_index, false, IfErr, OnErr, OnOk};
+ghost use Rattle.tact_base.specs.declared.limits.TheConstants.{AMOUNT_MAX, CLIENTS, MOMENT_MAX};
+ghost use Rattle.run_model.specs.Histories.{IsPrefix};
+ghost use Rattle.run_model.specs.Runs.{IsRun};
+ghost use Rattle.run_model.specs.declared.entry.Act.TheVariants as act;
+ghost use Rattle.run_model.specs.declared.entry.Entry.{Entry};
+ghost use Rattle.replica_core.specs.Stands.{GoesOn, IsSameReplica, Stands};
+ghost use Rattle.replica_core.specs.States.{Core, is_full};
+ghost use Rattle.replica_lock.specs.Faults.{loan_fault};
+ghost use Rattle.replica_lock.specs.Loans.{IsLoanFaultOf, IsLoanFaultSeen, IsLoanInRange, act_of, amount_of, most_of};
+ghost use Rattle.replica_lock.specs.Locks.{HasEntered, IsLocked, IsOfDesk, entry_in, made_place, one_more_at, part_in};
+ghost use Rattle.replica_lock.specs.Sessions.{HasHeard, HasMade, IsSessionOf};
+ghost use Rattle.replica_lock.specs.declared.loan.Loan.TheVariants as loan;
+
+use crate::NodeLoanFault;
+use crate::loan::Loan;
+use crate::locked::{Locked, count_entry, draw, may_enter};
+use crate::node::Node;
+use crate::session::Session;
+use crate::turn::{Turn, count_made};
+use replica_core::{LoanFault, Replica};
+use run_history::{Desk, Note};
+use run_model::{Act, Entry};
+use std::sync::Wait;
+use tact_base::RoomyList;
+use tact_io::Gate;
+
+impl<'d, G: Gate> Node<'d, G> {
+    /// Lends a holder a further amount of its own bound on a conit, in a turn of its own. The moment of the entry is the
+    /// greater of the handed one and that of the replica's last entry. `Full` comes first, then `Home` exactly where the amount
+    /// passes what is at home, then `NoMemory`. None makes an entry.
+    pub fn lend<R: Wait>(
+        &self,
+        rt: &R,
+        session: &mut Session,
+        moment: u64,
+        holder: u32,
+        conit: u32,
+        amount: u64,
+    ) -> Result<(), NodeLoanFault>
+        requires session { IsSessionOf self.now session.old }
+        requires moment { moment ≤ MOMENT_MAX }
+        requires holder { holder < self.now.desk.setup.replicas }
+        requires other { holder ≢ self.now.replica }
+        requires conit { conit < self.now.desk.setup.conits }
+        requires amount { amount ≤ AMOUNT_MAX }
+        ensures lent { OnOk result (HasMade self.now.desk.setup session.old session.new moment (act.Lend holder conit amount)) }
+        ensures refused { OnErr result (HasHeard self.now.desk.setup session.old session.new) }
+        ensures fault { IfErr result (IsLoanFaultSeen self.now.desk.setup session.new (loan.Out holder conit amount)) }
+    {
+        let mut turn = self.turn(rt);
+        let answer = turn.lend(session, moment, holder, conit, amount);
+        turn.end();
+        answer
+    }
+
+    /// Gives back to an owner an amount of its share of that owner's bound on a conit, in a turn of its own. The moment of
+    /// the entry is the greater of the handed one and that of the replica's last entry. `Full` comes first, then `Free` exactly
+    /// where the amount passes what is free of the share, then `NoMemory`. None makes an entry.
+    pub fn give_back<R: Wait>(
+        &self,
+        rt: &R,
+        session: &mut Session,
+        moment: u64,
+        owner: u32,
+        conit: u32,
+        amount: u64,
+    ) -> Result<(), NodeLoanFault>
+        requires session { IsSessionOf self.now session.old }
+        requires moment { moment ≤ MOMENT_MAX }
+        requires owner { owner < self.now.desk.setup.replicas }
+        requires other { owner ≢ self.now.replica }
+        requires conit { conit < self.now.desk.setup.conits }
+        requires amount { amount ≤ AMOUNT_MAX }
+        ensures given { OnOk result (HasMade self.now.desk.setup session.old session.new moment (act.Back owner conit amount)) }
+        ensures refused { OnErr result (HasHeard self.now.desk.setup session.old session.new) }
+        ensures fault { IfErr result (IsLoanFaultSeen self.now.desk.setup session.new (loan.Back owner conit amount)) }
+    {
+        let mut turn = self.turn(rt);
+        let answer = turn.give_back(session, moment, owner, conit, amount);
+        turn.end();
+        answer
+    }
+}
+
+impl<'n, 'd, G: Gate> Turn<'n, 'd, G> {
+    /// Lends a holder a further amount of its own bound on a conit, as `Replica::lend` does; draws the entry and stores
+    /// it. The amount is a plain count. `Full` comes first, then `Home` exactly where the amount passes what is at home.
+    pub fn lend(
+        &mut self,
+        session: &mut Session,
+        moment: u64,
+        holder: u32,
+        conit: u32,
+        amount: u64,
+    ) -> Result<(), NodeLoanFault>
+        requires session { IsSessionOf self.old.node session.old }
+        requires moment { moment ≤ MOMENT_MAX }
+        requires holder { holder < self.old.node.desk.setup.replicas }
+        requires other { holder ≢ self.old.node.replica }
+        requires conit { conit < self.old.node.desk.setup.conits }
+        requires amount { amount ≤ AMOUNT_MAX }
+        ensures node { self.new.node ≡ self.old.node }
+        ensures kept { IsLocked self.new.state }
+        ensures entered { OnOk result (HasEntered self.old.state self.new.state session.old.seen (entry_in self.old.state moment (act.Lend holder conit amount))) }
+        ensures totals { OnOk result (self.new.state.totals ≡ one_more_at (made_place session.old.conits session.old.client) self.old.state.totals) }
+        ensures seen { session.new.seen ≡ self.new.state.clerk.seen }
+        ensures lent { OnOk result (HasMade self.old.node.desk.setup session.old session.new moment (act.Lend holder conit amount)) }
+        ensures refused { OnErr result (HasHeard self.old.node.desk.setup session.old session.new) }
+        ensures spare { self.new.state.spare ≡ self.old.state.spare }
+        ensures room { self.old.state.room ≤ self.new.state.room + 1 }
+        ensures fault { IfErr result (IsLoanFaultOf self.old.state.core (part_in self.old.state) (loan.Out holder conit amount)) }
+        ensures fault_seen { IfErr result (IsLoanFaultSeen self.old.node.desk.setup session.new (loan.Out holder conit amount)) }
+        ensures err { OnErr result ((self.new.state.core ≡ self.old.state.core) × (self.new.state.stored ≡ self.old.state.stored) × (self.new.state.totals ≡ self.old.state.totals)) }
+    {
+        self.move_loan(
+            session,
+            moment,
+            Loan::Out {
+                holder,
+                conit,
+                amount,
+            },
+        )
+    }
+
+    /// Gives back to an owner an amount of its share of that owner's bound on a conit, as `Replica::give_back` does; draws
+    /// the entry and stores it. The amount is a plain count. `Full` comes first, then `Free` exactly where the amount
+    /// passes what is free of the share.
+    pub fn give_back(
+        &mut self,
+        session: &mut Session,
+        moment: u64,
+        owner: u32,
+        conit: u32,
+        amount: u64,
+    ) -> Result<(), NodeLoanFault>
+        requires session { IsSessionOf self.old.node session.old }
+        requires moment { moment ≤ MOMENT_MAX }
+        requires owner { owner < self.old.node.desk.setup.replicas }
+        requires other { owner ≢ self.old.node.replica }
+        requires conit { conit < self.old.node.desk.setup.conits }
+        requires amount { amount ≤ AMOUNT_MAX }
+        ensures node { self.new.node ≡ self.old.node }
+        ensures kept { IsLocked self.new.state }
+        ensures entered { OnOk result (HasEntered self.old.state self.new.state session.old.seen (entry_in self.old.state moment (act.Back owner conit amount))) }
+        ensures totals { OnOk result (self.new.state.totals ≡ one_more_at (made_place session.old.conits session.old.client) self.old.state.totals) }
+        ensures seen { session.new.seen ≡ self.new.state.clerk.seen }
+        ensures given { OnOk result (HasMade self.old.node.desk.setup session.old session.new moment (act.Back owner conit amount)) }
+        ensures refused { OnErr result (HasHeard self.old.node.desk.setup session.old session.new) }
+        ensures spare { self.new.state.spare ≡ self.old.state.spare }
+        ensures room { self.old.state.room ≤ self.new.state.room + 1 }
+        ensures fault { IfErr result (IsLoanFaultOf self.old.state.core (part_in self.old.state) (loan.Back owner conit amount)) }
+        ensures fault_seen { IfErr result (IsLoanFaultSeen self.old.node.desk.setup session.new (loan.Back owner conit amount)) }
+        ensures err { OnErr result ((self.new.state.core ≡ self.old.state.core) × (self.new.state.stored ≡ self.old.state.stored) × (self.new.state.totals ≡ self.old.state.totals)) }
+    {
+        self.move_loan(
+            session,
+            moment,
+            Loan::Back {
+                owner,
+                conit,
+                amount,
+            },
+        )
+    }
+
+    // Makes the entry of a loan, and counts it among those made for the session's client.
+    fn move_loan(
+        &mut self,
+        session: &mut Session,
+        moment: u64,
+        loan: Loan,
+    ) -> Result<(), NodeLoanFault>
+        requires session { IsSessionOf self.old.node session.old }
+        requires moment { moment ≤ MOMENT_MAX }
+        requires loan { IsLoanInRange self.old.node.desk.setup self.old.node.replica loan }
+        ensures node { self.new.node ≡ self.old.node }
+        ensures kept { IsLocked self.new.state }
+        ensures entered { OnOk result (HasEntered self.old.state self.new.state session.old.seen (entry_in self.old.state moment (act_of loan))) }
+        ensures totals { OnOk result (self.new.state.totals ≡ one_more_at (made_place session.old.conits session.old.client) self.old.state.totals) }
+        ensures seen { session.new.seen ≡ self.new.state.clerk.seen }
+        ensures made { OnOk result (HasMade self.old.node.desk.setup session.old session.new moment (act_of loan)) }
+        ensures refused { OnErr result (HasHeard self.old.node.desk.setup session.old session.new) }
+        ensures spare { self.new.state.spare ≡ self.old.state.spare }
+        ensures room { self.old.state.room ≤ self.new.state.room + 1 }
+        ensures fault { IfErr result (IsLoanFaultOf self.old.state.core (part_in self.old.state) loan) }
+        ensures fault_seen { IfErr result (IsLoanFaultSeen self.old.node.desk.setup session.new loan) }
+        ensures err { OnErr result ((self.new.state.core ≡ self.old.state.core) × (self.new.state.stored ≡ self.old.state.stored) × (self.new.state.totals ≡ self.old.state.totals)) }
+    {
+        let node = self.node;
+        self.locked.stand();
+        self.held.agree(&mut session.tally);
+        let answer = self
+            .locked
+            .lend(node.desk, &mut session.note, moment, session.client, loan);
+        match answer {
+            Ok(()) => {
+                count_made(
+                    &mut self.held,
+                    &mut session.tally,
+                    session.conits,
+                    session.client,
+                );
+                session.made += 1;
+                Ok(())
+            }
+            Err(fault) => Err(fault),
+        }
+    }
+}
+
+impl Locked {
+    /// Makes the entry of a loan, for a session that has seen what a note has. The clerk learns the note; where it isn't
+    /// refused the loan is drawn and stored; then the note sees what the clerk has seen.
+    pub fn lend(
+        &mut self,
+        desk: &Desk,
+        note: &mut Note,
+        moment: u64,
+        client: u32,
+        loan: Loan,
+    ) -> Result<(), NodeLoanFault>
+        requires desk { IsOfDesk desk.now self.old }
+        requires note { note.old.table ≡ desk.now.table }
+        requires moment { moment ≤ MOMENT_MAX }
+        requires client { client < CLIENTS }
+        requires loan { IsLoanInRange self.old.core.setup self.old.core.replica loan }
+        ensures kept { IsLocked self.new }
+        ensures label { (self.new.core.setup ≡ self.old.core.setup) × (self.new.core.replica ≡ self.old.core.replica) × (self.new.clerk.table ≡ self.old.clerk.table) }
+        ensures note { (note.new.table ≡ note.old.table) × (note.new.seen ≡ self.new.clerk.seen) }
+        ensures run { IsRun desk.now.setup note.new.seen }
+        ensures entered { OnOk result (HasEntered self.old self.new note.old.seen (entry_in self.old moment (act_of loan))) }
+        ensures rooms { OnOk result (slice_index self.old.totals (made_place self.old.core.setup.conits client) + 1 < 2 ^ 64) }
+        ensures totals { OnOk result (self.new.totals ≡ one_more_at (made_place self.old.core.setup.conits client) self.old.totals) }
+        ensures spare { self.new.spare ≡ self.old.spare }
+        ensures room { self.old.room ≤ self.new.room + 1 }
+        ensures fault { IfErr result (IsLoanFaultOf self.old.core (part_in self.old) loan) }
+        ensures err { OnErr result ((self.new.core ≡ self.old.core) × (self.new.stored ≡ self.old.stored) × (self.new.totals ≡ self.old.totals)) }
+        ensures learnt { IsPrefix self.old.clerk.seen note.new.seen × IsPrefix note.old.seen note.new.seen }
+    {
+        self.learn(desk, note);
+        let answer = self.enter_loan(desk, moment, client, loan);
+        self.tell(desk, note);
+        answer
+    }
+
+    // Makes the entry of a loan.
+    fn enter_loan(
+        &mut self,
+        desk: &Desk,
+        moment: u64,
+        client: u32,
+        loan: Loan,
+    ) -> Result<(), NodeLoanFault>
+        requires desk { IsOfDesk desk.now self.old }
+        requires moment { moment ≤ MOMENT_MAX }
+        requires client { client < CLIENTS }
+        requires loan { IsLoanInRange self.old.core.setup self.old.core.replica loan }
+        ensures kept { IsLocked self.new }
+        ensures label { (self.new.core.setup ≡ self.old.core.setup) × (self.new.core.replica ≡ self.old.core.replica) × (self.new.clerk.table ≡ self.old.clerk.table) }
+        ensures entered { OnOk result (HasEntered self.old self.new self.old.clerk.seen (entry_in self.old moment (act_of loan))) }
+        ensures rooms { OnOk result (slice_index self.old.totals (made_place self.old.core.setup.conits client) + 1 < 2 ^ 64) }
+        ensures totals { OnOk result (self.new.totals ≡ one_more_at (made_place self.old.core.setup.conits client) self.old.totals) }
+        ensures grows { IsPrefix self.old.clerk.seen self.new.clerk.seen }
+        ensures run { IsRun desk.now.setup self.old.clerk.seen → IsRun desk.now.setup self.new.clerk.seen }
+        ensures spare { self.new.spare ≡ self.old.spare }
+        ensures room { self.old.room ≤ self.new.room + 1 }
+        ensures fault { IfErr result (IsLoanFaultOf self.old.core (part_in self.old) loan) }
+        ensures err { OnErr result ((self.new.core ≡ self.old.core) × (self.new.stored ≡ self.old.stored) × (self.new.totals ≡ self.old.totals) × (self.new.clerk ≡ self.old.clerk)) }
+    {
+        let replica = self.replica_number();
+        let at = self.moment_after(moment);
+        move_loan(&mut self.replica, &mut self.stored, moment, loan)?;
+        let done = act_of(loan);
+        let entry = Entry {
+            replica,
+            moment: at,
+            act: done,
+        };
+        draw(&mut self.clerk, &mut self.stored, desk, entry);
+        count_entry(&mut self.totals, self.conits, client);
+        Ok(())
+    }
+}
+
+// The act of a loan.
+fn act_of(loan: Loan) -> Act
+    ensures { result ≡ act_of loan }
+{
+    match loan {
+        Loan::Out {
+            holder,
+            conit,
+            amount,
+        } => Act::Lend {
+            to: holder,
+            conit,
+            amount,
+        },
+        Loan::Back {
+            owner,
+            conit,
+            amount,
+        } => Act::Back {
+            owner,
+            conit,
+            amount,
+        },
+    }
+}
+
+// What its amount is at most: what is at home, or what is free of a share.
+fn most_of(replica: &Replica, loan: Loan) -> u64
+    requires { IsLoanInRange replica.now.core.setup replica.now.core.replica loan }
+    ensures { (part : List Entry) → Stands part replica.now.core → result ≡ most_of replica.now.core.setup replica.now.core.replica part loan }
+{
+    match loan {
+        Loan::Out { conit, .. } => replica.budgets().home(conit),
+        Loan::Back { owner, conit, .. } => replica.budgets().free(owner, conit),
+    }
+}
+
+// Its amount.
+fn amount_of(loan: Loan) -> u64
+    ensures { result ≡ amount_of loan }
+{
+    match loan {
+        Loan::Out { amount, .. } => amount,
+        Loan::Back { amount, .. } => amount,
+    }
+}
+
+// Why it is refused where its amount passes so much.
+fn passes(loan: Loan, most: u64) -> NodeLoanFault
+    requires { most < amount_of loan }
+    ensures { (core : Core) (part : List Entry) → is_full core ≡ false → most ≡ most_of core.setup core.replica part loan → IsLoanFaultOf core part loan result }
+{
+    match loan {
+        Loan::Out { conit, .. } => NodeLoanFault::Home { conit, home: most },
+        Loan::Back { conit, .. } => NodeLoanFault::Free { conit, free: most },
+    }
+}
+
+// The replica makes the entry of a loan, which it may.
+fn make_loan(replica: &mut Replica, moment: u64, loan: Loan) -> Result<(), LoanFault>
+    requires moment { moment ≤ MOMENT_MAX }
+    requires loan { IsLoanInRange replica.old.core.setup replica.old.core.replica loan }
+    ensures goes_on { OnOk result (GoesOn replica.old.core replica.new.core moment (λ part. act_of loan)) }
+    ensures same { IsSameReplica replica.old.core replica.new.core }
+    ensures spare { replica.new.spare ≡ replica.old.spare }
+    ensures fault { IfErr result (λ told. (part : List Entry) → Stands part replica.old.core → IsLoanFaultOf replica.old.core part loan (loan_fault told)) }
+    ensures err { OnErr result (replica.new ≡ replica.old) }
+{
+    match loan {
+        Loan::Out {
+            holder,
+            conit,
+            amount,
+        } => replica.lend(moment, holder, conit, amount),
+        Loan::Back {
+            owner,
+            conit,
+            amount,
+        } => replica.give_back(moment, owner, conit, amount),
+    }
+}
+
+// The same, once there is room to store the entry.
+fn move_loan(
+    replica: &mut Replica,
+    stored: &mut RoomyList<(u64, Entry)>,
+    moment: u64,
+    loan: Loan,
+) -> Result<(), NodeLoanFault>
+    requires moment { moment ≤ MOMENT_MAX }
+    requires loan { IsLoanInRange replica.old.core.setup replica.old.core.replica loan }
+    ensures goes_on { OnOk result (GoesOn replica.old.core replica.new.core moment (λ part. act_of loan)) }
+    ensures same { IsSameReplica replica.old.core replica.new.core }
+    ensures spare { replica.new.spare ≡ replica.old.spare }
+    ensures stored { stored.new.items ≡ stored.old.items }
+    ensures room { stored.old.room ≤ stored.new.room }
+    ensures enough { OnOk result (0 < stored.new.room) }
+    ensures fault { IfErr result (λ told. (part : List Entry) → Stands part replica.old.core → IsLoanFaultOf replica.old.core part loan told) }
+    ensures err { OnErr result (replica.new ≡ replica.old) }
+{
+    may_enter(replica)?;
+    let most = most_of(replica, loan);
+    if amount_of(loan) > most {
+        return Err(passes(loan, most));
+    }
+    stored.reserve(1)?;
+    make_loan(replica, moment, loan)?;
+    Ok(())
+}
