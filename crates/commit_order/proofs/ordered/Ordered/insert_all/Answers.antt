@@ -1,9 +1,7 @@
-use Rattle.std.proofs.Common.{◌≡◌, ◌≢◌, ℕ, ◌+◌, ◌-◌, ◌<◌, ◌≤◌, ◌^◌, false, List, ◌++◌, All, length, get_or, nat_le, sym, ap, ◌∙◌, subst, arith}
+use Rattle.std.proofs.Common.{◌≡◌, ℕ, ◌+◌, ◌-◌, ◌<◌, ◌≤◌, ◌^◌, false, List, ◌++◌, All, length, nat_le, sym, ap, ◌∙◌, subst, arith}
 use Rattle.std.proofs.lemmas.Bool.{lt-leb}
 use Rattle.std.specs.List.Sorted.{IsStrictlySortedBy}
 use Rattle.std.proofs.lemmas.List.Elements.{All-weaker}
-use Rattle.std.specs.declared.cmp.Ordering.TheVariants.{Equal}
-use Rattle.tact_base.proofs.ListLemmas.{All-append_right}
 use Rattle.tact_base.specs.declared.write.Write.{Write}
 use Rattle.tact_base.specs.WriteOrder.{write_cmp, committed_to}
 use Rattle.commit_order.specs.Batches.{with_writes, first_place}
@@ -51,12 +49,6 @@ past_is seen now writes same past = subst (λ (s : OrderState). All (λ (write :
 pub insert_copies-requires-clause-held : goal.insert_copies-requires-clause-held
 insert_copies-requires-clause-held c =
     held-sorted c.self.inside.gone.items c.self.inside.writes.items c.self.inside.point c.self.invariant.past c.self.invariant.sorted
-
-pub insert_copies-requires-clause-new : goal.insert_copies-requires-clause-new
-insert_copies-requires-clause-new c =
-    let inside = c.self.inside in
-    let whole : AreNew c.args.writes.now (inside.gone.items ++ inside.writes.items) = subst (λ (s : OrderState). AreNew c.args.writes.now s.writes) (sym c.self.view_is) c.requires.new in
-    λ k d within. All-append_right (λ other. write_cmp other (get_or c.args.writes.now k d) ≢ Equal) inside.gone.items inside.writes.items (whole k d within)
 
 pub overflow_sub-place : goal.overflow_sub-place
 overflow_sub-place c =
