@@ -13,13 +13,15 @@ use std::slice;
 use tact_base::{NoMemory, Place, RoomyList, Write};
 
 /// Writes in order of stamp, then origin, then index, of which those up to the last point are committed. The first
-/// of these can be given up: they aren't held any more, and are still counted. Contracts see all writes, how many of
-/// them were given up, the last point and the room: how many more writes can surely be put in without taking memory.
+/// of these can be given up: they aren't lent any more, and are still counted. Their memory is that of others once they
+/// are as many as those behind them, which then move to the front. Contracts see all writes, how many of them were
+/// given up, the last point and the room: how many more writes can surely be put in without taking memory.
 #[derive(Debug, Drop)]
 pub struct Ordered {
     gone: GivenUp<Write>,
     writes: RoomyList<Write>,
     dropped: u64,
+    front: usize,
     committed: usize,
     point: u64,
 }
@@ -32,12 +34,12 @@ impl Model for Ordered {
 
     ghost view = { λ s. record {
       writes = s.gone.items ++ s.writes.items;
-      dropped = s.dropped;
+      dropped = s.dropped + s.front;
       point = s.point;
       room = min s.writes.room (2 ^ 64 - 1 - (s.dropped + length s.writes.items));
     } };
 
-    ghost invariant = { λ s. KeepsOrder s.gone.items s.writes.items s.dropped s.committed s.point };
+    ghost invariant = { λ s. KeepsOrder s.gone.items s.writes.items s.dropped s.front s.committed s.point };
 }
 
 impl Ordered {
@@ -51,6 +53,7 @@ impl Ordered {
             gone: GivenUp::new(),
             writes: RoomyList::new(alloc),
             dropped: 0,
+            front: 0,
             committed: 0,
             point: 0,
         }
@@ -170,10 +173,22 @@ impl Ordered {
         ensures point { self.new.point ≡ self.old.point }
         ensures room { self.old.room ≤ self.new.room }
     {
-        self.gone.extend(&self.writes.items()[..k as usize]);
-        self.writes.drop_front(k as usize);
-        self.committed -= k as usize;
-        self.dropped += k;
+        self.front += k as usize;
+        if self.front >= self.writes.items().len() - self.front {
+            self.move_up();
+        }
+    }
+
+    // Moves those behind the writes that were given up to the front. Takes no memory.
+    fn move_up(&mut self)
+        ensures same { self.new ≡ record self.old { room = self.new.room; } }
+        ensures room { self.old.room ≤ self.new.room }
+    {
+        self.gone.extend(&self.writes.items()[..self.front]);
+        self.writes.drop_front(self.front);
+        self.committed -= self.front;
+        self.dropped += self.front as u64;
+        self.front = 0;
     }
 
     /// How many writes were given up, all of them committed. Takes no memory.
@@ -181,7 +196,7 @@ impl Ordered {
         ensures dropped { result ≡ self.now.dropped }
         ensures within { result ≤ length (committed_to self.now.point self.now.writes) }
     {
-        self.dropped
+        self.dropped + self.front as u64
     }
 
     /// The last point. Takes no memory.
@@ -215,7 +230,9 @@ impl Ordered {
         ensures tentative { result.1.now ≡ tentative_past self.now.point self.now.writes }
         ensures sorted { IsStrictlySortedBy write_cmp self.now.writes }
     {
-        self.writes.items().split_at(self.committed)
+        let (committed, tentative) = self.writes.items().split_at(self.committed);
+        let (_given_up, others) = committed.split_at(self.front);
+        (others, tentative)
     }
 }
 
