@@ -34,28 +34,26 @@ overflow_sub-items c =
     let most = all_committed inside.gone.items inside.writes.items inside.dropped inside.front inside.committed inside.point c.args.k kept (few_is _ c.args.self.now c.args.k c.self.view_is c.requires) in
     omega (arith, most, kept.committed, committed-few inside.point inside.writes.items, ap length c.items.ensures)
 
+-- what is kept then
+gives_up : (gone held : List Write) (dropped front committed point k : ℕ)
+    → KeepsOrder gone held dropped front committed point
+    → dropped + front + k ≤ length (committed_to point (gone ++ held))
+    → KeepsOrder gone held dropped (front + k) committed point
+gives_up gone held dropped front committed point k kept few = record {
+  sorted = kept.sorted;
+  many = kept.many;
+  past = kept.past;
+  committed = kept.committed;
+  given_up = all_committed gone held dropped front committed point k kept few;
+  counted = kept.counted;
+}
+
 pub invariant_of-self : goal.invariant_of-self
 invariant_of-self c =
     let inside = c.self.inside in
-    let kept = c.self.invariant in
-    record {
-      sorted = kept.sorted;
-      many = kept.many;
-      past = kept.past;
-      committed = kept.committed;
-      given_up = all_committed inside.gone.items inside.writes.items inside.dropped inside.front inside.committed inside.point c.args.k kept (few_is _ c.args.self.now c.args.k c.self.view_is c.requires);
-      counted = kept.counted;
-    }
+    gives_up inside.gone.items inside.writes.items inside.dropped inside.front inside.committed inside.point c.args.k c.self.invariant (few_is _ c.args.self.now c.args.k c.self.view_is c.requires)
 
 pub invariant_of-self-else-self-items : goal.invariant_of-self-else-self-items
 invariant_of-self-else-self-items c =
     let inside = c.self.inside in
-    let kept = c.self.invariant in
-    record {
-      sorted = kept.sorted;
-      many = kept.many;
-      past = kept.past;
-      committed = kept.committed;
-      given_up = all_committed inside.gone.items inside.writes.items inside.dropped inside.front inside.committed inside.point c.args.k kept (few_is _ c.args.self.now c.args.k c.self.view_is c.requires);
-      counted = kept.counted;
-    }
+    gives_up inside.gone.items inside.writes.items inside.dropped inside.front inside.committed inside.point c.args.k c.self.invariant (few_is _ c.args.self.now c.args.k c.self.view_is c.requires)
