@@ -7,7 +7,7 @@ use Rattle.tact_base.specs.WriteOrder.{write_cmp, committed_to}
 use Rattle.tact_base.specs.declared.write.Write.{Write}
 use Rattle.std.specs.List.Sorted.{IsStrictlySortedBy}
 use Rattle.commit_order.specs.Order.{OrderState, KeepsOrder}
-use Rattle.commit_order.proofs.Given.{held-sorted, committed-length}
+use Rattle.commit_order.proofs.Given.{held-sorted}
 use Rattle.commit_order.proofs.WriteOrderLemmas.{by_place, committed-few, committed-front, committed_to-drop}
 use Rattle.commit_order.proofs.ordered.Ordered.move_up.Goals as goal
 
