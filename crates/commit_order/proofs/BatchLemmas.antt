@@ -2,27 +2,23 @@
 use Rattle.std.proofs.Common.{◌≡◌, Bool, true, false, not, if◌then◌else◌, List, [], ◌∷◌, ◌++◌, get_or, All, inl, inr, refl, sym, ap, ◌∙◌, arith}
 use Rattle.std.specs.List.Sorted.{IsStrictlySortedBy, IsPartitionedBy}
 use Rattle.std.proofs.lemmas.Bool.{cases_eq}
-use Rattle.std.proofs.lemmas.List.{append_assoc}
-use Rattle.std.proofs.lemmas.List.Elements.{All-cons, All-head, All-tail, All-weaker, All-append}
+use Rattle.std.proofs.lemmas.List.{append-nil}
+use Rattle.std.proofs.lemmas.List.Elements.{All-cons, All-head, All-tail, All-weaker}
 use Rattle.std.proofs.lemmas.List.Sums.{fold-append}
 use Rattle.std.proofs.lemmas.List.Sorted.{All-permutation}
 use Rattle.std.proofs.lemmas.Map.Keys.{Less-from_sorted}
-use Rattle.tact_base.proofs.CompareLemmas.{before_one_way, before_trans, not_before_trans}
+use Rattle.tact_base.proofs.CompareLemmas.{before_one_way, not_before_trans}
 use Rattle.tact_base.proofs.ListLemmas.{All-one}
-use Rattle.tact_base.proofs.OrderLemmas.{IsPermutation-with_write, with_write_first, with_write_between}
+use Rattle.tact_base.proofs.OrderLemmas.{IsPermutation-with_write, with_write_first}
 use Rattle.tact_base.specs.WriteOrder.{write_cmp, comes_before, with_write}
 use Rattle.tact_base.specs.declared.write.Write.{Write}
 use Rattle.commit_order.specs.Batches.{with_writes}
-use Rattle.commit_order.proofs.BatchOrder.{with_writes-past}
+use Rattle.commit_order.proofs.BatchOrder.{with_write-past}
 use Rattle.commit_order.proofs.WriteOrderLemmas.{before-from_Less}
 
 pub not_true : (b : Bool) → not b ≡ true → b ≡ false
 not_true true h = cc
 not_true false h = refl
-
-pub not_false : (b : Bool) → not b ≡ false → b ≡ true
-not_false true h = refl
-not_false false h = cc
 
 -- of writes in order those that a write doesn't come before come first
 pub upto_first : (write : Write) (writes : List Write)
@@ -67,39 +63,22 @@ with_writes-ahead (write ∷ writes) held rest before =
     ap (with_writes writes) (with_write-ahead write held rest (All-head (λ write. All (λ later. comes_before write later ≡ true) rest) write writes before))
     ∙ with_writes-ahead writes (with_write write held) rest (All-tail (λ write. All (λ later. comes_before write later ≡ true) rest) write writes before)
 
--- Writes are put into others on both sides of one of them, where none of these come after it on its one side, and it comes before all on its other.
-module _ (held rest earlier later : List Write) (write : Write)
-    (upto : All (λ other. comes_before write other ≡ false) held)
-    (after : All (λ other. comes_before write other ≡ true) rest)
-    (ahead : All (λ other. comes_before other write ≡ true) earlier)
-    (behind : All (λ other. comes_before write other ≡ true) later) where
-  abbrev front : List Write
-  front = with_writes earlier held
+-- a write that comes before none of the others goes behind them
+pub with_writes-and_last : (writes held : List Write) (write : Write)
+    → All (λ other. comes_before write other ≡ false) writes
+    → All (λ other. comes_before write other ≡ false) held
+    → with_writes (writes ++ write ∷ []) held ≡ with_writes writes held ++ write ∷ []
+with_writes-and_last writes held write each others =
+    let front = with_writes writes held in
+    fold-append (λ ordered w. with_write w ordered) held writes (write ∷ [])
+    ∙ (ap (with_write write) (sym (append-nil front))
+    ∙ with_write-past write front [] (All-with_writes (λ other. comes_before write other ≡ false) writes held each others))
 
-  front-upto : All (λ other. comes_before write other ≡ false) front
-  front-upto =
-      All-with_writes (λ other. comes_before write other ≡ false) earlier held
-      (All-weaker (λ other. comes_before other write ≡ true) (λ other. comes_before write other ≡ false) (λ other h. before_one_way other write h) earlier ahead)
-      upto
-
-  with_earlier : with_writes earlier (held ++ rest) ≡ front ++ rest
-  with_earlier =
-      with_writes-ahead earlier held rest
-      (All-weaker (λ other. comes_before other write ≡ true) (λ other. All (λ last. comes_before other last ≡ true) rest)
-      (λ other h. All-weaker (λ last. comes_before write last ≡ true) (λ last. comes_before other last ≡ true) (λ last l. before_trans other write last h l) rest after) earlier ahead)
-
-  later-past : All (λ other. All (λ first. comes_before other first ≡ false) (front ++ write ∷ [])) later
-  later-past =
-      All-weaker (λ other. comes_before write other ≡ true) (λ other. All (λ first. comes_before other first ≡ false) (front ++ write ∷ []))
-      (λ other h.
-      let one_way = before_one_way write other h in
-      All-append (λ first. comes_before other first ≡ false) front (write ∷ [])
-      (All-weaker (λ first. comes_before write first ≡ false) (λ first. comes_before other first ≡ false) (λ first l. not_before_trans first write other l one_way) front front-upto)
-      (All-one (λ first. comes_before other first ≡ false) write one_way)) later behind
-
-  pub both_sides : with_writes (earlier ++ write ∷ later) (held ++ rest) ≡ with_writes earlier held ++ write ∷ with_writes later rest
-  both_sides =
-      fold-append (λ ordered w. with_write w ordered) (held ++ rest) earlier (write ∷ later)
-      ∙ (ap (λ (l : List Write). with_writes later (with_write write l)) with_earlier
-      ∙ (ap (with_writes later) (with_write_between write front rest front-upto after ∙ sym (append_assoc front (write ∷ []) rest))
-      ∙ (with_writes-past later (front ++ write ∷ []) rest later-past ∙ append_assoc front (write ∷ []) (with_writes later rest))))
+-- the last of those held stays last where all writes come before it
+pub with_writes-before_last : (writes held : List Write) (last : Write)
+    → All (λ write. comes_before write last ≡ true) writes
+    → with_writes writes (held ++ last ∷ []) ≡ with_writes writes held ++ last ∷ []
+with_writes-before_last writes held last before =
+    with_writes-ahead writes held (last ∷ [])
+    (All-weaker (λ write. comes_before write last ≡ true) (λ write. All (λ later. comes_before write later ≡ true) (last ∷ []))
+    (λ write h. All-one (λ later. comes_before write later ≡ true) last h) writes before)

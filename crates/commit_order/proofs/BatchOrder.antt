@@ -67,7 +67,7 @@ filter-with_writes p (write ∷ writes) held fail =
     ∙ filter-with_write p write held (All-head (λ write. p write ≡ false) write writes fail)
 
 -- a front of which none comes after a write stays in front of it
-with_write-past : (write : Write) (front rest : List Write)
+pub with_write-past : (write : Write) (front rest : List Write)
     → All (λ other. comes_before write other ≡ false) front
     → with_write write (front ++ rest) ≡ front ++ with_write write rest
 with_write-past write [] rest behind = refl

@@ -15,7 +15,7 @@ use Rattle.tact_base.specs.declared.write.Write.{Write}
 use Rattle.commit_order.specs.Batches.{with_writes, first_place}
 use Rattle.commit_order.specs.Places.{place_in}
 use Rattle.commit_order.proofs.BatchOrder.{with_writes-past}
-use Rattle.commit_order.proofs.Halves.{sorted-drop}
+use Rattle.commit_order.proofs.MergeLemmas.{sorted-drop}
 
 -- a write comes before a place of a later stamp
 earlier : (write : Write) (place : Place) → write.stamp < place.stamp → is_lt (place_cmp (write_place write) place) ≡ true

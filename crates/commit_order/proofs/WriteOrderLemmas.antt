@@ -12,7 +12,7 @@ use Rattle.std.proofs.lemmas.List.Elements.{All-nil, All-cons, All-head, All-tai
 use Rattle.std.proofs.lemmas.List.Sums.{length-filter, count_by-le-length}
 use Rattle.std.proofs.Math.Seq.{take-append_seam, drop-append_seam}
 use Rattle.tact_base.proofs.CompareLemmas.{write_total, less_from_before, before_one_way, before_trans, stamp-le_not_before}
-use Rattle.tact_base.proofs.CommitLemmas.{All-committed_to, All-tentative_past, committed_to-tentative_past}
+use Rattle.tact_base.proofs.CommitLemmas.{All-committed_to, All-tentative_past, committed_to-committed_to, committed_to-tentative_past}
 use Rattle.tact_base.proofs.ListLemmas.{filter_all, filter_none}
 use Rattle.tact_base.proofs.OrderLemmas.{IsSortedByPlace, IsSorted-from_ordered}
 use Rattle.tact_base.specs.declared.write.Write.{Write}
@@ -145,6 +145,13 @@ pub committed-few : (point : ℕ) (writes : List Write)
 committed-few point writes =
     let kept = length-filter (λ w. nat_le w.stamp point) writes in
     omega (arith, count_by-le-length (λ w. nat_le w.stamp point) writes)
+
+-- a later point commits as many
+pub committed-rises : (point later : ℕ) (writes : List Write)
+    → point ≤ later
+    → length (committed_to point writes) ≤ length (committed_to later writes)
+committed-rises point later writes rises =
+    omega (arith, ap length (committed_to-committed_to point later writes rises), committed-few point (committed_to later writes))
 
 -- Of writes in order the first ones are given up, all of them committed: the others stay committed, and tentative.
 module _ (point : ℕ) (writes : List Write) (sorted : IsSorted write_cmp writes) (k : ℕ) (within : k ≤ length (committed_to point writes)) where

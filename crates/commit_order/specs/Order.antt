@@ -12,11 +12,12 @@ pub record OrderState : Type 0 where
   pub point : ℕ
   pub room : ℕ
 
--- What is kept of the writes that were given up and of those that are held: together they are in order, and few enough to be counted;
--- the first are all committed, and so many of the others.
-pub record KeepsOrder (gone held : List Write) (dropped count point : ℕ) : Type 0 where
+-- What is kept of the writes that aren't held and of those that are: together they are in order, and few enough to be counted; the first
+-- are all committed, and so many of the others, of which so many at the front were given up too.
+pub record KeepsOrder (gone held : List Write) (dropped front count point : ℕ) : Type 0 where
   pub sorted : IsStrictlySortedBy write_cmp (gone ++ held)
   pub many : length gone ≡ dropped
   pub past : All (λ (write : Write). write.stamp ≤ point) gone
   pub committed : count ≡ length (committed_to point held)
+  pub given_up : front ≤ count
   pub counted : dropped + length held < 2 ^ 64

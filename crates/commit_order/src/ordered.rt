@@ -1,31 +1,27 @@
-ghost use Rattle.std.specs.Prelude.{◌≡◌, ◌≢◌, ◌+◌, ◌-◌, ◌<◌, ◌≤◌, [], ◌++◌, All, OnOk, OnErr, IfOk, IsOk, length, insert, take, drop};
+ghost use Rattle.std.specs.Prelude.{◌≡◌, ◌≢◌, ◌+◌, ◌-◌, ◌<◌, ◌≤◌, [], ◌++◌, All, OnOk, OnErr, IfOk, IsOk, length, take, drop};
 ghost use Rattle.std.specs.declared.cmp.Ordering.TheVariants.{Equal};
 ghost use Rattle.std.specs.List.Sorted.{IsStrictlySortedBy};
 ghost use Rattle.tact_base.specs.WriteOrder.{write_cmp, write_place, with_write, in_order, committed_to, tentative_past};
 ghost use Rattle.commit_order.specs.Batches.{with_writes, first_place};
 ghost use Rattle.commit_order.specs.Places.{place_in};
 
-use crate::merging::{count_upto, merge_in_place};
+use crate::merging::merge_back;
 use given_up::GivenUp;
 use std::alloc::Global;
 use std::marker::Model;
 use std::slice;
 use tact_base::{NoMemory, Place, RoomyList, Write};
 
-// Up to so many items behind their place, or to so many writes, writes are put in one after another, which moves
-// fewer items than to merge them.
-const FEW_BEHIND: usize = 32;
-
-const FEW_WRITES: usize = 8;
-
 /// Writes in order of stamp, then origin, then index, of which those up to the last point are committed. The first
-/// of these can be given up: they aren't held any more, and are still counted. Contracts see all writes, how many of
-/// them were given up, the last point and the room: how many more writes can surely be put in without taking memory.
+/// of these can be given up: they aren't lent any more, and are still counted. Their memory is that of others once they
+/// are as many as those behind them, which then move to the front. Contracts see all writes, how many of them were
+/// given up, the last point and the room: how many more writes can surely be put in without taking memory.
 #[derive(Debug, Drop)]
 pub struct Ordered {
     gone: GivenUp<Write>,
     writes: RoomyList<Write>,
     dropped: u64,
+    front: usize,
     committed: usize,
     point: u64,
 }
@@ -38,12 +34,12 @@ impl Model for Ordered {
 
     ghost view = { λ s. record {
       writes = s.gone.items ++ s.writes.items;
-      dropped = s.dropped;
+      dropped = s.dropped + s.front;
       point = s.point;
       room = min s.writes.room (2 ^ 64 - 1 - (s.dropped + length s.writes.items));
     } };
 
-    ghost invariant = { λ s. KeepsOrder s.gone.items s.writes.items s.dropped s.committed s.point };
+    ghost invariant = { λ s. KeepsOrder s.gone.items s.writes.items s.dropped s.front s.committed s.point };
 }
 
 impl Ordered {
@@ -57,6 +53,7 @@ impl Ordered {
             gone: GivenUp::new(),
             writes: RoomyList::new(alloc),
             dropped: 0,
+            front: 0,
             committed: 0,
             point: 0,
         }
@@ -127,9 +124,8 @@ impl Ordered {
     }
 
     /// Puts writes, which are in order, in their places, and answers the place of the first of them, before
-    /// which nothing moves: how many there are, where none is put in. What is held after that place moves once
-    /// for each write where either is few, and else once for each time that the number of the writes can be
-    /// halved. Takes no memory.
+    /// which nothing moves: how many there are, where none is put in. What is held after that place moves once.
+    /// Takes no memory.
     pub fn insert_all(&mut self, writes: &[Write]) -> u64
         requires room { length writes.now ≤ self.old.room }
         requires sorted { IsStrictlySortedBy write_cmp writes.now }
@@ -177,10 +173,22 @@ impl Ordered {
         ensures point { self.new.point ≡ self.old.point }
         ensures room { self.old.room ≤ self.new.room }
     {
-        self.gone.extend(&self.writes.items()[..k as usize]);
-        self.writes.drop_front(k as usize);
-        self.committed -= k as usize;
-        self.dropped += k;
+        self.front += k as usize;
+        if self.front >= self.writes.items().len() - self.front {
+            self.move_up();
+        }
+    }
+
+    // Moves those behind the writes that were given up to the front. Takes no memory.
+    fn move_up(&mut self)
+        ensures same { self.new ≡ record self.old { room = self.new.room; } }
+        ensures room { self.old.room ≤ self.new.room }
+    {
+        self.gone.extend(&self.writes.items()[..self.front]);
+        self.writes.drop_front(self.front);
+        self.committed -= self.front;
+        self.dropped += self.front as u64;
+        self.front = 0;
     }
 
     /// How many writes were given up, all of them committed. Takes no memory.
@@ -188,7 +196,7 @@ impl Ordered {
         ensures dropped { result ≡ self.now.dropped }
         ensures within { result ≤ length (committed_to self.now.point self.now.writes) }
     {
-        self.dropped
+        self.dropped + self.front as u64
     }
 
     /// The last point. Takes no memory.
@@ -222,7 +230,9 @@ impl Ordered {
         ensures tentative { result.1.now ≡ tentative_past self.now.point self.now.writes }
         ensures sorted { IsStrictlySortedBy write_cmp self.now.writes }
     {
-        self.writes.items().split_at(self.committed)
+        let (committed, tentative) = self.writes.items().split_at(self.committed);
+        let (_given_up, others) = committed.split_at(self.front);
+        (others, tentative)
     }
 }
 
@@ -231,49 +241,15 @@ impl Ordered {
 fn insert_copies(list: &mut RoomyList<Write>, place: usize, writes: &[Write])
     requires held { IsStrictlySortedBy write_cmp list.old.items }
     requires sorted { IsStrictlySortedBy write_cmp writes.now }
-    requires new { All (λ write. All (λ held. write_cmp held write ≢ Equal) list.old.items) writes.now }
     requires place { place ≡ first_place list.old.items writes.now }
     requires room { length writes.now ≤ list.old.room }
     ensures items { list.new.items ≡ with_writes writes.now list.old.items }
     ensures room { list.old.room ≤ list.new.room + length writes.now }
 {
     let held = list.items().len();
-    if place < held && (held - place <= FEW_BEHIND || writes.len() <= FEW_WRITES) {
-        insert_each(list, writes);
-        return;
-    }
     list.append(writes);
     if place < held {
-        merge_in_place(list.items_mut(), held);
-    }
-}
-
-// Puts copies of writes in order into a list in order, one after another. What is behind its place moves for each
-// of them. Takes no memory.
-fn insert_each(list: &mut RoomyList<Write>, writes: &[Write])
-    requires held { IsStrictlySortedBy write_cmp list.old.items }
-    requires sorted { IsStrictlySortedBy write_cmp writes.now }
-    requires new { All (λ write. All (λ held. write_cmp held write ≢ Equal) list.old.items) writes.now }
-    requires room { length writes.now ≤ list.old.room }
-    ensures items { list.new.items ≡ with_writes writes.now list.old.items }
-    ensures room { list.old.room ≤ list.new.room + length writes.now }
-{
-    for write in writes {
-        let place = count_upto(list.items(), write);
-        insert_copy(list, place, write);
-    }
-}
-
-// Puts a copy of a write before the item at a place. Takes no memory.
-fn insert_copy(list: &mut RoomyList<Write>, place: usize, write: &Write)
-    requires place { place ≤ length list.old.items }
-    requires room { 0 < list.old.room }
-    ensures items { list.new.items ≡ insert list.old.items place write.now }
-    ensures room { list.old.room ≤ list.new.room + 1 }
-{
-    match write.clone() {
-        Ok(copy) => list.insert(place, copy),
-        Err(_) => unreachable!(),
+        merge_back(list.items_mut(), held, writes);
     }
 }
 

@@ -167,7 +167,7 @@ fn copies_writes(rt: HostRuntime) -> Result<(), Fail> {
     let mut copy = list.copy(rt.alloc())?;
     assert_eq!(rt; copy, list);
     assert_eq!(rt; list.clone()?, list);
-    copy.append_clones(list.items())?;
+    copy.append(list.items())?;
     assert_eq!(rt; copy.len(), 4);
     assert_eq!(rt; &copy.items()[2..], list.items());
     Ok(())

@@ -124,8 +124,8 @@ fn prints_requests(rt: HostRuntime) -> Result<(), Fail> {
         (read_of(&[])?, "read 1"),
         (read_of(&need)?, "read 1 0:10:9:8"),
     ];
-    for (request, text) in cases {
-        let line = line(rt.alloc(), 3, call(2, request, done.clone()?))?;
+    for (request, text) in &cases {
+        let line = line(rt.alloc(), 3, call(2, request.clone()?, done.clone()?))?;
         let due = format!(in rt.alloc(); "e 0 3 call 0 2 {text} = done 0 1\n")?;
         assert_eq!(rt; line.items(), due.as_bytes());
     }
@@ -228,9 +228,13 @@ fn prints_replies(rt: HostRuntime) -> Result<(), Fail> {
             "not-held 0 0 1",
         ),
     ];
-    for (reply, waits, text) in cases {
-        assert_eq!(rt; reply.is_waiting(), waits, "{text}");
-        let line = line(rt.alloc(), 0, call(1, write_of(ADD, &[ONE])?, reply))?;
+    for (reply, waits, text) in &cases {
+        assert_eq!(rt; reply.is_waiting(), *waits, "{text}");
+        let line = line(
+            rt.alloc(),
+            0,
+            call(1, write_of(ADD, &[ONE])?, reply.clone()?),
+        )?;
         let due = format!(in rt.alloc(); "e 0 0 call 0 1 write add 7 1 0:1:1 = {text}\n")?;
         assert_eq!(rt; line.items(), due.as_bytes());
     }

@@ -1,10 +1,12 @@
 -- What operations do to an image, key by key, and how the layers that are kept follow them.
-use Rattle.std.proofs.Common.{◌≡◌, ℕ, zero, suc, ℤ, pos, ◌+ℤ◌, ◌-ℤ◌, ◌-◌, ◌+◌, ◌<◌, ◌≤◌, Bool, true, false, ◌==◌, if◌then◌else◌, nat_eq, nat_le, slice_get, List, [], ◌∷◌, ◌++◌, length, get_or, take, drop, All, Option, Some, None, unwrap_or, refl, sym, ap, ◌∙◌, arith}
-use Rattle.std.specs.HashMap.{get}
+use Rattle.std.proofs.Common.{◌≡◌, ℕ, zero, suc, ℤ, pos, ◌+ℤ◌, ◌-ℤ◌, ◌-◌, ◌+◌, ◌<◌, ◌≤◌, Bool, true, false, ◌==◌, if◌then◌else◌, nat_le, slice_get, List, [], ◌∷◌, ◌++◌, length, get_or, take, drop, All, Option, Some, None, unwrap_or, refl, sym, ap, ◌∙◌, map, arith}
+use Rattle.std.specs.List.{AllZip}
 use Rattle.std.proofs.lemmas.Bool.{or_parts, eqb-true, le-leb}
-use Rattle.std.proofs.lemmas.List.{same_from_push, take_more}
+use Rattle.std.proofs.lemmas.List.{same_from_push, take_more, map-append, drop-map}
 use Rattle.std.proofs.lemmas.List.Elements.{All-head, All-tail, All-append}
 use Rattle.std.proofs.lemmas.List.Sums.{fold-append}
+use Rattle.std.proofs.lemmas.Option.{slice_get-map}
+use Rattle.std.specs.Option.{option_map}
 use Rattle.std.proofs.Math.Seq.{drop-append_seam}
 use Rattle.tact_base.proofs.ListLemmas.{fold-push, All-append_left, All-append_right, All-one}
 use Rattle.tact_base.specs.Images.{Image, capped, with_value, shift_acts, after_op, image_from}
@@ -12,9 +14,10 @@ use Rattle.tact_base.specs.declared.write.Op.{Op}
 use Rattle.tact_base.specs.declared.write.Op.TheVariants.{Put, Add, Shift}
 use Rattle.rollback_apply.specs.Image.{ImageState, base_of, value_before}
 use Rattle.rollback_apply.specs.Keys.{first_key, second_key, names, key_values, with_key_values, value_among, undos_of}
-use Rattle.rollback_apply.specs.Values.{Values, over}
-use Rattle.rollback_apply.specs.Layers.{IsApplied}
+use Rattle.rollback_apply.specs.Recent.{RecentState, place_of, has, over, Extends}
+use Rattle.rollback_apply.specs.Layers.{HasPlaces, SetsKeys, IsApplied}
 use Rattle.rollback_apply.specs.declared.keys.KeyValues.{KeyValues}
+use Rattle.rollback_apply.specs.declared.layers.Undo.{Undo}
 
 -- images that agree at each key are one
 pub same_image : (f g : Image) → ((key : ℕ) → f key ≡ g key) → f ≡ g
@@ -60,17 +63,8 @@ with_key_values-other old new op elsewhere key = at (key == second_key op) (key 
   at false true is_last is_first = rw (is_last, is_first) (ap new (sym (eqb-true key (first_key op) is_first)))
   at false false is_last is_first = rw (is_last, is_first) (elsewhere key (rw (is_first, is_last) refl))
 
--- the map after the keys of an operation are set
-abbrev pub SetsKeys : Values → Values → Op → KeyValues → Type 0
-SetsKeys old new op values =
-    (key : ℕ)
-    → get nat_eq new key
-    ≡ (if key == second_key op
-    then Some values.second
-    else (if key == first_key op then Some values.first else get nat_eq old key))
-
 -- over an image it changes them alone
-pub over-set : (base : Image) (old new : Values) (op : Op) (values : KeyValues)
+pub over-set : (base : Image) (old new : RecentState) (op : Op) (values : KeyValues)
     → SetsKeys old new op values
     → (key : ℕ)
     → over base new key ≡ with_key_values (over base old) op values key
@@ -81,15 +75,15 @@ over-set base old new op values sets key = at (key == second_key op) (key == fir
   at false true is_last is_first = rw (sets key, is_last, is_first) refl
   at false false is_last is_first = rw (sets key, is_last, is_first) refl
 
--- a key that the new map lacks is none of them, and the old map lacks it
-pub set-lacks : (old new : Values) (op : Op) (values : KeyValues)
+-- a key that has no value then is none of them, and had none
+pub set-lacks : (old new : RecentState) (op : Op) (values : KeyValues)
     → SetsKeys old new op values
     → (key : ℕ)
-    → get nat_eq new key ≡ None
-    → (names op key ≡ false) × (get nat_eq old key ≡ None)
+    → has new key ≡ None
+    → (names op key ≡ false) × (has old key ≡ None)
 set-lacks old new op values sets key lacks = at (key == second_key op) (key == first_key op) refl refl where
   at : (last first : Bool) → (key == second_key op) ≡ last → (key == first_key op) ≡ first
-      → (names op key ≡ false) × (get nat_eq old key ≡ None)
+      → (names op key ≡ false) × (has old key ≡ None)
   at true first is_last is_first = let there = rw (sets key, is_last) at lacks in absurd (cc)
   at false true is_last is_first = let there = rw (sets key, is_last, is_first) at lacks in absurd (cc)
   at false false is_last is_first = (rw (is_first, is_last) refl, rw (sets key, is_last, is_first) at lacks)
@@ -105,23 +99,96 @@ pub length-undos_of : (image : Image) (ops : List Op) → length (undos_of image
 length-undos_of image [] = refl
 length-undos_of image (op ∷ ops) = let rest = length-undos_of (after_op image op) ops in grind arith
 
--- one operation more
-pub applied-push : (base : Image) (old new : Values) (undos : List KeyValues) (ops : List Op) (op : Op) (held values : KeyValues)
+-- what the undos have of joined lists, at the last of each
+pub AllZip-last : {A B : Type 0} (R : A → B → Type 0) (xs : List A) (ys : List B) (x : A) (y : B)
+    → AllZip R (xs ++ x ∷ []) (ys ++ y ∷ [])
+    → AllZip R xs ys × R x y
+AllZip-last R [] [] x y zip = (tt, zip.0)
+AllZip-last R [] (other ∷ []) x y zip = absurd zip.1
+AllZip-last R [] (other ∷ next ∷ ys) x y zip = absurd zip.1
+AllZip-last R (first ∷ []) [] x y zip = absurd zip.1
+AllZip-last R (first ∷ next ∷ xs) [] x y zip = absurd zip.1
+AllZip-last R (first ∷ xs) (other ∷ ys) x y zip =
+    let rest = AllZip-last R xs ys x y zip.1 in
+    ((zip.0, rest.0), rest.1)
+
+-- at one more of each
+pub AllZip-more : {A B : Type 0} (R : A → B → Type 0) (xs : List A) (ys : List B) (x : A) (y : B)
+    → AllZip R xs ys
+    → R x y
+    → AllZip R (xs ++ x ∷ []) (ys ++ y ∷ [])
+AllZip-more R [] [] x y zip one = (one, tt)
+AllZip-more R [] (other ∷ ys) x y zip one = absurd zip
+AllZip-more R (first ∷ xs) [] x y zip one = absurd zip
+AllZip-more R (first ∷ xs) (other ∷ ys) x y zip one = (zip.0, AllZip-more R xs ys x y zip.1 one)
+
+-- after those of the front
+pub AllZip-drop : {A B : Type 0} (R : A → B → Type 0) (xs : List A) (front rest : List B)
+    → AllZip R xs (front ++ rest)
+    → AllZip R (drop (length front) xs) rest
+AllZip-drop R xs [] rest zip = zip
+AllZip-drop R [] (y ∷ front) rest zip = absurd zip
+AllZip-drop R (x ∷ xs) (y ∷ front) rest zip = AllZip-drop R xs front rest zip.1
+
+-- places that stay
+pub places-stay : (old new : RecentState) (undos : List Undo) (ops : List Op)
+    → ((key place : ℕ) → place_of old key ≡ Some place → place_of new key ≡ Some place)
+    → AllZip (HasPlaces old) undos ops
+    → AllZip (HasPlaces new) undos ops
+places-stay old new [] [] stay zip = tt
+places-stay old new [] (op ∷ ops) stay zip = absurd zip
+places-stay old new (undo ∷ undos) [] stay zip = absurd zip
+places-stay old new (undo ∷ undos) (op ∷ ops) stay zip = (
+  record {
+    first = stay (first_key op) undo.first zip.0.first;
+    second = stay (second_key op) undo.second zip.0.second;
+  },
+  places-stay old new undos ops stay zip.1,
+)
+
+-- the same places are the places of the same keys
+pub same-places : (old new : RecentState)
+    → new.places ≡ old.places
+    → (key place : ℕ)
+    → place_of old key ≡ Some place
+    → place_of new key ≡ Some place
+same-places old new same key place there = rw same there
+
+-- keys that get values that they had over the image change nothing
+pub applied-more : (base : Image) (old new : RecentState) (undos : List Undo) (ops : List Op)
+    → Extends base old new
     → IsApplied base old undos ops
-    → held ≡ key_values (over base old) op
-    → ((image : Image) → key_values image op ≡ held → key_values (after_op image op) op ≡ values)
+    → IsApplied base new undos ops
+applied-more base old new undos ops more applied = record {
+  undone = applied.undone;
+  places = places-stay old new undos ops more.places applied.places;
+  fold = λ key. more.over key ∙ applied.fold key;
+  lacks = λ key none. applied.lacks key (more.lacks key none);
+}
+
+-- one operation more
+pub applied-push : (base : Image) (old new : RecentState) (undos : List Undo) (ops : List Op) (op : Op) (undo : Undo) (values : KeyValues)
+    → IsApplied base old undos ops
+    → HasPlaces old undo op
+    → undo.held ≡ key_values (over base old) op
+    → ((image : Image) → key_values image op ≡ undo.held → key_values (after_op image op) op ≡ values)
+    → new.places ≡ old.places
     → SetsKeys old new op values
-    → IsApplied base new (undos ++ held ∷ []) (ops ++ op ∷ [])
-applied-push base old new undos ops op held values applied holds after sets =
+    → IsApplied base new (undos ++ undo ∷ []) (ops ++ op ∷ [])
+applied-push base old new undos ops op undo values applied places holds after stay sets =
     let now = image_from base ops in
     let same : over base old ≡ now = same_image (over base old) now applied.fold in
-    let held_is : held ≡ key_values now op = holds ∙ ap (λ image. key_values image op) same in
+    let held_is : undo.held ≡ key_values now op = holds ∙ ap (λ image. key_values image op) same in
     let values_are : key_values (after_op now op) op ≡ values = after now (sym held_is) in
     record {
       undone =
-          ap (λ first. first ++ held ∷ []) applied.undone
+          map-append (λ (undo : Undo). undo.held) undos (undo ∷ [])
+          ∙ ap (λ first. first ++ undo.held ∷ []) applied.undone
           ∙ ap (λ last. undos_of base ops ++ last ∷ []) held_is
           ∙ sym (undos_of-append base ops (op ∷ []));
+      places =
+          places-stay old new (undos ++ undo ∷ []) (ops ++ op ∷ []) (same-places old new stay)
+          (AllZip-more (HasPlaces old) undos ops undo op applied.places places);
       fold = λ key.
           over-set base old new op values sets key
           ∙ ap (λ image. with_key_values image op values key) same
@@ -135,60 +202,94 @@ applied-push base old new undos ops op held values applied holds after sets =
     }
 
 -- one operation less
-pub applied-pop : (base : Image) (old new : Values) (undos : List KeyValues) (ops : List Op) (op : Op) (held : KeyValues)
-    → IsApplied base old (undos ++ held ∷ []) (ops ++ op ∷ [])
-    → SetsKeys old new op held
+pub applied-pop : (base : Image) (old new : RecentState) (undos : List Undo) (ops : List Op) (op : Op) (undo : Undo)
+    → IsApplied base old (undos ++ undo ∷ []) (ops ++ op ∷ [])
+    → new.places ≡ old.places
+    → SetsKeys old new op undo.held
     → IsApplied base new undos ops
-applied-pop base old new undos ops op held applied sets =
+applied-pop base old new undos ops op undo applied stay sets =
     let now = image_from base ops in
     let same : over base old ≡ after_op now op =
     same_image (over base old) (image_from base (ops ++ op ∷ [])) applied.fold ∙ fold-push after_op base ops op in
     let both =
-    same_from_push undos (undos_of base ops) held (key_values now op)
-    (applied.undone ∙ undos_of-append base ops (op ∷ [])) in
+    same_from_push (map (λ (undo : Undo). undo.held) undos) (undos_of base ops) undo.held (key_values now op)
+    (sym (map-append (λ (undo : Undo). undo.held) undos (undo ∷ [])) ∙ applied.undone ∙ undos_of-append base ops (op ∷ [])) in
     record {
       undone = both.0;
+      places =
+          places-stay old new undos ops (same-places old new stay)
+          (AllZip-last (HasPlaces old) undos ops undo op applied.places).0;
       fold = λ key.
-          over-set base old new op held sets key
-          ∙ ap (λ image. with_key_values image op held key) same
+          over-set base old new op undo.held sets key
+          ∙ ap (λ image. with_key_values image op undo.held key) same
           ∙ ap (λ last. with_key_values (after_op now op) op last key) both.1
           ∙ with_key_values-other (after_op now op) now op (after_op-unnamed now op) key;
       lacks = λ key none.
           All-append_left (λ op. names op key ≡ false) ops (op ∷ [])
-          (applied.lacks key (set-lacks old new op held sets key none).1);
+          (applied.lacks key (set-lacks old new op undo.held sets key none).1);
     }
 
 -- the first operation that isn't applied yet, read with any default
-pub applied-next : (base : Image) (old new : Values) (undos : List KeyValues) (ops : List Op) (count : ℕ) (d : Op) (held values : KeyValues)
+pub applied-next : (base : Image) (old found new : RecentState) (undos : List Undo) (ops : List Op) (count : ℕ) (op d : Op) (undo : Undo) (values : KeyValues)
     → count < length ops
+    → op ≡ get_or ops count d
     → IsApplied base old undos (take count ops)
-    → held ≡ key_values (over base old) (get_or ops count d)
-    → ((image : Image)
-    → key_values image (get_or ops count d) ≡ held
-    → key_values (after_op image (get_or ops count d)) (get_or ops count d) ≡ values)
-    → SetsKeys old new (get_or ops count d) values
-    → IsApplied base new (undos ++ held ∷ []) (take (count + 1) ops)
-applied-next base old new undos ops count d held values more applied holds after sets =
-    rw (take_more ops count d more)
-    (applied-push base old new undos (take count ops) (get_or ops count d) held values applied holds after sets)
+    → Extends base old found
+    → HasPlaces found undo op
+    → undo.held ≡ key_values (over base old) op
+    → ((image : Image) → key_values image op ≡ undo.held → key_values (after_op image op) op ≡ values)
+    → new.places ≡ found.places
+    → SetsKeys found new op values
+    → IsApplied base new (undos ++ undo ∷ []) (take (count + 1) ops)
+applied-next base old found new undos ops count op d undo values more there applied extends places holds after stay sets =
+    let next : take (count + 1) ops ≡ take count ops ++ op ∷ [] =
+    take_more ops count d more ∙ ap (λ last. take count ops ++ last ∷ []) (sym there) in
+    let same : over base found ≡ over base old = same_image (over base found) (over base old) extends.over in
+    rw next
+    (applied-push base found new undos (take count ops) op undo values
+    (applied-more base old found undos (take count ops) extends applied) places
+    (holds ∙ ap (λ image. key_values image op) (sym same)) after stay sets)
 
--- and the last one that is
-pub applied-last : (base : Image) (old new : Values) (undos : List KeyValues) (ops : List Op) (count : ℕ) (d : Op) (held : KeyValues)
+-- the last operation that is applied
+pub last-applied : (base : Image) (recent : RecentState) (undos : List Undo) (ops : List Op) (count : ℕ) (undo : Undo)
     → count < length ops
-    → IsApplied base old (undos ++ held ∷ []) (take (count + 1) ops)
-    → SetsKeys old new (get_or ops count d) held
-    → IsApplied base new undos (take count ops)
-applied-last base old new undos ops count d held more applied sets =
-    applied-pop base old new undos (take count ops) (get_or ops count d) held (rw (take_more ops count d more) at applied) sets
+    → IsApplied base recent (undos ++ undo ∷ []) (take (count + 1) ops)
+    → (op : Op) × (HasPlaces recent undo op × IsApplied base recent (undos ++ undo ∷ []) (take count ops ++ op ∷ []))
+last-applied base recent undos ops count undo more applied =
+    let d : Op = Put 0 (pos 0) in
+    let op = get_or ops count d in
+    let all : IsApplied base recent (undos ++ undo ∷ []) (take count ops ++ op ∷ []) = rw (take_more ops count d more) at applied in
+    (op, ((AllZip-last (HasPlaces recent) undos (take count ops) undo op all.places).1, all))
 
--- where the map lacks a key, it is what lies below it, and else what the map has
-over-none : (image : Image) (recent : Values) (key : ℕ)
-    → get nat_eq recent key ≡ None
+-- and it undone
+pub applied-last : (base : Image) (old new : RecentState) (undos : List Undo) (ops : List Op) (count : ℕ) (undo : Undo)
+    → count < length ops
+    → IsApplied base old (undos ++ undo ∷ []) (take (count + 1) ops)
+    → new.places ≡ old.places
+    → ((op : Op) → HasPlaces old undo op → SetsKeys old new op undo.held)
+    → IsApplied base new undos (take count ops)
+applied-last base old new undos ops count undo more applied stay sets =
+    let last = last-applied base old undos ops count undo more applied in
+    applied-pop base old new undos (take count ops) last.0 undo last.1.1 stay (sets last.0 last.1.0)
+
+-- more memory changes nothing
+pub applied-same : (base settled : Image) (old new : RecentState) (undos kept : List Undo) (ops : List Op)
+    → ((key : ℕ) → settled key ≡ base key)
+    → Extends base old new
+    → kept ≡ undos
+    → IsApplied base old undos ops
+    → IsApplied settled new kept ops
+applied-same base settled old new undos kept ops same more all applied =
+    rw (same_image settled base same, all) (applied-more base old new undos ops more applied)
+
+-- a key that has no value here has what lies below
+over-none : (image : Image) (recent : RecentState) (key : ℕ)
+    → has recent key ≡ None
     → over image recent key ≡ image key
 over-none image recent key none = ap (λ found. unwrap_or found (image key)) none
 
 -- the first operations go into the image below
-pub applied-settle : (base settled : Image) (recent : Values) (undos : List KeyValues) (front rest : List Op)
+pub applied-settle : (base settled : Image) (recent : RecentState) (undos : List Undo) (front rest : List Op)
     → IsApplied base recent undos (front ++ rest)
     → settled ≡ image_from base front
     → IsApplied settled recent (drop (length front) undos) rest
@@ -196,18 +297,20 @@ applied-settle base settled recent undos front rest applied is = record {
   undone =
       let first = undos_of base front in
       let last = undos_of (image_from base front) rest in
-      ap (λ all. drop (length front) all) (applied.undone ∙ undos_of-append base front rest)
+      sym (drop-map (λ (undo : Undo). undo.held) (length front) undos)
+      ∙ ap (λ all. drop (length front) all) (applied.undone ∙ undos_of-append base front rest)
       ∙ ap (λ count. drop count (first ++ last)) (sym (length-undos_of base front))
       ∙ drop-append_seam first last
       ∙ ap (λ image. undos_of image rest) (sym is);
+  places = AllZip-drop (HasPlaces recent) undos front rest applied.places;
   fold = λ key.
-      stays key (get nat_eq recent key) refl
+      stays key (has recent key) refl
       ∙ applied.fold key
       ∙ ap (λ (image : Image). image key) (fold-append after_op base front rest)
       ∙ ap (λ image. image_from image rest key) (sym is);
   lacks = λ key none. All-append_right (λ op. names op key ≡ false) front rest (applied.lacks key none);
 } where
-  stays : (key : ℕ) (found : Option ℤ) → get nat_eq recent key ≡ found → over settled recent key ≡ over base recent key
+  stays : (key : ℕ) (found : Option ℤ) → has recent key ≡ found → over settled recent key ≡ over base recent key
   stays key None none =
       over-none settled recent key none
       ∙ ap (λ (image : Image). image key) is
@@ -229,22 +332,26 @@ undos_of-at image (first ∷ ops) zero op held there kept =
 undos_of-at image (first ∷ ops) (suc at) op held there kept = undos_of-at (after_op image first) ops at op held there kept
 
 -- what a key held before the operation at a place, where this is tentative, is told by its undo
-pub value_before-tentative : (state : ImageState) (place key : ℕ) (undos : List KeyValues) (op : Op) (held : KeyValues)
+pub value_before-tentative : (state : ImageState) (place key : ℕ) (undos : List Undo) (op : Op) (undo : Undo)
     → state.committed ≤ place
-    → undos ≡ undos_of (base_of state) state.ops
+    → map (λ undo. undo.held) undos ≡ undos_of (base_of state) state.ops
     → slice_get state.ops (place - state.committed) ≡ Some op
-    → slice_get undos (place - state.committed) ≡ Some held
-    → value_among held op key ≡ value_before state place key
-value_before-tentative state place key undos op held tentative all there kept =
+    → slice_get undos (place - state.committed) ≡ Some undo
+    → value_among undo.held op key ≡ value_before state place key
+value_before-tentative state place key undos op undo tentative all there kept =
+    let held = undo.held in
+    let at = place - state.committed in
+    let kept_held : slice_get (map (λ (undo : Undo). undo.held) undos) at ≡ Some held =
+    slice_get-map (λ (undo : Undo). undo.held) undos at ∙ ap (λ found. option_map (λ (undo : Undo). undo.held) found) kept in
     let before = image_from (base_of state) (take (place - state.committed) state.ops) in
     let above : nat_le state.committed place ≡ true = le-leb state.committed place tentative in
-    let is : held ≡ key_values before op = undos_of-at (base_of state) state.ops (place - state.committed) op held there (rw all at kept) in
+    let is : held ≡ key_values before op = undos_of-at (base_of state) state.ops at op held there (rw all at kept_held) in
     rw (above, there) (among before is (key == first_key op) (key == second_key op) refl refl) where
-      among : (before : Image) → held ≡ key_values before op
+      among : (before : Image) → undo.held ≡ key_values before op
           → (first last : Bool)
           → (key == first_key op) ≡ first
           → (key == second_key op) ≡ last
-          → value_among held op key ≡ (if names op key then Some (before key) else None)
+          → value_among undo.held op key ≡ (if names op key then Some (before key) else None)
       among before is true last is_first is_last =
           rw is_first (ap (λ values. Some values.first) is ∙ ap (λ named. Some (before named)) (sym (eqb-true key (first_key op) is_first)))
       among before is false true is_first is_last =

@@ -1,4 +1,5 @@
 pub mod Image
 pub mod Keys
 pub mod Layers
+pub mod Recent
 pub mod Values

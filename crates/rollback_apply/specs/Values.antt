@@ -1,8 +1,8 @@
 -- The values of keys as they are kept in maps.
-use Rattle.std.specs.Prelude.{ℕ, ℤ, pos, ◌+◌, nat_eq, unwrap_or}
+use Rattle.std.specs.Prelude.{ℕ, ℤ, pos, nat_eq, unwrap_or}
 use Rattle.std.specs.declared.hash.FoldHasher.{FoldHasher}
 use Rattle.std.specs.declared.hash.BuildHasherDefault.{BuildHasherDefault}
-use Rattle.std.specs.HashMap.{HashMap, get, hash_map_len, spare}
+use Rattle.std.specs.HashMap.{HashMap, get}
 use Rattle.tact_base.specs.Images.{Image}
 
 -- the map from keys to values
@@ -12,11 +12,3 @@ Values = HashMap ℕ ℤ (BuildHasherDefault FoldHasher)
 -- the value of each key, which is 0 for one that the map lacks
 abbrev pub value_at : Values → Image
 value_at values key = unwrap_or (get nat_eq values key) (pos 0)
-
--- an image, but at each key of the map what the map has there
-abbrev pub over : Image → Values → Image
-over image values key = unwrap_or (get nat_eq values key) (image key)
-
--- how many entries the map can hold without taking memory
-abbrev pub capacity_of : Values → ℕ
-capacity_of values = hash_map_len values + spare values

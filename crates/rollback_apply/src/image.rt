@@ -93,8 +93,8 @@ impl Image {
         }
         let index = (place - self.committed) as usize;
         let op = *self.ops.get(index)?;
-        let held = *self.layers.undos.get(index)?;
-        held.among(op, key)
+        let undo = *self.layers.undos.get(index)?;
+        undo.held.among(op, key)
     }
 
     /// Puts an operation before the tentative one at `place`, or at the end. Those from `place` on are undone, from

@@ -1,25 +1,39 @@
-ghost use Rattle.std.specs.Prelude.{◌≡◌, ℕ, pos, ◌+◌, ◌*◌, ◌<◌, ◌≤◌, [], ◌∷◌, ◌++◌, vec_len, nat_eq, length, take, drop, OnOk, OnErr};
-ghost use Rattle.std.specs.HashMap.{get, spare};
+ghost use Rattle.std.specs.Prelude.{◌≡◌, ℕ, pos, ◌+◌, ◌*◌, ◌<◌, ◌≤◌, List, [], ◌∷◌, ◌++◌, vec_len, length, take, drop, OnOk, OnErr};
+ghost use Rattle.std.specs.HashMap.{spare};
 ghost use Rattle.std.specs.Vec.{vec_capacity};
 ghost use Rattle.tact_base.specs.Images.{image_from};
+ghost use Rattle.tact_base.specs.declared.write.Op as operation;
 ghost use Rattle.rollback_apply.specs.Keys.{key_values};
-ghost use Rattle.rollback_apply.specs.Layers.{Applies, HasMemory, KeepsMemory};
-ghost use Rattle.rollback_apply.specs.Values.{value_at, over, capacity_of};
+ghost use Rattle.rollback_apply.specs.Layers.{Applies, HasMemory, HasPlaces, KeepsMemory, SetsKeys};
+ghost use Rattle.rollback_apply.specs.Recent.{over, room_of, Extends, IsPlace};
+ghost use Rattle.rollback_apply.specs.Values.{value_at};
 
 use crate::keys::{KeyValues, first_key, second_key, values_after};
-use crate::values::{Values, apply_all, entries_for, set_keys, value_of};
+use crate::recent::Recent;
+use crate::values::{Values, apply_all, entries_for, value_of};
 use std::alloc::Global;
 use std::collections::HashMap;
 use tact_base::{NoMemory, Op};
 
-/// The values after committed operations, over them those after tentative ones, and for each of these an undo: what
-/// its keys held before it. A key stays in the recent map until this is forgotten, so that what it holds there is
-/// right and only its entry may be one too many.
+/// What undoes an operation.
+#[derive(Clone, Copy, Debug)]
+pub struct Undo {
+    /// The place of the key that it changes first.
+    pub first: usize,
+    /// The place of the key that it changes last.
+    pub second: usize,
+    /// What its keys held before it.
+    pub held: KeyValues,
+}
+
+/// The values after committed operations, over them those after tentative ones, and for each of these an undo. A key
+/// keeps its recent value until all are forgotten, so that what it has there is right and only its entry may be one too
+/// many.
 #[derive(Debug, Drop)]
 pub struct Layers {
     pub base: Values,
-    pub recent: Values,
-    pub undos: Vec<KeyValues>,
+    pub recent: Recent,
+    pub undos: Vec<Undo>,
 }
 
 impl Layers {
@@ -31,17 +45,18 @@ impl Layers {
     {
         Layers {
             base: HashMap::new(alloc),
-            recent: HashMap::new(alloc),
+            recent: Recent::new(alloc),
             undos: Vec::new(alloc),
         }
     }
 
-    /// Takes memory for `count` tentative operations in all. The recent map has twice the entries that they can name,
-    /// so that it is seldom full of such as no longer count. `NoMemory` leaves the values and the undos as they were.
+    /// Takes memory for `count` tentative operations in all. There is memory for twice the recent values that they can
+    /// name, so that it is seldom full of such as no longer count. `NoMemory` leaves the values and the undos as they
+    /// were.
     pub fn reserve(&mut self, count: usize) -> Result<(), NoMemory>
         requires { vec_len self.old.undos ≤ count }
         ensures base { (key : ℕ) → value_at self.new.base key ≡ value_at self.old.base key }
-        ensures recent { (key : ℕ) → get nat_eq self.new.recent key ≡ get nat_eq self.old.recent key }
+        ensures applied { (ops : List operation.Op) → Applies self.old ops → Applies self.new ops }
         ensures undos { self.new.undos.items ≡ self.old.undos.items }
         ensures kept { KeepsMemory self.old self.new }
         ensures ok { OnOk result (HasMemory self.new count) }
@@ -50,8 +65,7 @@ impl Layers {
         let entries = entries_for(count)?;
         let twice = entries_for(entries)?;
         self.undos.reserve(count - self.undos.len())?;
-        self.recent
-            .reserve(twice.saturating_sub(self.recent.len()))?;
+        self.recent.reserve(twice)?;
         self.base.reserve(entries)?;
         Ok(())
     }
@@ -60,29 +74,28 @@ impl Layers {
     pub fn get(&self, key: u64) -> i64
         ensures { result ≡ over (value_at self.now.base) self.now.recent key }
     {
-        match self.recent.get(&key) {
-            Some(value) => *value,
+        match self.recent.get(key) {
+            Some(value) => value,
             None => value_of(&self.base, key),
         }
     }
 
     /// Undoes operations from the last one back to `place`, so that those from there on can be put in anew, `count`
-    /// of them. Where the entries that no undo took away leave too little memory for that, all are undone at once.
-    /// Takes no memory.
+    /// of them. Where the recent values that no undo took away leave too little memory for that, all are undone at
+    /// once. Takes no memory.
     pub fn rewind(&mut self, ops: &[Op], place: usize, count: usize)
         requires within { place ≤ length ops.now }
         requires all { vec_len self.old.undos ≡ length ops.now }
         requires applied { Applies self.old ops.now }
-        requires memory { 2 * (place + count) ≤ capacity_of self.old.recent }
+        requires memory { 2 * (place + count) ≤ room_of self.old.recent }
         ensures base { self.new.base ≡ self.old.base }
         ensures place { vec_len self.new.undos ≤ place }
         ensures applied { Applies self.new (take (vec_len self.new.undos) ops.now) }
         ensures capacity { vec_capacity self.new.undos ≡ vec_capacity self.old.undos }
-        ensures memory { capacity_of self.old.recent ≤ capacity_of self.new.recent }
-        ensures spare { 2 * (place + count) ≤ spare self.new.recent + 2 * vec_len self.new.undos }
+        ensures memory { room_of self.old.recent ≤ room_of self.new.recent }
+        ensures spare { 2 * (place + count) ≤ self.new.recent.spare + 2 * vec_len self.new.undos }
     {
-        let pairs = (self.recent.capacity() - self.recent.len()) / 2;
-        if pairs < ops.len() - place + count {
+        if self.recent.spare() / 2 < count {
             self.forget();
         } else {
             self.undo_to(ops, place);
@@ -94,12 +107,12 @@ impl Layers {
         requires within { vec_len self.old.undos ≤ length ops.now }
         requires applied { Applies self.old (take (vec_len self.old.undos) ops.now) }
         requires capacity { length ops.now ≤ vec_capacity self.old.undos }
-        requires spare { 2 * length ops.now ≤ spare self.old.recent + 2 * vec_len self.old.undos }
+        requires spare { 2 * length ops.now ≤ self.old.recent.spare + 2 * vec_len self.old.undos }
         ensures base { self.new.base ≡ self.old.base }
         ensures all { vec_len self.new.undos ≡ length ops.now }
         ensures applied { Applies self.new ops.now }
         ensures capacity { vec_capacity self.old.undos ≤ vec_capacity self.new.undos }
-        ensures memory { capacity_of self.old.recent ≤ capacity_of self.new.recent }
+        ensures memory { room_of self.old.recent ≤ room_of self.new.recent }
     {
         while self.undos.len() < ops.len() {
             self.apply(ops);
@@ -127,45 +140,43 @@ impl Layers {
         requires within { place ≤ length ops.now }
         requires all { vec_len self.old.undos ≡ length ops.now }
         requires applied { Applies self.old ops.now }
-        requires spare { 2 * length ops.now ≤ spare self.old.recent + 2 * place }
         ensures base { self.new.base ≡ self.old.base }
         ensures place { vec_len self.new.undos ≡ place }
         ensures applied { Applies self.new (take (vec_len self.new.undos) ops.now) }
         ensures capacity { vec_capacity self.new.undos ≡ vec_capacity self.old.undos }
-        ensures memory { capacity_of self.old.recent ≤ capacity_of self.new.recent }
-        ensures spare { spare self.old.recent + 2 * place ≤ spare self.new.recent + 2 * length ops.now }
+        ensures memory { room_of self.new.recent ≡ room_of self.old.recent }
+        ensures spare { self.new.recent.spare ≡ self.old.recent.spare }
     {
         while self.undos.len() > place {
             self.undo(ops);
         }
     }
 
-    // Undoes the last operation that is applied.
+    // Undoes the last operation that is applied, of `ops`, of which it reads nothing: the undo has the places.
     fn undo(&mut self, ops: &[Op])
         requires some { 0 < vec_len self.old.undos }
         requires within { vec_len self.old.undos ≤ length ops.now }
         requires applied { Applies self.old (take (vec_len self.old.undos) ops.now) }
-        requires spare { 2 ≤ spare self.old.recent }
         ensures base { self.new.base ≡ self.old.base }
         ensures applied { Applies self.new (take (vec_len self.new.undos) ops.now) }
         ensures undos { vec_len self.old.undos ≡ vec_len self.new.undos + 1 }
         ensures capacity { vec_capacity self.new.undos ≡ vec_capacity self.old.undos }
-        ensures memory { capacity_of self.old.recent ≤ capacity_of self.new.recent }
-        ensures spare { spare self.old.recent ≤ spare self.new.recent + 2 }
+        ensures memory { room_of self.new.recent ≡ room_of self.old.recent }
+        ensures spare { self.new.recent.spare ≡ self.old.recent.spare }
     {
         match self.undos.pop() {
-            Some(held) => set_keys(&mut self.recent, ops[self.undos.len()], held),
+            Some(undo) => set_keys(&mut self.recent, undo, undo.held),
             None => unreachable!(),
         }
     }
 
-    // Undoes all operations at once, and takes their keys out of the recent map.
+    // Undoes all operations at once, and takes the recent values away.
     fn forget(&mut self)
         ensures base { self.new.base ≡ self.old.base }
         ensures undos { vec_len self.new.undos ≡ 0 }
         ensures applied { Applies self.new [] }
         ensures capacity { vec_capacity self.new.undos ≡ vec_capacity self.old.undos }
-        ensures memory { capacity_of self.old.recent ≤ spare self.new.recent }
+        ensures memory { room_of self.old.recent ≤ self.new.recent.spare }
     {
         self.recent.clear();
         self.undos.clear();
@@ -176,34 +187,59 @@ impl Layers {
         requires more { vec_len self.old.undos < length ops.now }
         requires applied { Applies self.old (take (vec_len self.old.undos) ops.now) }
         requires capacity { vec_len self.old.undos < vec_capacity self.old.undos }
-        requires spare { 2 ≤ spare self.old.recent }
+        requires spare { 2 ≤ self.old.recent.spare }
         ensures base { self.new.base ≡ self.old.base }
         ensures applied { Applies self.new (take (vec_len self.new.undos) ops.now) }
         ensures undos { vec_len self.new.undos ≡ vec_len self.old.undos + 1 }
         ensures capacity { vec_capacity self.old.undos ≤ vec_capacity self.new.undos }
-        ensures memory { capacity_of self.old.recent ≤ capacity_of self.new.recent }
-        ensures spare { spare self.old.recent ≤ spare self.new.recent + 2 }
+        ensures memory { room_of self.old.recent ≤ room_of self.new.recent }
+        ensures spare { self.old.recent.spare ≤ self.new.recent.spare + 2 }
     {
         let op = ops[self.undos.len()];
-        let held = self.held_by(op);
-        if self.undos.push(held).is_err() {
+        let undo = undo_of(&mut self.recent, &self.base, op);
+        if self.undos.push(undo).is_err() {
             unreachable!();
         }
-        set_keys(&mut self.recent, op, values_after(op, held));
+        set_keys(&mut self.recent, undo, values_after(op, undo.held));
     }
+}
 
-    // What the keys of an operation hold.
-    fn held_by(&self, op: Op) -> KeyValues
-        ensures { result ≡ key_values (over (value_at self.now.base) self.now.recent) op }
-    {
-        let first = self.get(first_key(op));
-        let second = if second_key(op) == first_key(op) {
-            first
-        } else {
-            self.get(second_key(op))
-        };
-        KeyValues { first, second }
+// What undoes an operation. Its keys get places, with the values that they have in `base`, where they have none.
+fn undo_of(recent: &mut Recent, base: &Values, op: Op) -> Undo
+    requires { 2 ≤ recent.old.spare }
+    ensures extends { Extends (value_at base.now) recent.old recent.new }
+    ensures places { HasPlaces recent.new result op }
+    ensures held { result.held ≡ key_values (over (value_at base.now) recent.old) op }
+    ensures room { room_of recent.old ≤ room_of recent.new }
+    ensures spare { recent.old.spare ≤ recent.new.spare + 2 }
+{
+    let first = recent.place_of(first_key(op), base);
+    let second = if second_key(op) == first_key(op) {
+        first
+    } else {
+        recent.place_of(second_key(op), base)
+    };
+    let held = KeyValues {
+        first: recent.at(first),
+        second: recent.at(second),
+    };
+    Undo {
+        first,
+        second,
+        held,
     }
+}
+
+// Gives the keys at the places of an undo other values.
+fn set_keys(recent: &mut Recent, undo: Undo, values: KeyValues)
+    requires first { IsPlace recent.old undo.first }
+    requires second { IsPlace recent.old undo.second }
+    ensures places { recent.new.places ≡ recent.old.places }
+    ensures values { (op : operation.Op) → HasPlaces recent.old undo op → SetsKeys recent.old recent.new op values }
+    ensures spare { recent.new.spare ≡ recent.old.spare }
+{
+    recent.set(undo.first, values.first);
+    recent.set(undo.second, values.second);
 }
 
 /// Drops the first `count` items of a list; the memory stays. Takes no memory.

@@ -4,6 +4,7 @@
 mod image;
 mod keys;
 mod layers;
+mod recent;
 mod values;
 
 pub use image::Image;

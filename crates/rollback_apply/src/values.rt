@@ -2,7 +2,7 @@ ghost use Rattle.std.specs.Prelude.{◌≡◌, ℕ, ◌+◌, ◌*◌, ◌==◌, 
 ghost use Rattle.std.specs.HashMap.{get, spare};
 ghost use Rattle.tact_base.specs.Images.{after_op, image_from, image_of};
 ghost use Rattle.rollback_apply.specs.Keys as keys;
-ghost use Rattle.rollback_apply.specs.Values.{value_at, capacity_of};
+ghost use Rattle.rollback_apply.specs.Values.{value_at};
 
 use crate::keys::{KeyValues, first_key, second_key, values_after};
 use std::alloc::Global;
@@ -65,15 +65,14 @@ fn apply(values: &mut Values, op: Op)
     set_keys(values, op, values_after(op, held));
 }
 
-/// Gives the keys of an operation other values, in memory that is there.
-pub fn set_keys(values: &mut Values, op: Op, new: KeyValues)
+// Gives the keys of an operation other values, in memory that is there.
+fn set_keys(values: &mut Values, op: Op, new: KeyValues)
     requires { 2 ≤ spare values.old }
     ensures updates { (key : ℕ)
         → get nat_eq values.new key
         ≡ (if key == keys.second_key op
         then Some new.second
         else (if key == keys.first_key op then Some new.first else get nat_eq values.old key)) }
-    ensures memory { capacity_of values.old ≤ capacity_of values.new }
     ensures spare { spare values.old ≤ spare values.new + 2 }
 {
     if first_key(op) != second_key(op) {
@@ -88,7 +87,6 @@ fn set_value(values: &mut Values, key: u64, value: i64)
     requires { 0 < spare values.old }
     ensures updates { (other : ℕ)
         → get nat_eq values.new other ≡ (if other == key then Some value else get nat_eq values.old other) }
-    ensures memory { capacity_of values.old ≤ capacity_of values.new }
     ensures spare { spare values.old ≤ spare values.new + 1 }
 {
     match values.get_mut(&key) {

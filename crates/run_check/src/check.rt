@@ -102,7 +102,10 @@ impl Checker {
             moment: short.moment,
         };
         let set = &mut self.set;
-        test_time(set, at)?;
+        match test_time(set, at) {
+            Ok(()) => {}
+            Err(refusal) => return Err(refusal),
+        }
         match &short.act {
             ShortAct::Call {
                 client,

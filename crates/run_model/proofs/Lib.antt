@@ -1,6 +1,7 @@
 pub mod TextLemmas
 pub mod ByteLemmas
 pub mod Readers
+pub mod Rising
 pub mod ListBytes
 pub mod OpBytes
 pub mod WeightBytes

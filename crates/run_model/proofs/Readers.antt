@@ -1,12 +1,14 @@
 -- Readers that read just what is spelled: of one field, of fields one after the other, and of values made of what was read.
-use Rattle.std.proofs.Common.{◌≡◌, ℕ, ◌+◌, ◌^◌, ◌<◌, ◌≤◌, ℤ, List, [], ◌∷◌, ◌++◌, length, Ok, Err, refl, sym, ap, subst, arith}
+use Rattle.std.proofs.Common.{◌≡◌, ◌≢◌, ℕ, suc, ◌+◌, ◌^◌, ◌<◌, ◌≤◌, ℤ, Bool, true, List, [], ◌∷◌, ◌++◌, length, get_or, Ok, Err, refl, sym, ap, subst, ◌∙◌, arith}
 use Rattle.std.specs.Prelude.{unsigned_abs}
+use Rattle.std.specs.Result.{IfOk}
 use Rattle.std.specs.Int.{w64}
 use Rattle.std.specs.Int.RustNames.{FitsSigned}
+use Rattle.std.proofs.lemmas.Bool.Decides.{nat_tests}
 use Rattle.std.proofs.lemmas.List.{length-append}
 use Rattle.run_model.specs.declared.fields.FieldFault.{FieldFault}
-use Rattle.run_model.specs.Bytes.{◌>>=◌, Field, StandsAt, byte_at, number_at, signed_at, any_number_at, any_signed_at, number_bytes, signed_bytes}
-use Rattle.run_model.proofs.ByteLemmas.{AreBytes, Spelled, stands_first, stands_second, stands_within, spelled_then, bind_ok, ok_is, done, same_read, no_read, byte_taken, byte_again, number_taken, number_again, signed_taken, signed_again}
+use Rattle.run_model.specs.Bytes.{◌>>=◌, Field, StandsAt, field_at, is_from_to, is_other, byte_at, other_at, number_at, signed_at, any_number_at, any_signed_at, number_bytes, signed_bytes}
+use Rattle.run_model.proofs.ByteLemmas.{AreBytes, Spelled, stands_first, stands_second, stands_within, spelled_then, bind_ok, field_taken, field_again, ok_is, done, same_read, no_read, byte_taken, byte_again, number_taken, number_again, signed_taken, signed_again}
 
 -- What is read stands there, spelled; and what stands there, spelled, is read.
 pub record Reader {A : Type 0} (Spells : A → List ℕ → Type 0) (read : List ℕ → ℕ → Field A) : Type 0 where
@@ -97,26 +99,33 @@ given {A = A} x = record {
       rw (s.0, ends) refl;
 }
 
--- one reader, and then another
-pub and_then : {A B : Type 0} {First : A → List ℕ → Type 0} {Second : A → B → List ℕ → Type 0} {read : List ℕ → ℕ → Field A} {next : A → List ℕ → ℕ → Field B}
+-- one reader, and then another that may rest on what the first read
+pub and_then_if : {A B : Type 0} {First : A → List ℕ → Type 0} {Second : A → B → List ℕ → Type 0} {read : List ℕ → ℕ → Field A} {next : A → List ℕ → ℕ → Field B}
     → Reader First read
-    → ((x : A) → Reader (Second x) (next x))
+    → ((x : A) (text : List ℕ) → First x text → Reader (Second x) (next x))
     → Reader (Then First Second) (λ bytes place. read bytes place >>= λ x. next x.0 bytes x.1)
-and_then {A = A} {B = B} {First = First} {Second = Second} {read = read} {next = next} first second = record {
+and_then_if {A = A} {B = B} {First = First} {Second = Second} {read = read} {next = next} first second = record {
   taken = λ bytes place y end fits e.
       let a = bind_ok (read bytes place) (λ x. next x.0 bytes x.1) (y, end) e in
       let p = first.taken bytes place a.0.0 a.0.1 fits a.1 in
-      let q = (second a.0.0).taken bytes a.0.1 y end fits a.2 in
+      let q = (second a.0.0 p.0 p.1).taken bytes a.0.1 y end fits a.2 in
       (p.0 ++ q.0, (a.0.0, p.0, q.0, p.1, q.1, refl), spelled_then bytes place p.0 a.0.1 q.0 end p.2 q.2);
   again = λ bytes place y text fits within s stands.
       let both : StandsAt (s.1 ++ s.2) bytes place = subst (λ t. StandsAt t bytes place) s.5 stands in
       let start = stands_first s.1 s.2 bytes place both in
       let one = first.again bytes place s.0 s.1 fits within s.3 start in
       let past = stands_within s.1 bytes place start within in
-      let two = (second s.0).again bytes (place + length s.1) y s.2 fits past s.4 (stands_second s.1 s.2 bytes place both) in
+      let two = (second s.0 s.1 s.3).again bytes (place + length s.1) y s.2 fits past s.4 (stands_second s.1 s.2 bytes place both) in
       let ends : place + length s.1 + length s.2 ≡ place + length text = omega (arith, ap length s.5, length-append s.1 s.2) in
       rw (one, two, ends) refl;
 }
+
+-- the same, where the second rests on the value alone
+pub and_then : {A B : Type 0} {First : A → List ℕ → Type 0} {Second : A → B → List ℕ → Type 0} {read : List ℕ → ℕ → Field A} {next : A → List ℕ → ℕ → Field B}
+    → Reader First read
+    → ((x : A) → Reader (Second x) (next x))
+    → Reader (Then First Second) (λ bytes place. read bytes place >>= λ x. next x.0 bytes x.1)
+and_then first second = and_then_if first (λ x text is. second x)
 
 -- a value that is made of what was read
 pub making : {A B : Type 0} {Spells : A → List ℕ → Type 0} {read : List ℕ → ℕ → Field A}
@@ -150,6 +159,49 @@ said reader to from = record {
   again = λ bytes place x text fits within s stands. reader.again bytes place x text fits within (from x text s) stands;
 }
 
+-- ---- a byte by its rule
+
+from_itself : (number : ℕ) → is_from_to 0 (suc number) number ≡ true
+from_itself number = grind (arith, nat_tests)
+
+-- a byte that keeps a rule
+pub byte_by_rule : (rule : ℕ → Bool) → Reader (λ byte text. (rule byte ≡ true) × (text ≡ byte ∷ [])) (field_at 1 (λ field. get_or field 0 0) rule)
+unfolding byte_at
+byte_by_rule rule = record {
+  taken = λ bytes place x next fits e.
+      let t = field_taken 1 (λ field. get_or field 0 0) rule bytes place x next e in
+      let byte : byte_at 0 (suc x) bytes place ≡ Ok (x, place + 1) = field_again 1 (λ field. get_or field 0 0) (is_from_to 0 (suc x)) bytes place x t.0 t.1 (from_itself x) in
+      let b = (byte_field 0 (suc x)).taken bytes place x (place + 1) fits byte in
+      (b.0, (t.2, b.1.2), record { stands = b.2.stands; after = t.3 ∙ b.2.after });
+  again = λ bytes place x text fits within s stands.
+      let byte = (byte_field 0 (suc x)).again bytes place x text fits within (omega arith, omega arith, s.1) stands in
+      let t = field_taken 1 (λ field. get_or field 0 0) (is_from_to 0 (suc x)) bytes place x (place + length text) byte in
+      let again = field_again 1 (λ field. get_or field 0 0) rule bytes place x t.0 t.1 s.0 in
+      again ∙ ap (λ n. Ok (x, n)) (sym t.3);
+}
+
+-- a replica other than one
+other_is : (other replicas replica : ℕ)
+    → is_other other replicas replica ≡ true
+    → (replica < replicas) × (replica ≢ other)
+other_is other replicas replica e = (grind (arith, nat_tests), λ same. grind (arith, nat_tests))
+
+is_the_other : (other replicas replica : ℕ)
+    → replica < replicas
+    → replica ≢ other
+    → is_other other replicas replica ≡ true
+is_the_other other replicas replica below isnt = grind (arith, nat_tests)
+
+abbrev pub IsOther : ℕ → ℕ → ℕ → List ℕ → Type 0
+IsOther other replicas replica text = (replica < replicas) × (replica ≢ other) × (text ≡ replica ∷ [])
+
+pub other_reader : (other replicas : ℕ) → Reader (IsOther other replicas) (other_at other replicas)
+unfolding other_at
+other_reader other replicas =
+    said (byte_by_rule (is_other other replicas))
+    (λ replica text s. let is = other_is other replicas replica s.0 in (is.0, is.1, s.1))
+    (λ replica text s. (is_the_other other replicas replica s.0 s.1, s.2))
+
 -- ---- what a call that reads promises
 
 module _ {A : Type 0} {Good : A → Type 0} {spell : A → List ℕ} {read : List ℕ → ℕ → Field A} (reader : Reader (SpelledAs Good spell) read) (bytes : List ℕ) (place : ℕ) (fits : AreBytes bytes) where
@@ -161,6 +213,16 @@ module _ {A : Type 0} {Good : A → Type 0} {spell : A → List ℕ} {read : Lis
       let t = reader.taken bytes place x next fits (sym e) in
       let spelled = subst (λ text. Spelled bytes place text next) t.1.1 t.2 in
       (t.1.0, spelled.stands, spelled.after)
+
+  -- it ends within the bytes
+  pub ends_within : (result : Field A)
+      → place ≤ length bytes
+      → result ≡ read bytes place
+      → IfOk result (λ x. x.1 ≤ length bytes)
+  ends_within (Ok x) within e =
+      let t = found x.0 x.1 e in
+      omega (arith, t.2, stands_within (spell x.0) bytes place t.1 within)
+  ends_within (Err fault) within e = tt
 
   -- what stands there was read
   pub only : (x : A) (next : ℕ)

@@ -56,9 +56,9 @@ module _ (conits : ℕ) where
   by_tag (suc (suc zero)) bytes place request next low high fits e =
       let t = held_reader.taken bytes place request next fits e in
       let s = t.1 in
-      let spells : 2 ∷ t.0 ≡ request_bytes (Held s.0 s.4.0) = rw (s.5, s.3.3, s.4.1.1) refl in
-      let small = limits_hold (unsigned_abs s.0.nweight) s.0.oweight s.3.2 in
-      (t.0, subst (λ r. Says r (2 ∷ t.0)) (sym s.4.2) ((s.3.1, small.0, small.1, s.4.1.0), spells), t.2)
+      let spells : 2 ∷ t.0 ≡ request_bytes (Held s.0 s.4.0) = rw (s.5, s.3.1, s.4.1.1) refl in
+      let small = limits_hold (unsigned_abs s.0.nweight) s.0.oweight s.3.0.limits in
+      (t.0, subst (λ r. Says r (2 ∷ t.0)) (sym s.4.2) ((s.3.0.below, small.0, small.1, s.4.1.0), spells), t.2)
   by_tag (suc (suc (suc zero))) bytes place request next low high fits e =
       let t = reserve_reader.taken bytes place request next fits e in
       let s = t.1 in
@@ -90,7 +90,7 @@ module _ (conits : ℕ) where
   again bytes place (Held weight op) text fits within s stands =
       let there = subst (λ t. StandsAt t bytes place) s.1 stands in
       rw s.1 (tagged_again 1 6 (request_fields_at conits) 2 held_reader (omega arith) (omega arith) bytes place (Held weight op) (weight_bytes weight ++ op_bytes op) fits within
-      (weight, weight_bytes weight, op_bytes op, (omega arith, s.0.0, limits_of (unsigned_abs weight.nweight) weight.oweight s.0.1 s.0.2, refl), (op, (s.0.3, refl), refl), refl) there)
+      (weight, weight_bytes weight, op_bytes op, (record { reached = omega arith; below = s.0.0; limits = limits_of (unsigned_abs weight.nweight) weight.oweight s.0.1 s.0.2 }, refl), (op, (s.0.3, refl), refl), refl) there)
   again bytes place (Reserve conit amount) text fits within s stands =
       let there = subst (λ t. StandsAt t bytes place) s.1 stands in
       rw s.1 (tagged_again 1 6 (request_fields_at conits) 3 reserve_reader (omega arith) (omega arith) bytes place (Reserve conit amount) (conit ∷ number_bytes amount) fits within

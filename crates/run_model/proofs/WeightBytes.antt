@@ -10,7 +10,7 @@ use Rattle.tact_base.specs.declared.conit_list.Need.{Need}
 use Rattle.tact_base.proofs.ConitListLemmas.{weight_in_limits}
 use Rattle.run_model.specs.Bytes.{AreWeightsOf, AreNeedsOf, weight_at, weights_at, need_at, needs_at, number_bytes, signed_bytes, weight_bytes, weights_bytes, need_bytes, needs_bytes}
 use Rattle.run_model.proofs.Readers.{Reader, Then, Made, IsByte, IsNumber, IsSigned, SpelledAs, byte_field, number_field, signed_field, and_then, making, said}
-use Rattle.run_model.proofs.ListBytes.{IsItem, conit_list_reader}
+use Rattle.run_model.proofs.ListBytes.{IsSpelledItem, conit_list_reader}
 
 -- weights in their limits
 pub limits_of : (nweight oweight : ℕ)
@@ -28,7 +28,7 @@ limits_hold nweight oweight e = (grind (arith, nat_tests), grind (arith, nat_tes
 abbrev pub need_in_limits : Need → Bool
 need_in_limits need = nat_le need.num AMOUNT_MAX && nat_le need.order AMOUNT_MAX && nat_le need.stale MOMENT_MAX
 
-need_limits_of : (num order stale : ℕ)
+pub need_limits_of : (num order stale : ℕ)
     → num ≤ AMOUNT_MAX
     → order ≤ AMOUNT_MAX
     → stale ≤ MOMENT_MAX
@@ -43,7 +43,7 @@ need_limits_hold num order stale e = (grind (arith, nat_tests), grind (arith, na
 -- ---- weights
 
 abbrev pub IsWeight : ℕ → ℕ → Weight → List ℕ → Type 0
-IsWeight conits = IsItem (λ (weight : Weight). weight.conit) weight_in_limits weight_bytes conits
+IsWeight conits = IsSpelledItem (λ (weight : Weight). weight.conit) weight_in_limits weight_bytes conits
 
 abbrev WeightFields : ℕ → ℕ → Weight → List ℕ → Type 0
 WeightFields conits least =
@@ -62,15 +62,15 @@ weight_reader conits least =
         let is : Weight = weight_of s.0 s.4.0 s.4.4.0 in
         let limits = limits_of (unsigned_abs s.4.0) s.4.4.0 s.4.3.0 (omega (arith, s.4.4.1.1)) in
         let spells : text ≡ weight_bytes is = rw (s.5, s.3.2, s.4.5, s.4.3.2, s.4.4.1.2) refl in
-        subst (λ (w : Weight). IsWeight conits least w text) (sym s.4.4.2) (s.3.0, s.3.1, limits, spells)
+        subst (λ (w : Weight). IsWeight conits least w text) (sym s.4.4.2) (record { reached = s.3.0; below = s.3.1; limits = limits }, spells)
 
     from : (weight : Weight) (text : List ℕ) → IsWeight conits least weight text → WeightFields conits least weight text
     from weight text s =
-        let small = limits_hold (unsigned_abs weight.nweight) weight.oweight s.2 in (
+        let small = limits_hold (unsigned_abs weight.nweight) weight.oweight s.0.limits in (
           weight.conit,
           weight.conit ∷ [],
           signed_bytes weight.nweight ++ number_bytes weight.oweight,
-          (s.0, s.1, refl),
+          (s.0.reached, s.0.below, refl),
           (
             weight.nweight,
             signed_bytes weight.nweight,
@@ -79,7 +79,7 @@ weight_reader conits least =
             (weight.oweight, (omega arith, omega (arith, small.1), refl), refl),
             refl,
           ),
-          s.3,
+          s.1,
         )
 
 pub weights_reader : (conits : ℕ) → Reader (SpelledAs (AreWeightsOf conits) weights_bytes) (weights_at conits)
@@ -89,7 +89,7 @@ weights_reader conits = conit_list_reader (λ (weight : Weight). weight.conit) w
 -- ---- needs
 
 abbrev pub IsNeed : ℕ → ℕ → Need → List ℕ → Type 0
-IsNeed conits = IsItem (λ (need : Need). need.conit) need_in_limits need_bytes conits
+IsNeed conits = IsSpelledItem (λ (need : Need). need.conit) need_in_limits need_bytes conits
 
 abbrev NeedFields : ℕ → ℕ → Need → List ℕ → Type 0
 NeedFields conits least =
@@ -109,15 +109,15 @@ need_reader conits least =
         let is : Need = need_of s.0 s.4.0 s.4.4.0 s.4.4.4.0 in
         let limits = need_limits_of s.4.0 s.4.4.0 s.4.4.4.0 (omega (arith, s.4.3.1)) (omega (arith, s.4.4.3.1)) (omega (arith, s.4.4.4.1.1)) in
         let spells : text ≡ need_bytes is = rw (s.5, s.3.2, s.4.5, s.4.3.2, s.4.4.5, s.4.4.3.2, s.4.4.4.1.2) refl in
-        subst (λ (n : Need). IsNeed conits least n text) (sym s.4.4.4.2) (s.3.0, s.3.1, limits, spells)
+        subst (λ (n : Need). IsNeed conits least n text) (sym s.4.4.4.2) (record { reached = s.3.0; below = s.3.1; limits = limits }, spells)
 
     from : (need : Need) (text : List ℕ) → IsNeed conits least need text → NeedFields conits least need text
     from need text s =
-        let small = need_limits_hold need.num need.order need.stale s.2 in (
+        let small = need_limits_hold need.num need.order need.stale s.0.limits in (
           need.conit,
           need.conit ∷ [],
           number_bytes need.num ++ (number_bytes need.order ++ number_bytes need.stale),
-          (s.0, s.1, refl),
+          (s.0.reached, s.0.below, refl),
           (
             need.num,
             number_bytes need.num,
@@ -133,7 +133,7 @@ need_reader conits least =
             ),
             refl,
           ),
-          s.3,
+          s.1,
         )
 
 pub needs_reader : (conits : ℕ) → Reader (SpelledAs (AreNeedsOf conits) needs_bytes) (needs_at conits)

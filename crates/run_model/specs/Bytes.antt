@@ -1,5 +1,5 @@
 -- Weights, needs and operations as bytes: how each is spelled, and how the fields of a spelling are read.
-use Rattle.std.specs.Prelude.{◌≡◌, ℕ, zero, suc, ◌+◌, ◌^◌, ◌<◌, ℤ, Bool, ◌&&◌, ◌==◌, nat_le, nat_lt, List, [], ◌∷◌, ◌++◌, length, take, drop, slice_index, All, Result, Ok, Err, if◌then◌else◌}
+use Rattle.std.specs.Prelude.{◌≡◌, ℕ, zero, suc, ◌+◌, ◌^◌, ◌<◌, ℤ, Bool, not, ◌&&◌, ◌==◌, nat_le, nat_lt, List, [], ◌∷◌, ◌++◌, length, take, drop, slice_index, All, Result, Ok, Err, if◌then◌else◌}
 use Rattle.std.specs.Int.{w64, to_be_bytes, from_be_bytes, cast_unsigned, cast_signed}
 use Rattle.std.specs.Int.RustNames.{unsigned_abs}
 use Rattle.std.specs.List.{flat_map}
@@ -79,6 +79,13 @@ number_at least bound = field_at 8 (from_be_bytes w64) (is_from_to least bound)
 unfoldable pub signed_at : ℕ → List ℕ → ℕ → Field ℤ
 signed_at size = field_at 8 (λ field. cast_signed w64 (from_be_bytes w64 field)) (λ number. nat_le (unsigned_abs number) size)
 
+-- a replica other than one, of so many, in one byte
+abbrev pub is_other : ℕ → ℕ → ℕ → Bool
+is_other other replicas replica = nat_lt replica replicas && not (replica == other)
+
+unfoldable pub other_at : ℕ → ℕ → List ℕ → ℕ → Field ℕ
+other_at other replicas = field_at 1 (λ field. slice_index field 0) (is_other other replicas)
+
 -- any number of eight bytes, and any signed one
 abbrev pub any_number_at : List ℕ → ℕ → Field ℕ
 any_number_at = number_at 0 (2 ^ 64)
@@ -93,6 +100,10 @@ list_at item after (suc count) least bytes place = do
   first ← item least bytes place
   others ← list_at item after count (after first.0) bytes first.1
   Ok (first.0 ∷ others.0, others.1)
+
+-- so many numbers of eight bytes, each below a bound
+abbrev pub numbers_at : ℕ → ℕ → List ℕ → ℕ → Field (List ℕ)
+numbers_at bound count = list_at (λ least. number_at 0 bound) (λ number. 0) count 0
 
 -- a weight with a conit of at least `least`, which the one before doesn't reach
 unfoldable pub weight_at : ℕ → ℕ → List ℕ → ℕ → Field Weight

@@ -81,12 +81,12 @@ impl Clone for Message {
             from: self.from,
             to: self.to,
             number: self.number,
-            haves: self.haves.clone()?,
-            covers: self.covers.clone()?,
-            firsts: self.firsts.clone()?,
-            writes: self.writes.clone()?,
-            lent: self.lent.clone()?,
-            returned: self.returned.clone()?,
+            haves: self.haves.copied()?,
+            covers: self.covers.copied()?,
+            firsts: self.firsts.copied()?,
+            writes: self.writes.copied()?,
+            lent: self.lent.copied()?,
+            returned: self.returned.copied()?,
         })
     }
 }

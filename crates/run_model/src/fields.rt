@@ -2,11 +2,11 @@
 //! and the place after it, or the fault; it takes no memory. Where an appender fails, the bytes still begin with
 //! what they were.
 
-ghost use Rattle.std.specs.Prelude.{◌≡◌, ◌≤◌, ◌<◌, ◌+◌, ◌^◌, ◌∷◌, ◌++◌, [], IfOk, OnOk, OnErr, length, take, drop, unsigned_abs};
+ghost use Rattle.std.specs.Prelude.{◌≡◌, ◌≤◌, ◌<◌, ◌+◌, ◌^◌, ◌∷◌, ◌++◌, [], IfErr, IfOk, Err, Ok, OnOk, OnErr, length, take, drop, unsigned_abs};
 ghost use Rattle.std.specs.Int.{w64, from_be_bytes};
 ghost use Rattle.std.specs.List.{flat_map};
 ghost use Rattle.run_model.specs.Text.{BeginsWith};
-ghost use Rattle.run_model.specs.Bytes.{byte_at, number_at, signed_at, any_number_at, any_signed_at, number_bytes, signed_bytes};
+ghost use Rattle.run_model.specs.Bytes.{byte_at, other_at, number_at, numbers_at, signed_at, any_number_at, any_signed_at, number_bytes, signed_bytes};
 
 use byteorder::{BigEndian, ByteOrder};
 use tact_base::{Bytes, NoMemory};
@@ -39,6 +39,30 @@ pub fn byte_at(
     let number = u32::from(*byte);
     if least <= number && number < bound {
         Ok((number, place + 1))
+    } else {
+        Err(FieldFault::BadField(place))
+    }
+}
+
+/// Reads in one byte, at `place`, a replica of so many that isn't `other`: the replica and the place after it.
+/// `Short` where the bytes end before it, `BadField` where it is none or is `other`. Takes no memory.
+#[tactic(auto, unfolding(crate::specs::Bytes::other_at))]
+pub fn other_at(
+    other: u32,
+    replicas: u32,
+    bytes: &[u8],
+    place: usize,
+) -> Result<(u32, usize), FieldFault>
+    requires { place ≤ length bytes.now }
+    ensures within { IfOk result (λ read. read.1 ≤ length bytes.now) }
+    ensures exact { result ≡ other_at other replicas bytes.now place }
+{
+    let Some(byte) = bytes.get(place) else {
+        return Err(FieldFault::Short);
+    };
+    let replica = u32::from(*byte);
+    if replica < replicas && replica != other {
+        Ok((replica, place + 1))
     } else {
         Err(FieldFault::BadField(place))
     }
@@ -78,6 +102,31 @@ pub fn number_at(
     } else {
         Err(FieldFault::BadField(place))
     }
+}
+
+/// Reads a number of eight bytes, the highest first and below `bound`, for each of `items`, from `start` on, and
+/// answers the place after the last. `Short` where the bytes end before one does, `BadField` where one isn't
+/// below `bound`; of the items some may then be overwritten. Takes no memory.
+pub fn numbers_at(
+    items: &mut [u64],
+    bound: u64,
+    bytes: &[u8],
+    start: usize,
+) -> Result<usize, FieldFault>
+    requires { start ≤ length bytes.now }
+    ensures within { IfOk result (λ next. next ≤ length bytes.now) }
+    ensures ok { IfOk result
+        (λ next. numbers_at bound (length items.old) bytes.now start ≡ Ok (items.new, next)) }
+    ensures err { IfErr result
+        (λ fault. numbers_at bound (length items.old) bytes.now start ≡ Err fault) }
+{
+    let mut place = start;
+    for item in items.iter_mut() {
+        let (number, next) = number_at(bytes, place, 0, bound)?;
+        place = next;
+        *item = number;
+    }
+    Ok(place)
 }
 
 /// Reads a signed number of eight bytes in two's complement, of at most this size, at `place`: the number and

@@ -30,7 +30,7 @@ pub fn get_weights(conits: u32, bytes: &[u8], place: &mut usize) -> Result<Weigh
     // Which fault it is, and that it leaves the place.
     ensures exact { Reads result place.old place.new (weights_at conits bytes.now place.old) }
 {
-    let (weights, next) = weights_of(conits, bytes, *place)?;
+    let (weights, next) = weights_at(conits, bytes, *place)?;
     *place = next;
     Ok(weights)
 }
@@ -88,8 +88,10 @@ fn shift_at(bytes: &[u8], place: usize) -> Result<(Op, usize), FieldFault>
     Ok((Op::Shift { from, to, amount }, place))
 }
 
+/// Reads an operation from `place` on, as `get_op` does, and answers the place after it beside it. Takes no
+/// memory.
 #[tactic(auto, unfolding(crate::specs::Bytes::op_at))]
-pub(crate) fn op_at(bytes: &[u8], place: usize) -> Result<(Op, usize), FieldFault>
+pub fn op_at(bytes: &[u8], place: usize) -> Result<(Op, usize), FieldFault>
     requires { place ≤ length bytes.now }
     ensures within { IfOk result (λ read. read.1 ≤ length bytes.now) }
     ensures exact { result ≡ op_at bytes.now place }
@@ -150,12 +152,10 @@ fn need_at(conits: u32, least: u32, bytes: &[u8], place: usize) -> Result<(Need,
     ))
 }
 
+/// Reads weights of a setup with so many conits from `place` on, as `get_weights` does, and answers the place
+/// after them beside them. Takes no memory.
 #[tactic(auto, unfolding(crate::specs::Bytes::weights_at))]
-pub(crate) fn weights_of(
-    conits: u32,
-    bytes: &[u8],
-    place: usize,
-) -> Result<(Weights, usize), FieldFault>
+pub fn weights_at(conits: u32, bytes: &[u8], place: usize) -> Result<(Weights, usize), FieldFault>
     requires { place ≤ length bytes.now }
     ensures within { IfOk result (λ read. read.1 ≤ length bytes.now) }
     ensures exact { result ≡ weights_at conits bytes.now place }
@@ -171,7 +171,7 @@ pub(crate) fn weights_of(
 }
 
 #[tactic(auto, unfolding(crate::specs::Bytes::needs_at))]
-pub(crate) fn needs_of(
+pub(crate) fn needs_at(
     conits: u32,
     bytes: &[u8],
     place: usize,

@@ -8,7 +8,7 @@ ghost use Rattle.run_model.specs.Bytes.{StandsAt, Reads};
 ghost use Rattle.run_model.specs.CallBytes.{IsRequestOf, HasSmallNames, HasWideNumbers, request_bytes, request_at, request_fields_at, write_at, held_at, reserve_at, release_at, read_at, reply_bytes, reply_at, reply_fields_at, waiting_at, done_at, value_at, sums_at, too_heavy_at, wait_held_at, wait_share_at, wait_lent_at, wait_order_at, wait_stale_at, not_held_at};
 
 use crate::fields::{any_number_at, any_signed_at, byte_at, number_at};
-use crate::get_bytes::{fill, needs_of, op_at, weight_at, weights_of};
+use crate::get_bytes::{fill, needs_at, op_at, weight_at, weights_at};
 use crate::{FieldFault, Reply, Request, Sums};
 use tact_base::{AMOUNT_MAX, KEY_MAX, LIST_MAX};
 
@@ -54,10 +54,13 @@ pub fn get_reply(bytes: &[u8], place: &mut usize) -> Result<Reply, FieldFault>
     Ok(reply)
 }
 
+/// Reads a request to a replica of a setup with so many conits from `place` on, as `get_request` does, and
+/// answers the place after it beside it. Takes no memory.
 #[tactic(auto, unfolding(crate::specs::CallBytes::request_at))]
-fn request_at(conits: u32, bytes: &[u8], place: usize) -> Result<(Request, usize), FieldFault>
+pub fn request_at(conits: u32, bytes: &[u8], place: usize) -> Result<(Request, usize), FieldFault>
     requires { place ≤ length bytes.now }
-    ensures { result ≡ request_at conits bytes.now place }
+    ensures within { IfOk result (λ read. read.1 ≤ length bytes.now) }
+    ensures exact { result ≡ request_at conits bytes.now place }
 {
     let (tag, place) = byte_at(bytes, place, 1, 6)?;
     request_fields_at(conits, tag, bytes, place)
@@ -92,7 +95,7 @@ fn write_at(conits: u32, bytes: &[u8], place: usize) -> Result<(Request, usize),
     requires { place ≤ length bytes.now }
     ensures { result ≡ write_at conits bytes.now place }
 {
-    let (weights, place) = weights_of(conits, bytes, place)?;
+    let (weights, place) = weights_at(conits, bytes, place)?;
     let (op, place) = op_at(bytes, place)?;
     Ok((Request::Write { weights, op }, place))
 }
@@ -133,14 +136,16 @@ fn read_at(conits: u32, bytes: &[u8], place: usize) -> Result<(Request, usize), 
     ensures { result ≡ read_at conits bytes.now place }
 {
     let (key, place) = number_at(bytes, place, 0, KEY_MAX + 1)?;
-    let (needs, place) = needs_of(conits, bytes, place)?;
+    let (needs, place) = needs_at(conits, bytes, place)?;
     Ok((Request::Read { key, needs }, place))
 }
 
+/// Reads a reply from `place` on, as `get_reply` does, and answers the place after it beside it. Takes no memory.
 #[tactic(auto, unfolding(crate::specs::CallBytes::reply_at))]
-fn reply_at(bytes: &[u8], place: usize) -> Result<(Reply, usize), FieldFault>
+pub fn reply_at(bytes: &[u8], place: usize) -> Result<(Reply, usize), FieldFault>
     requires { place ≤ length bytes.now }
-    ensures { result ≡ reply_at bytes.now place }
+    ensures within { IfOk result (λ read. read.1 ≤ length bytes.now) }
+    ensures exact { result ≡ reply_at bytes.now place }
 {
     let (tag, place) = byte_at(bytes, place, 1, 12)?;
     reply_fields_at(tag, bytes, place)

@@ -47,9 +47,9 @@ pub enum InputKind {
     Bytes(ByteKind),
 }
 
-/// The fault of a line of a script or of a record in text. They are tried in this order but for
-/// `NotBuilt`, those from `NoStart` to `Extra` token by token from the left. The first line at fault
-/// counts. From `NoStart` on, a line without tokens or that begins with `#` is no line.
+/// The fault of a line of a script or of a record in text. They are tried in this order, those from
+/// `NoStart` to `Extra` token by token from the left. The first line at fault counts. From `NoStart`
+/// on, a line without tokens or that begins with `#` is no line.
 #[derive(Clone, Copy, Debug, PartialEq, Eq)]
 pub enum LineKind {
     /// A script has more than 10,000 lines.
@@ -90,8 +90,6 @@ pub enum LineKind {
     WrongCount,
     /// A record has no `end`. The place is the number of lines plus one.
     MissingEnd,
-    /// The grammar has the form, and the program doesn't yet.
-    NotBuilt,
 }
 
 /// The fault of a record in bytes. The first in the order of the bytes counts.

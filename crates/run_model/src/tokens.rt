@@ -5,7 +5,7 @@ ghost use Rattle.std.specs.Prelude.{◌≡◌, ◌++◌, ◌∷◌, [], map, tak
 ghost use Rattle.std.specs.Fmt.{signed_decimal};
 ghost use Rattle.run_model.specs.Text.{spaced, BeginsWith};
 
-use tact_base::{Bytes, NoMemory, print_number, print_signed};
+use tact_base::{Bytes, NoMemory, print_marked, print_number};
 
 /// Hands on how appending to `out` ended, and takes back what was appended since `start` if it failed.
 pub fn all_or_nothing(
@@ -82,16 +82,14 @@ pub fn put_number(number: u64, out: &mut Bytes) -> Result<(), NoMemory>
     ensures ok { OnOk result (out.new ≡ out.old ++ 32 ∷ decimal number) }
     ensures err { OnErr result (BeginsWith out.old out.new) }
 {
-    out.push(b' ')?;
-    print_number(out, number)
+    print_marked(out, b' ', number)
 }
 
 pub(crate) fn put_signed(number: i64, out: &mut Bytes) -> Result<(), NoMemory>
     ensures ok { OnOk result (out.new ≡ out.old ++ 32 ∷ signed_decimal number) }
     ensures err { OnErr result (BeginsWith out.old out.new) }
 {
-    out.push(b' ')?;
-    print_signed(out, number)
+    put_marked_signed(b' ', number, out)
 }
 
 // A further number of a weight or a need, behind a colon.
@@ -99,8 +97,7 @@ pub(crate) fn put_part(number: u64, out: &mut Bytes) -> Result<(), NoMemory>
     ensures ok { OnOk result (out.new ≡ out.old ++ 58 ∷ decimal number) }
     ensures err { OnErr result (BeginsWith out.old out.new) }
 {
-    out.push(b':')?;
-    print_number(out, number)
+    print_marked(out, b':', number)
 }
 
 // The same with a sign.
@@ -108,6 +105,18 @@ pub(crate) fn put_signed_part(number: i64, out: &mut Bytes) -> Result<(), NoMemo
     ensures ok { OnOk result (out.new ≡ out.old ++ 58 ∷ signed_decimal number) }
     ensures err { OnErr result (BeginsWith out.old out.new) }
 {
-    out.push(b':')?;
-    print_signed(out, number)
+    put_marked_signed(b':', number, out)
+}
+
+// Appends a byte, and behind it a number with its sign.
+fn put_marked_signed(mark: u8, number: i64, out: &mut Bytes) -> Result<(), NoMemory>
+    ensures ok { OnOk result (out.new ≡ out.old ++ mark ∷ signed_decimal number) }
+    ensures err { OnErr result (BeginsWith out.old out.new) }
+{
+    if number < 0 {
+        out.append(&[mark, b'-'])?;
+        print_number(out, number.unsigned_abs())
+    } else {
+        print_marked(out, mark, number as u64)
+    }
 }

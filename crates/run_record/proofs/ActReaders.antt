@@ -1,66 +1,24 @@
 -- An act that is read stands where it was read, and one that stands there is read.
-use Rattle.std.proofs.Common.{◌≡◌, ℕ, zero, suc, ◌+◌, ◌^◌, ◌<◌, ◌≤◌, List, [], ◌∷◌, ◌++◌, length, All, Ok, refl, sym, subst, arith}
+use Rattle.std.proofs.Common.{◌≡◌, ℕ, zero, suc, ◌+◌, ◌^◌, ◌<◌, ◌≤◌, List, [], ◌∷◌, ◌++◌, length, Ok, refl, sym, subst, arith}
 use Rattle.std.specs.List.{flat_map}
 use Rattle.tact_base.specs.declared.limits.TheConstants.{AMOUNT_MAX, CLIENTS, HISTORY_MAX}
 use Rattle.tact_base.specs.Setup.{Setup}
 use Rattle.run_model.specs.declared.call.Request.{Request}
 use Rattle.run_model.specs.declared.call.Reply.{Reply}
-use Rattle.run_model.specs.Bytes.{StandsAt, number_at, number_bytes}
+use Rattle.run_model.specs.Bytes.{StandsAt, number_bytes}
 use Rattle.run_model.specs.CallBytes.{IsRequestOf, HasSmallNames, HasWideNumbers, request_bytes, reply_bytes}
 use Rattle.run_model.proofs.ByteLemmas.{AreBytes, Spelled}
-use Rattle.run_model.proofs.Readers.{Reader, Then, Made, IsByte, IsNumber, SpelledAs, byte_field, number_field, any_number, and_then, making, given, said}
-use Rattle.run_model.proofs.ListBytes.{Listed, Counted, list_reader}
+use Rattle.run_model.proofs.Readers.{Reader, Then, Made, IsByte, IsNumber, IsOther, SpelledAs, byte_field, number_field, any_number, other_reader, and_then, making, given}
+use Rattle.run_model.proofs.ListBytes.{AreNumbers, numbers_reader}
 use Rattle.run_model.proofs.RequestBytes.{request_reader}
 use Rattle.run_model.proofs.ReplyBytes.{reply_reader}
-use Rattle.std.proofs.lemmas.List.Concat.{flat_map-cons}
-use Rattle.std.proofs.lemmas.List.Elements.{All-cons, All-nil, All-head, All-tail}
 use Rattle.run_record.specs.declared.short.ShortAct.{ShortAct}
 use Rattle.run_record.specs.declared.short.ShortAct.TheVariants.{Call, Send, Take, Lend, Back, Restart}
 use Rattle.run_record.specs.Records.{IsActOf}
 use Rattle.run_record.specs.RecordBytes.{act_tag, act_bytes}
-use Rattle.run_record.specs.EntriesAt.{call_at, firsts_at, send_at, take_at, lend_at, back_at, act_at}
-use Rattle.run_record.proofs.FieldReaders.{IsOther, other_reader}
+use Rattle.run_record.specs.EntriesAt.{call_at, send_at, take_at, lend_at, back_at, act_at}
 
--- ---- firsts
-
-abbrev pub AreFirsts : ℕ → List ℕ → List ℕ → Type 0
-AreFirsts replicas firsts text =
-    (length firsts ≡ replicas) × All (λ first. first ≤ HISTORY_MAX) firsts × (text ≡ flat_map number_bytes firsts)
-
-listed_firsts : (firsts : List ℕ) (least : ℕ) (text : List ℕ)
-    → Listed (λ least. IsNumber 0 (suc HISTORY_MAX)) (λ first. 0) least firsts text
-    → All (λ first. first ≤ HISTORY_MAX) firsts × (text ≡ flat_map number_bytes firsts)
-listed_firsts [] least text s = (All-nil (λ first. first ≤ HISTORY_MAX), s)
-listed_firsts (x ∷ xs) least text s =
-    let rest = listed_firsts xs 0 s.1 s.3 in
-    let small : x ≤ HISTORY_MAX = omega (arith, s.2.1) in
-    (All-cons (λ first. first ≤ HISTORY_MAX) x xs small rest.0, rw (flat_map-cons, s.4, s.2.2, rest.1) refl)
-
-firsts_listed : (firsts : List ℕ) (least : ℕ)
-    → All (λ first. first ≤ HISTORY_MAX) firsts
-    → Listed (λ least. IsNumber 0 (suc HISTORY_MAX)) (λ first. 0) least firsts (flat_map number_bytes firsts)
-firsts_listed [] least small = refl
-firsts_listed (x ∷ xs) least small =
-    let here : x ≤ HISTORY_MAX = All-head (λ first. first ≤ HISTORY_MAX) x xs small in
-    let there = firsts_listed xs 0 (All-tail (λ first. first ≤ HISTORY_MAX) x xs small) in
-    (number_bytes x, flat_map number_bytes xs, (omega arith, omega (arith, here), refl), there, rw flat_map-cons refl)
-
-pub firsts_reader : (replicas : ℕ) → Reader (AreFirsts replicas) (firsts_at replicas)
-firsts_reader replicas =
-    said (list_reader (λ least. number_at 0 (suc HISTORY_MAX)) (λ first. 0) (λ least. IsNumber 0 (suc HISTORY_MAX)) (λ least. number_field 0 (suc HISTORY_MAX) (omega arith)) replicas 0) to from
-  where
-    to : (firsts text : List ℕ)
-        → Counted (λ least. IsNumber 0 (suc HISTORY_MAX)) (λ first. 0) replicas 0 firsts text
-        → AreFirsts replicas firsts text
-    to firsts text s = let t = listed_firsts firsts 0 text s.1 in (s.0, t.0, t.1)
-
-    from : (firsts text : List ℕ)
-        → AreFirsts replicas firsts text
-        → Counted (λ least. IsNumber 0 (suc HISTORY_MAX)) (λ first. 0) replicas 0 firsts text
-    from firsts text s =
-        (s.0, subst (Listed (λ least. IsNumber 0 (suc HISTORY_MAX)) (λ first. 0) 0 firsts) (sym s.2) (firsts_listed firsts 0 s.1))
-
-module _ (setup : Setup) (few : setup.replicas ≤ 256) where
+module _ (setup : Setup) where
   -- ---- the fields of each kind
 
   abbrev IsReply : Reply → List ℕ → Type 0
@@ -75,28 +33,28 @@ module _ (setup : Setup) (few : setup.replicas ≤ 256) where
   call_reader =
       and_then (byte_field 0 CLIENTS) (λ client. and_then any_number (λ number. and_then (request_reader setup.conits) (λ request. making reply_reader (λ reply. Call client number request reply))))
 
-  send_reader : (replica : ℕ) → Reader (Then (IsOther replica setup.replicas) (λ to. Then (IsNumber 0 (2 ^ 64)) (λ number. Made (AreFirsts setup.replicas) (λ firsts. Send to number firsts))))
+  send_reader : (replica : ℕ) → Reader (Then (IsOther replica setup.replicas) (λ to. Then (IsNumber 0 (2 ^ 64)) (λ number. Made (AreNumbers HISTORY_MAX setup.replicas) (λ firsts. Send to number firsts))))
       (send_at setup.replicas replica)
   unfolding send_at
   send_reader replica =
-      and_then (other_reader replica setup.replicas few) (λ to. and_then any_number (λ number. making (firsts_reader setup.replicas) (λ firsts. Send to number firsts)))
+      and_then (other_reader replica setup.replicas) (λ to. and_then any_number (λ number. making (numbers_reader HISTORY_MAX setup.replicas (omega arith)) (λ firsts. Send to number firsts)))
 
   take_reader : (replica : ℕ) → Reader (Then (IsOther replica setup.replicas) (λ from. Made (IsNumber 0 (2 ^ 64)) (λ number. Take from number)))
       (take_at setup.replicas replica)
   unfolding take_at
-  take_reader replica = and_then (other_reader replica setup.replicas few) (λ from. making any_number (λ number. Take from number))
+  take_reader replica = and_then (other_reader replica setup.replicas) (λ from. making any_number (λ number. Take from number))
 
   lend_reader : (replica : ℕ) → Reader (Then (IsOther replica setup.replicas) (λ to. Then (IsByte 0 setup.conits) (λ conit. Made (IsNumber 0 (suc AMOUNT_MAX)) (λ amount. Lend to conit amount))))
       (lend_at setup.replicas setup.conits replica)
   unfolding lend_at
   lend_reader replica =
-      and_then (other_reader replica setup.replicas few) (λ to. and_then (byte_field 0 setup.conits) (λ conit. making (number_field 0 (suc AMOUNT_MAX) (omega arith)) (λ amount. Lend to conit amount)))
+      and_then (other_reader replica setup.replicas) (λ to. and_then (byte_field 0 setup.conits) (λ conit. making (number_field 0 (suc AMOUNT_MAX) (omega arith)) (λ amount. Lend to conit amount)))
 
   back_reader : (replica : ℕ) → Reader (Then (IsOther replica setup.replicas) (λ owner. Then (IsByte 0 setup.conits) (λ conit. Made (IsNumber 0 (suc AMOUNT_MAX)) (λ amount. Back owner conit amount))))
       (back_at setup.replicas setup.conits replica)
   unfolding back_at
   back_reader replica =
-      and_then (other_reader replica setup.replicas few) (λ owner. and_then (byte_field 0 setup.conits) (λ conit. making (number_field 0 (suc AMOUNT_MAX) (omega arith)) (λ amount. Back owner conit amount)))
+      and_then (other_reader replica setup.replicas) (λ owner. and_then (byte_field 0 setup.conits) (λ conit. making (number_field 0 (suc AMOUNT_MAX) (omega arith)) (λ amount. Back owner conit amount)))
 
   -- ---- by its tag
 

@@ -7,14 +7,14 @@ use Rattle.std.proofs.lemmas.List.Elements.{All-cons, All-nil, All-head, All-tai
 use Rattle.tact_base.specs.declared.limits.TheConstants.{MOMENT_MAX}
 use Rattle.tact_base.specs.Setup.{Setup}
 use Rattle.run_model.specs.Bytes.{◌>>=◌, Field, number_bytes}
-use Rattle.run_model.proofs.Readers.{Reader, Then, Made, IsByte, IsNumber, byte_field, number_field, and_then, making, given, said}
+use Rattle.run_model.proofs.Readers.{Reader, Then, Made, IsByte, IsNumber, byte_field, number_field, and_then, and_then_if, making, given, said}
 use Rattle.run_record.specs.declared.short.Short.{Short}
 use Rattle.run_record.specs.declared.short.ShortAct.{ShortAct}
 use Rattle.run_record.specs.declared.short.ShortAct.TheVariants.{Call, Send, Take, Lend, Back, Restart}
 use Rattle.run_record.specs.Records.{IsShortOf}
 use Rattle.run_record.specs.RecordBytes.{act_tag, act_bytes, short_bytes}
 use Rattle.run_record.specs.EntriesAt.{tag_at, short_at, shorts_at}
-use Rattle.run_record.proofs.FieldReaders.{IsTag, tag_reader, and_then_if, by_test}
+use Rattle.run_record.proofs.FieldReaders.{IsTag, tag_reader, by_test}
 use Rattle.run_record.proofs.ActReaders.{IsAct, act_reader}
 
 pub tag_low : (act : ShortAct) → act_tag act < 7
@@ -36,7 +36,7 @@ tag_least Restart = omega arith
 entry : ℕ → ℕ → ShortAct → Short
 entry replica moment act = record { replica = replica; moment = moment; act = act }
 
-module _ (setup : Setup) (few : setup.replicas ≤ 256) where
+module _ (setup : Setup) where
   -- an entry of a kind, behind its tag
   abbrev pub IsEntry : ℕ → Short → List ℕ → Type 0
   IsEntry tag short text =
@@ -44,7 +44,7 @@ module _ (setup : Setup) (few : setup.replicas ≤ 256) where
 
   abbrev EntryFields : ℕ → Short → List ℕ → Type 0
   EntryFields tag =
-      Then (IsByte 0 setup.replicas) (λ replica. Then (IsNumber 0 (suc MOMENT_MAX)) (λ moment. Made (IsAct setup few tag replica) (λ act. record { replica = replica; moment = moment; act = act })))
+      Then (IsByte 0 setup.replicas) (λ replica. Then (IsNumber 0 (suc MOMENT_MAX)) (λ moment. Made (IsAct setup tag replica) (λ act. record { replica = replica; moment = moment; act = act })))
 
   entry_reader : (tag : ℕ)
       → 1 ≤ tag
@@ -52,7 +52,7 @@ module _ (setup : Setup) (few : setup.replicas ≤ 256) where
       → Reader (IsEntry tag) (short_at setup.replicas setup.conits tag)
   unfolding short_at entry
   entry_reader tag low high =
-      said (and_then (byte_field 0 setup.replicas) (λ replica. and_then (number_field 0 (suc MOMENT_MAX) (omega arith)) (λ moment. making (act_reader setup few tag replica low high) (entry replica moment)))) to from
+      said (and_then (byte_field 0 setup.replicas) (λ replica. and_then (number_field 0 (suc MOMENT_MAX) (omega arith)) (λ moment. making (act_reader setup tag replica low high) (entry replica moment)))) to from
     where
       to : (short : Short) (text : List ℕ) → EntryFields tag short text → IsEntry tag short text
       to short text s =

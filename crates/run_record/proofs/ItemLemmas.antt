@@ -1,8 +1,7 @@
 -- A weight and a need that were read are in their limits, with a conit that is none too small.
-use Rattle.std.proofs.Common.{◌≡◌, ℕ, ◌-◌, ◌<◌, ◌≤◌, pos, Bool, true, false, cond, nat_le, nat_lt, ◌&&◌, List, Option, None, Some, Ok, Err, refl, sym, subst, arith}
+use Rattle.std.proofs.Common.{◌≡◌, ℕ, ◌-◌, ◌<◌, ◌≤◌, pos, Bool, true, false, cond, nat_lt, List, Option, None, Some, Ok, Err, refl, sym, subst, arith}
 use Rattle.std.specs.Prelude.{unsigned_abs}
 use Rattle.std.proofs.lemmas.Bool.{ltb-false}
-use Rattle.std.proofs.lemmas.Bool.Decides.{nat_tests}
 use Rattle.tact_base.specs.Numbers.{whole_number, whole_signed}
 use Rattle.tact_base.specs.declared.conit_list.Need.{Need}
 use Rattle.tact_base.specs.declared.conit_list.Weight.{Weight}
@@ -11,13 +10,14 @@ use Rattle.tact_base.specs.ConitList.{list_fault}
 use Rattle.tact_base.specs.declared.conit_list.ListFault.{ListFault}
 use Rattle.tact_base.proofs.ConitListLemmas.{weight_in_limits}
 use Rattle.run_model.specs.Bytes.{AreWeightsOf, AreNeedsOf}
-use Rattle.run_model.proofs.WeightBytes.{limits_of, need_in_limits}
+use Rattle.run_model.proofs.WeightBytes.{limits_of, need_limits_of, need_in_limits}
 use Rattle.run_model.specs.declared.status.LineKind.TheVariants.{Unordered}
 use Rattle.run_record.specs.declared.lists.ListEnd.{ListEnd}
 use Rattle.run_record.specs.Fields.{◌>>=◌, Tokens, token_at, in_line}
 use Rattle.run_record.specs.Lists.{parts_of, three_of, four_of, both, weight_by, weight_of, need_by, need_of, weight_at, need_at, is_end, weights_at, needs_at}
 use Rattle.run_record.proofs.FieldLemmas.{whole_number-most, whole_signed-most, ok_is, bind_ok, in_line-ok, both-ok}
-use Rattle.run_record.proofs.Rising.{IsItem, list_is_good, never_refused}
+use Rattle.run_model.proofs.Rising.{IsItem}
+use Rattle.run_record.proofs.Rising.{list_is_good, never_refused}
 
 -- what was read that isn't refused for its order
 ordered : {A : Type 0} (unordered : Bool) (read x : A)
@@ -25,13 +25,6 @@ ordered : {A : Type 0} (unordered : Bool) (read x : A)
     → (unordered ≡ false) × (read ≡ x)
 ordered true read x is = cc
 ordered false read x is = (refl, ok_is read x is)
-
-need_limits : (num order stale : ℕ)
-    → num ≤ AMOUNT_MAX
-    → order ≤ AMOUNT_MAX
-    → stale ≤ MOMENT_MAX
-    → (nat_le num AMOUNT_MAX && nat_le order AMOUNT_MAX && nat_le stale MOMENT_MAX) ≡ true
-need_limits num order stale n o s = grind (arith, nat_tests)
 
 no_weight : Weight
 no_weight = record { conit = 0; nweight = pos 0; oweight = 0 }
@@ -73,7 +66,7 @@ module _ (conits : ℕ) (some : 0 < conits) where
       let order : n.1.1.0 ≤ AMOUNT_MAX = whole_number-most parts.2 AMOUNT_MAX n.1.1.0 (sym third.0) in
       let stale : n.1.1.1 ≤ MOMENT_MAX = whole_number-most parts.3 MOMENT_MAX n.1.1.1 (sym third.1) in
       subst (λ (w : Need). (w.conit < conits) × (need_in_limits w ≡ true)) (ok_is (record { conit = n.0; num = n.1.0; order = n.1.1.0; stale = n.1.1.1 }) need numbers.2)
-      (omega (arith, conit, some), need_limits n.1.0 n.1.1.0 n.1.1.1 num order stale)
+      (omega (arith, conit, some), need_limits_of n.1.0 n.1.1.0 n.1.1.1 num order stale)
 
   pub weight_of-limits : (token : List ℕ) (weight : Weight)
       → weight_of conits token ≡ Ok weight

@@ -23,7 +23,7 @@ use Rattle.run_record.specs.Lists.{parts_of, three_of, four_of, weight_by, weigh
 use Rattle.run_record.specs.CallTokens.{any_signed_at, is_wide, sums_at}
 use Rattle.run_record.specs.Fronts.{Lacks}
 use Rattle.run_record.proofs.PrintedTokens.{decimal_lacks_colon, signed_lacks_colon, signed_of-decimal, whole_number-decimal, whole_signed-decimal}
-use Rattle.run_record.proofs.Rising.{AreRising, IsItem, kept_rises}
+use Rattle.run_model.proofs.Rising.{AreRising, IsItem, kept_rises}
 
 -- ---- numbers
 

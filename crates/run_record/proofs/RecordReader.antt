@@ -6,7 +6,6 @@ use Rattle.std.specs.List.{flat_map}
 use Rattle.std.proofs.lemmas.Bool.{eqb-true, eq-eqb, ltb-false, le-ltb}
 use Rattle.std.proofs.lemmas.List.{length-append, take_all}
 use Rattle.tact_base.specs.Setup.{Setup, IsSetup}
-use Rattle.tact_base.proofs.SetupLemmas.{HasCounts-from_IsSetup}
 use Rattle.run_model.specs.declared.status.ByteKind.TheVariants as kind
 use Rattle.run_model.specs.Bytes.{◌>>=◌, Field, StandsAt, number_bytes, any_number_at}
 use Rattle.run_model.proofs.ByteLemmas.{AreBytes, stands_within, ok_is}
@@ -18,7 +17,6 @@ use Rattle.run_record.specs.Records.{Held, IsHeld, IsShortOf}
 use Rattle.run_record.specs.RecordBytes.{setup_bytes, short_bytes, record_bytes}
 use Rattle.run_record.specs.EntriesAt.{shorts_at}
 use Rattle.run_record.specs.RecordAt.{Part, Tells, then_part, part_of, setup_at, count_at, body_at, record_at}
-use Rattle.run_record.proofs.FieldReaders.{and_then_if}
 use Rattle.run_record.proofs.EntryReaders.{entries_reader}
 use Rattle.run_record.proofs.OkParts.{ok_of, ok_bind, is_ok, same_reader, kept_reader, part_reader}
 use Rattle.run_record.proofs.BoundReaders.{setup_reader}
@@ -37,25 +35,24 @@ entries_long (x ∷ xs) =
     let same : length (flat_map short_bytes (x ∷ xs)) ≡ length (short_bytes x ++ flat_map short_bytes xs) = refl in
     omega (arith, rest, both, here, same)
 
-all_entries_reader : (setup : Setup) → setup.replicas ≤ 256 → Reader (AllEntries setup) (λ bytes place. shorts_at setup.replicas setup.conits (length bytes) bytes place)
-all_entries_reader setup few = record {
+all_entries_reader : (setup : Setup) → Reader (AllEntries setup) (λ bytes place. shorts_at setup.replicas setup.conits (length bytes) bytes place)
+all_entries_reader setup = record {
   taken = λ bytes place x next fits e.
-      let t = (entries_reader setup few (length bytes)).taken bytes place x next fits e in
+      let t = (entries_reader setup (length bytes)).taken bytes place x next fits e in
       (t.0, (t.1.0, t.1.2), t.2);
   again = λ bytes place x text fits within s stands.
       let inside = stands_within text bytes place stands within in
       let long : length text ≡ length (flat_map short_bytes x) + 1 = ap length s.1 ∙ length-append (flat_map short_bytes x) (255 ∷ []) in
-      (entries_reader setup few (length bytes)).again bytes place x text fits within (s.0, omega (arith, inside, long, entries_long x), s.1) stands;
+      (entries_reader setup (length bytes)).again bytes place x text fits within (s.0, omega (arith, inside, long, entries_long x), s.1) stands;
 }
 
 -- entries that were read are in range
 pub entries_good : (setup : Setup) (bytes : List ℕ) (place : ℕ) (shorts : List Short) (next : ℕ)
-    → setup.replicas ≤ 256
     → AreBytes bytes
     → part_of (length bytes) (shorts_at setup.replicas setup.conits (length bytes) bytes place) ≡ Ok (shorts, next)
     → All (IsShortOf setup) shorts
-entries_good setup bytes place shorts next few fits e =
-    let t = (part_reader (all_entries_reader setup few)).taken bytes place shorts next fits (ap ok_of e) in
+entries_good setup bytes place shorts next fits e =
+    let t = (part_reader (all_entries_reader setup)).taken bytes place shorts next fits (ap ok_of e) in
     t.1.0
 
 -- ---- the count
@@ -80,9 +77,6 @@ BodyParts =
 -- a record whose entries can be counted
 abbrev pub CanBeSpelled : Held → Type 0
 CanBeSpelled held = IsHeld held × (length held.entries < 2 ^ 64)
-
-few_replicas : (setup : Setup) → IsSetup setup → setup.replicas ≤ 256
-few_replicas setup is = omega (arith, (HasCounts-from_IsSetup setup is).replicas_high)
 
 -- the record of what was read, once its count is read
 abbrev counted_as : Setup → List Short → Field ℕ → Field Held
@@ -113,7 +107,7 @@ pub body_reader : Reader (SpelledAs CanBeSpelled record_bytes) (λ bytes place. 
 unfolding body_at make_held
 body_reader =
     let parts : Reader BodyParts (λ bytes place. ok_of (setup_at bytes place) >>= λ setup. after_entries bytes setup.0 (ok_of (entries_behind bytes setup))) =
-    and_then_if setup_reader (λ setup text is. and_then (part_reader (all_entries_reader setup (few_replicas setup is.0))) (λ entries. making (count_reader entries) (λ count. make_held setup entries))) in
+    and_then setup_reader (λ setup. and_then (part_reader (all_entries_reader setup)) (λ entries. making (count_reader entries) (λ count. make_held setup entries))) in
     said (same_reader parts (λ bytes place. ok_bind (setup_at bytes place) _ ∙ past_setup bytes (ok_of (setup_at bytes place)))) to from
   where
     past_setup : (bytes : List ℕ) (read : Field Setup)

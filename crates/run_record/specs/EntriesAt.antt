@@ -1,9 +1,9 @@
 -- The fields of a record in bytes, and how its entries are read.
-use Rattle.std.specs.Prelude.{ℕ, zero, suc, ◌≤◌, Bool, not, ◌&&◌, ◌||◌, ◌==◌, nat_lt, List, [], ◌∷◌, slice_index, Ok, Err, if◌then◌else◌}
+use Rattle.std.specs.Prelude.{ℕ, zero, suc, ◌≤◌, ◌||◌, ◌==◌, List, [], ◌∷◌, slice_index, Ok, Err, if◌then◌else◌}
 use Rattle.std.specs.Int.{w32, from_be_bytes}
 use Rattle.tact_base.specs.declared.limits.TheConstants.{ALPHA_MAX, AMOUNT_MAX, CLIENTS, CONITS_MAX, HISTORY_MAX, MOMENT_MAX, REPLICAS_MAX, REPLICAS_MIN}
 use Rattle.run_model.specs.declared.fields.FieldFault.TheVariants as field
-use Rattle.run_model.specs.Bytes.{◌>>=◌, Field, byte_at, field_at, is_from_to, number_at, any_number_at, list_at}
+use Rattle.run_model.specs.Bytes.{◌>>=◌, Field, byte_at, field_at, is_from_to, other_at, number_at, numbers_at, any_number_at}
 use Rattle.run_model.specs.CallBytes.{request_at, reply_at}
 use Rattle.run_record.specs.declared.parts.Bound.{Bound}
 use Rattle.run_record.specs.declared.parts.Counts.{Counts}
@@ -50,13 +50,6 @@ bound_fields_at replicas owner bytes place = do
 
 -- ---- acts
 
--- a replica other than one, of so many
-abbrev pub is_other : ℕ → ℕ → ℕ → Bool
-is_other other replicas replica = nat_lt replica replicas && not (replica == other)
-
-unfoldable pub other_at : ℕ → ℕ → List ℕ → ℕ → Field ℕ
-other_at other replicas = field_at 1 (λ field. slice_index field 0) (is_other other replicas)
-
 unfoldable pub call_at : ℕ → List ℕ → ℕ → Field ShortAct
 call_at conits bytes place = do
   client ← byte_at 0 CLIENTS bytes place
@@ -67,7 +60,7 @@ call_at conits bytes place = do
 
 -- firsts, one for each replica
 abbrev pub firsts_at : ℕ → List ℕ → ℕ → Field (List ℕ)
-firsts_at replicas = list_at (λ least. number_at 0 (suc HISTORY_MAX)) (λ first. 0) replicas 0
+firsts_at = numbers_at (suc HISTORY_MAX)
 
 unfoldable pub send_at : ℕ → ℕ → List ℕ → ℕ → Field ShortAct
 send_at replicas replica bytes place = do

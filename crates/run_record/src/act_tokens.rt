@@ -73,9 +73,15 @@ fn call_at(rest: &[u8], counts: Counts, replica: u32) -> Result<(ShortAct, &[u8]
 {
     let (client, rest) = client_at(rest)?;
     let (number, rest) = any_number_at(rest)?;
-    let (request, rest) = request_at(rest, counts.conits)?;
+    let (request, rest) = match request_at(rest, counts.conits) {
+        Ok(read) => read,
+        Err(fault) => return Err(fault),
+    };
     let rest = word_due(rest, b"=", LineKind::UnknownWord)?;
-    let (reply, rest) = reply_at(rest)?;
+    let (reply, rest) = match reply_at(rest) {
+        Ok(read) => read,
+        Err(fault) => return Err(fault),
+    };
     Ok((
         ShortAct::Call {
             client,

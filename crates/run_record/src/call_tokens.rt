@@ -125,7 +125,10 @@ fn write_at(rest: &[u8], conits: u32) -> Result<(Request, &[u8]), LineFault>
     ensures request { Gives (λ x. (x.0, tokens x.1.now)) result (write_at conits (tokens rest.now)) }
 {
     let (op, rest) = op_at(rest)?;
-    let (weights, rest) = weights_at(rest, conits, ListEnd::Equals)?;
+    let (weights, rest) = match weights_at(rest, conits, ListEnd::Equals) {
+        Ok(read) => read,
+        Err(fault) => return Err(fault),
+    };
     Ok((Request::Write { weights, op }, rest))
 }
 
@@ -173,6 +176,9 @@ fn read_at(rest: &[u8], conits: u32) -> Result<(Request, &[u8]), LineFault>
     ensures request { Gives (λ x. (x.0, tokens x.1.now)) result (read_at conits (tokens rest.now)) }
 {
     let (key, rest) = number_at(rest, KEY_MAX)?;
-    let (needs, rest) = needs_at(rest, conits, ListEnd::Equals)?;
+    let (needs, rest) = match needs_at(rest, conits, ListEnd::Equals) {
+        Ok(read) => read,
+        Err(fault) => return Err(fault),
+    };
     Ok((Request::Read { key, needs }, rest))
 }

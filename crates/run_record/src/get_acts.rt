@@ -1,17 +1,16 @@
 //! The entries of a record in bytes, read field by field: each reader is given the bytes and a place, and answers
 //! its value and the place after it, or the first fault. Memory is taken only for what was read.
 
-ghost use Rattle.std.specs.Prelude.{◌≡◌, ◌≢◌, ◌≤◌, IfErr, IfOk, Err, Ok, length};
+ghost use Rattle.std.specs.Prelude.{◌≡◌, ◌≢◌, ◌≤◌, IfOk, length};
 ghost use Rattle.tact_base.specs.declared.limits.TheConstants.{REPLICAS_MAX};
-ghost use Rattle.run_model.specs.CallBytes.{request_at, reply_at};
-ghost use Rattle.run_record.specs.EntriesAt.{act_at, back_at, call_at, firsts_at, lend_at, other_at, send_at, short_at, shorts_at, tag_at, take_at};
+ghost use Rattle.run_record.specs.EntriesAt.{act_at, back_at, call_at, firsts_at, lend_at, send_at, short_at, shorts_at, tag_at, take_at};
 ghost use Rattle.run_record.specs.PartFaults.{TellsPart};
 
 use crate::fault::PartFault;
 use crate::parts::Counts;
 use crate::{Short, ShortAct, Shorts};
 use run_model::{
-    FieldFault, Reply, Request, any_number_at, byte_at, get_reply, get_request, number_at,
+    FieldFault, any_number_at, byte_at, number_at, numbers_at, other_at, reply_at, request_at,
 };
 use std::alloc::Global;
 use tact_base::{AMOUNT_MAX, CLIENTS, HISTORY_MAX, MOMENT_MAX, Numbers, REPLICAS_MAX, Row};
@@ -147,8 +146,8 @@ fn call_at(conits: u32, bytes: &[u8], place: usize) -> Result<(ShortAct, usize),
 {
     let (client, place) = byte_at(bytes, place, 0, CLIENTS)?;
     let (number, place) = any_number_at(bytes, place)?;
-    let (request, place) = request_of(conits, bytes, place)?;
-    let (reply, place) = reply_of(bytes, place)?;
+    let (request, place) = request_at(conits, bytes, place)?;
+    let (reply, place) = reply_at(bytes, place)?;
     Ok((
         ShortAct::Call {
             client,
@@ -158,28 +157,6 @@ fn call_at(conits: u32, bytes: &[u8], place: usize) -> Result<(ShortAct, usize),
         },
         place,
     ))
-}
-
-#[tactic(auto, using(run_model::proofs::ByteLemmas::stands_within))]
-fn request_of(conits: u32, bytes: &[u8], place: usize) -> Result<(Request, usize), FieldFault>
-    requires { place ≤ length bytes.now }
-    ensures within { IfOk result (λ read. read.1 ≤ length bytes.now) }
-    ensures exact { result ≡ request_at conits bytes.now place }
-{
-    let mut next = place;
-    let request = get_request(conits, bytes, &mut next)?;
-    Ok((request, next))
-}
-
-#[tactic(auto, using(run_model::proofs::ByteLemmas::stands_within))]
-fn reply_of(bytes: &[u8], place: usize) -> Result<(Reply, usize), FieldFault>
-    requires { place ≤ length bytes.now }
-    ensures within { IfOk result (λ read. read.1 ≤ length bytes.now) }
-    ensures exact { result ≡ reply_at bytes.now place }
-{
-    let mut next = place;
-    let reply = get_reply(bytes, &mut next)?;
-    Ok((reply, next))
 }
 
 #[tactic(auto, unfolding(crate::specs::EntriesAt::send_at))]
@@ -259,29 +236,6 @@ fn back_at(
     ))
 }
 
-// A replica other than one, of so many.
-#[tactic(auto, unfolding(crate::specs::EntriesAt::other_at))]
-fn other_at(
-    other: u32,
-    replicas: u32,
-    bytes: &[u8],
-    place: usize,
-) -> Result<(u32, usize), FieldFault>
-    requires { place ≤ length bytes.now }
-    ensures within { IfOk result (λ read. read.1 ≤ length bytes.now) }
-    ensures exact { result ≡ other_at other replicas bytes.now place }
-{
-    let Some(byte) = bytes.get(place) else {
-        return Err(FieldFault::Short);
-    };
-    let replica = u32::from(*byte);
-    if replica < replicas && replica != other {
-        Ok((replica, place + 1))
-    } else {
-        Err(FieldFault::BadField(place))
-    }
-}
-
 // A first for each of so many replicas.
 fn firsts_at(replicas: u32, bytes: &[u8], place: usize) -> Result<(Row, usize), FieldFault>
     requires few { replicas ≤ REPLICAS_MAX }
@@ -291,21 +245,6 @@ fn firsts_at(replicas: u32, bytes: &[u8], place: usize) -> Result<(Row, usize), 
 {
     let mut items = [0; REPLICAS_MAX as usize];
     let items = &mut items[..replicas as usize];
-    let place = fill_firsts(items, bytes, place)?;
+    let place = numbers_at(items, HISTORY_MAX + 1, bytes, place)?;
     Ok((Row::new(items), place))
-}
-
-fn fill_firsts(items: &mut [u64], bytes: &[u8], start: usize) -> Result<usize, FieldFault>
-    requires { start ≤ length bytes.now }
-    ensures within { IfOk result (λ next. next ≤ length bytes.now) }
-    ensures ok { IfOk result (λ next. firsts_at (length items.old) bytes.now start ≡ Ok (items.new, next)) }
-    ensures err { IfErr result (λ fault. firsts_at (length items.old) bytes.now start ≡ Err fault) }
-{
-    let mut place = start;
-    for item in items.iter_mut() {
-        let (first, next) = number_at(bytes, place, 0, HISTORY_MAX + 1)?;
-        place = next;
-        *item = first;
-    }
-    Ok(place)
 }

@@ -41,4 +41,4 @@ pub use printing::{print, text_of};
 pub use put_bytes::bytes_of;
 pub use record_lines::parse_text;
 pub use short::{Short, ShortAct, Shorts};
-pub use splitting::{next_token, split_first, split_line};
+pub use splitting::{next_token, split_line};

@@ -45,7 +45,10 @@ fn value_at(rest: &[u8]) -> Result<(Reply, &[u8]), LineFault>
     ensures reply { Gives (λ x. (x.0, tokens x.1.now)) result (value_at (tokens rest.now)) }
 {
     let (value, rest) = any_signed_at(rest)?;
-    let (sums, rest) = sums_at(rest)?;
+    let (sums, rest) = match sums_at(rest) {
+        Ok(read) => read,
+        Err(fault) => return Err(fault),
+    };
     Ok((Reply::Value { value, sums }, rest))
 }
 

@@ -79,7 +79,10 @@ fn bound_fields(line: &[u8], replicas: u32, owner: u32, conit: u32) -> Result<Bo
     let rest = number_due(rest, owner)?;
     let rest = number_due(rest, conit)?;
     let (alpha, rest) = number_at(rest, ALPHA_MAX)?;
-    let (loans, rest) = loans_at(rest, replicas, owner)?;
+    let (loans, rest) = match loans_at(rest, replicas, owner) {
+        Ok(read) => read,
+        Err(fault) => return Err(fault),
+    };
     end_at(rest, LineKind::Extra)?;
     Ok(Bound { alpha, loans })
 }

@@ -19,7 +19,7 @@ pub(crate) fn place_of(bytes: &[u8], wanted: u8) -> usize
 }
 
 /// What stands before the first separator, and what stands after it: all and nothing where there is none.
-pub fn split_first(bytes: &[u8], separator: u8) -> (&[u8], &[u8])
+pub(crate) fn split_first(bytes: &[u8], separator: u8) -> (&[u8], &[u8])
     ensures pieces { 0 < length bytes.now → pieces_of separator bytes.now ≡ result.0.now ∷ pieces_of separator result.1.now }
     ensures shorter { 0 < length bytes.now → length result.1.now < length bytes.now }
 {

@@ -4,17 +4,19 @@ ghost use Rattle.run_model.specs.ScriptRuns.{played_by, history_of, text_after};
 ghost use Rattle.script_run.specs.Worlds.{AreFirstLines};
 
 use crate::stage::Stage;
+use given_up::GivenUp;
 use run_model::{Config, Entry, Line};
 use std::alloc::Global;
 use std::marker::Model;
-use tact_base::{Bytes, Items, NoMemory};
+use tact_base::{Bytes, NoMemory};
 
 /// What the lines of a script have made so far. Contracts see the setup, the lines that were stepped, and
-/// whether memory was refused: from then on the world is spent.
+/// whether memory was refused: from then on the world is spent. Of the lines it holds nothing: what they made stands
+/// in the entries.
 #[derive(Drop)]
 pub struct World {
     stage: Stage,
-    lines: Items<Line>,
+    lines: GivenUp<Line>,
     /// What the last line printed.
     text: Bytes,
     spent: bool,
@@ -25,7 +27,7 @@ impl Model for World {
 
     ghost Value = { WorldState };
 
-    ghost view = { λ w. record { setup = w.stage.set.setup; lines = w.lines; spent = w.spent } };
+    ghost view = { λ w. record { setup = w.stage.set.setup; lines = w.lines.items; spent = w.spent } };
 
     ghost invariant = { λ w. PlaysOn w.stage (view w) };
 }
@@ -39,7 +41,7 @@ impl World {
     {
         Ok(World {
             stage: Stage::new(alloc, config)?,
-            lines: Items::new(alloc),
+            lines: GivenUp::new(),
             text: Bytes::new(alloc),
             spent: false,
         })
@@ -61,8 +63,7 @@ impl World {
             return Err(NoMemory);
         }
         self.spent = true;
-        let next = line.clone()?;
-        self.lines.push(next)?;
+        self.lines = self.lines.and(line);
         self.text.truncate(0);
         self.stage.step(line, &mut self.text)?;
         out.append(self.text.items())?;

@@ -11,7 +11,7 @@ const NO_SCRIPT: &str = "start 2 1 10 10\nwrite 0 0 ad";
 
 #[test]
 fn the_outside_is_named(rt: HostRuntime) -> Result<(), Fail> {
-    for (script, reads, writes, wanted) in [
+    for (script, reads, writes, wanted) in &[
         (SCRIPT, [0].as_slice(), [].as_slice(), Status::ReadFault),
         (SCRIPT, [1].as_slice(), [].as_slice(), Status::ReadFault),
         (SCRIPT, [2].as_slice(), [].as_slice(), Status::Done),
@@ -21,11 +21,11 @@ fn the_outside_is_named(rt: HostRuntime) -> Result<(), Fail> {
         (NO_SCRIPT, [1].as_slice(), [].as_slice(), Status::ReadFault),
     ] {
         let (status, sink) = played(rt.alloc(), script.as_bytes(), reads, writes)?;
-        assert_eq!(rt; status, wanted, "{script} {reads:?} {writes:?}");
+        assert_eq!(rt; &status, wanted, "{script} {reads:?} {writes:?}");
         let is_written = !sink.bytes().is_empty();
         assert_eq!(rt;
             is_written,
-            wanted == Status::Done,
+            *wanted == Status::Done,
             "{script} {reads:?} {writes:?}"
         );
     }

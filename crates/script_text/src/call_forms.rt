@@ -25,7 +25,10 @@ pub(crate) fn write_line(rest: &[u8], replicas: u32, conits: u32) -> Result<Line
     let (replica, rest) = replica_at(rest, replicas)?;
     let (client, rest) = client_at(rest)?;
     let (op, rest) = op_at(rest)?;
-    let (weights, rest) = weights_at(rest, conits, ListEnd::Line)?;
+    let (weights, rest) = match weights_at(rest, conits, ListEnd::Line) {
+        Ok(read) => read,
+        Err(fault) => return Err(fault),
+    };
     end_at(rest, LineKind::Extra)?;
     Ok(Line::Write {
         replica,
@@ -109,7 +112,10 @@ pub(crate) fn read_line(rest: &[u8], replicas: u32, conits: u32) -> Result<Line,
     let (replica, rest) = replica_at(rest, replicas)?;
     let (client, rest) = client_at(rest)?;
     let (key, rest) = number_at(rest, KEY_MAX)?;
-    let (needs, rest) = needs_at(rest, conits, ListEnd::Line)?;
+    let (needs, rest) = match needs_at(rest, conits, ListEnd::Line) {
+        Ok(read) => read,
+        Err(fault) => return Err(fault),
+    };
     end_at(rest, LineKind::Extra)?;
     Ok(Line::Read {
         replica,

@@ -11,3 +11,4 @@ pub mod Counts
 pub mod Admission
 pub mod Roomy
 pub mod RoomyLends
+pub mod Blanks

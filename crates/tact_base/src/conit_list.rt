@@ -1,10 +1,10 @@
-ghost use Rattle.std.specs.Prelude.{◌≡◌, ◌≤◌, ◌&&◌, ◌<◌, ℕ, Bool, length, nat_le, MatchResult, Some, None};
+ghost use Rattle.std.specs.Prelude.{◌≡◌, ◌≤◌, ◌&&◌, ◌<◌, ℕ, Bool, length, nat_le, MatchResult, Some, None, pos};
 ghost use Rattle.std.specs.Cmp.Lexicographic.{pointwise, lists_equiv, lists_per};
 ghost use Rattle.std.specs.Int.RustNames.{unsigned_abs};
 ghost use Rattle.tact_base.specs.ConitList.{first_unordered, first_out_of_limits, list_fault, IsConitList};
 ghost use Rattle.tact_base.specs.declared.limits.TheConstants.{AMOUNT_MAX, MOMENT_MAX, WEIGHT_MAX, LIST_MAX};
 
-use crate::{AMOUNT_MAX, Few, LIST_MAX, MOMENT_MAX, WEIGHT_MAX};
+use crate::{AMOUNT_MAX, Blank, Few, LIST_MAX, MOMENT_MAX, WEIGHT_MAX};
 use std::alloc::AllocError;
 use std::marker::Model;
 
@@ -17,6 +17,18 @@ pub struct Weight {
     pub nweight: i64,
     /// How much order error the write brings while it is tentative, at most 10^6.
     pub oweight: u64,
+}
+
+impl Blank for Weight {
+    ghost blank = { record { conit = 0; nweight = pos 0; oweight = 0 } };
+
+    fn blank() -> Weight {
+        Weight {
+            conit: 0,
+            nweight: 0,
+            oweight: 0,
+        }
+    }
 }
 
 /// How far what a read sees of one conit may be off.
@@ -32,8 +44,21 @@ pub struct Need {
     pub stale: u64,
 }
 
+impl Blank for Need {
+    ghost blank = { record { conit = 0; num = 0; order = 0; stale = 0 } };
+
+    fn blank() -> Need {
+        Need {
+            conit: 0,
+            num: 0,
+            order: 0,
+            stale: 0,
+        }
+    }
+}
+
 /// What stands in a list by conit: a weight or a need.
-pub trait OnConit: Copy + Default {
+pub trait OnConit: Blank {
     /// The conit that it speaks of.
     ghost conit_of: { Self → ℕ };
 
@@ -90,7 +115,7 @@ pub enum ListFault {
 
 /// At most 4 weights or needs with strictly rising conits, each within its limits, held in place.
 /// Contracts see it as the list of its items.
-#[derive(Debug, Drop)]
+#[derive(Copy, Debug)]
 pub struct ConitList<T: OnConit> {
     items: Few<T, LIST_MAX>,
 }
@@ -104,6 +129,8 @@ impl<T: OnConit> Model for ConitList<T> {
     ghost view = { λ l. l.items };
 
     ghost invariant = { λ l. IsConitList T.conit_of T.in_limits l.items };
+
+    ghost inverse = { λ l. record { items = l } };
 }
 
 /// The weights of a write.
@@ -165,9 +192,7 @@ impl<T: OnConit> Clone for ConitList<T> {
     ghost is_infallible = { λ _. Unit {0} };
 
     fn clone(&self) -> Result<Self, AllocError> {
-        Ok(ConitList {
-            items: self.items.clone()?,
-        })
+        Ok(*self)
     }
 }
 

@@ -1,5 +1,5 @@
 ghost use Rattle.std.specs.Prelude.{◌≡◌, ℕ, ◌<◌, [], ◌∷◌, ◌++◌, OnOk, OnErr, IfOk, length, take, map, replicate, ◌==◌};
-ghost use Rattle.std.specs.List.{AllZip, AppendsClones, range_with_len};
+ghost use Rattle.std.specs.List.{AllZip, range_with_len};
 ghost use Rattle.std.specs.Cmp.Lexicographic.{pointwise, lists_equiv, lists_per};
 
 use std::alloc::{AllocError, AllocFailed, Global};
@@ -52,6 +52,15 @@ impl<T> Items<T> {
         }
     }
 
+    /// The empty list, with memory of `alloc` for `count` items.
+    pub fn with_capacity(alloc: Global, count: usize) -> Result<Self, NoMemory>
+        ensures { IfOk result (λ list. list ≡ []) }
+    {
+        Ok(Items {
+            items: Vec::with_capacity(alloc, count)?,
+        })
+    }
+
     /// The items, in order.
     pub fn items(&self) -> &[T]
         ensures { result.now ≡ self.now }
@@ -91,7 +100,7 @@ impl<T: Drop> Items<T> {
         requires gives { (at : ℕ) (given : T) → at < count → F.post item at given → given ≡ value at }
         ensures { IfOk result (λ list. list ≡ map value (range_with_len 0 count)) }
     {
-        let mut list = Items::new(alloc);
+        let mut list = Items::with_capacity(alloc, count as usize)?;
         for at in 0..count {
             list.push(item(at))?;
         }
@@ -111,7 +120,7 @@ impl<T: Copy + Drop> Items<T> {
     pub fn filled(alloc: Global, item: T, count: u32) -> Result<Self, NoMemory>
         ensures { IfOk result (λ list. list ≡ replicate count item) }
     {
-        let mut list = Items::new(alloc);
+        let mut list = Items::with_capacity(alloc, count as usize)?;
         for _place in 0..count {
             list.push(item)?;
         }
@@ -127,6 +136,15 @@ impl<T: Copy> Items<T> {
     {
         self.items.extend_from_slice(items)?;
         Ok(())
+    }
+
+    /// The same items in a list of their own, in memory of the same allocator.
+    pub fn copied(&self) -> Result<Self, AllocError>
+        ensures { IfOk result (λ list. list ≡ self.now) }
+    {
+        Ok(Items {
+            items: Vec::from_slice(*self.items.allocator(), &self.items)?,
+        })
     }
 
     /// A list of these items, in memory of `alloc`.
@@ -149,17 +167,6 @@ impl<T: Clone> Items<T> {
         Ok(Items {
             items: self.items.to_vec(alloc)?,
         })
-    }
-
-    /// Appends a clone of each of `items`, in order. `NoMemory` leaves the list as it was.
-    pub fn append_clones(&mut self, items: &[T]) -> Result<(), NoMemory>
-        ensures clones { OnOk result (AppendsClones T.is_clone self.old self.new items.now) }
-        ensures equal_if_clones_are { OnOk result
-            (((x y : T) → T.is_clone x y → y ≡ x) → self.new ≡ self.old ++ items.now) }
-        ensures err { OnErr result (self.new ≡ self.old) }
-    {
-        self.items.extend_from_slice(items)?;
-        Ok(())
     }
 }
 

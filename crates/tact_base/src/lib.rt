@@ -19,7 +19,7 @@ mod write;
 
 pub use conit_list::{ConitList, ListFault, Need, Needs, OnConit, Weight, Weights};
 pub use counts::first_index;
-pub use few::{Few, Row};
+pub use few::{Blank, Few, Row};
 pub use fit::Fit;
 pub use items::{Bytes, Items, NoMemory, Numbers};
 pub use laws::{
@@ -31,7 +31,7 @@ pub use limits::{
     LINE_MAX, LIST_MAX, MESSAGE_WRITES, MOMENT_MAX, REPLICAS_MAX, REPLICAS_MIN, SCRIPT_LINES,
     STAMP_MAX, SUMMED_WRITES, VALUE_MAX, WEIGHT_MAX,
 };
-pub use numbers::{NumberFault, print_number, print_signed, read_number};
+pub use numbers::{NumberFault, print_marked, print_number, print_signed, read_number};
 pub use roomy_list::RoomyList;
 pub use setup::ConfigFault;
 pub use slowest::{Slowest, slowest_of};

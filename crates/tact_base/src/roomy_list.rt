@@ -99,20 +99,15 @@ impl<T: Drop> RoomyList<T> {
     }
 }
 
-impl<T: Clone> RoomyList<T> {
-    /// Appends copies of items whose clones never fail and are equal to them. Takes no memory.
+impl<T: Copy> RoomyList<T> {
+    /// Appends all of `items`, in order. Takes no memory.
     pub fn append(&mut self, items: &[T])
-        requires room { length items.now ≤ self.old.room }
-        requires sure { (x : T) → T.is_infallible x }
-        requires exact { (x y : T) → T.is_clone x y → y ≡ x }
+        requires { length items.now ≤ self.old.room }
         ensures items { self.new.items ≡ self.old.items ++ items.now }
         ensures room { self.old.room ≤ self.new.room + length items.now }
     {
-        for item in items {
-            match item.clone() {
-                Ok(copy) => self.push(copy),
-                Err(_) => unreachable!(),
-            }
+        if self.items.extend_from_slice(items).is_err() {
+            unreachable!();
         }
     }
 }

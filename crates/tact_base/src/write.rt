@@ -1,6 +1,6 @@
 ghost use Rattle.std.specs.Prelude.{◌≡◌};
 ghost use Rattle.tact_base.specs.Covers.{later_cover};
-ghost use Rattle.tact_base.specs.WriteOrder.{write_place};
+ghost use Rattle.tact_base.specs.WriteOrder.{comes_before, write_place};
 
 use crate::{Items, Weights};
 use std::alloc::AllocError;
@@ -42,7 +42,7 @@ pub enum Op {
 }
 
 /// A write that a replica accepted.
-#[derive(Debug, Drop, PartialEq, Eq)]
+#[derive(Copy, Debug, PartialEq, Eq)]
 pub struct Write {
     /// The replica that accepted it.
     pub origin: u32,
@@ -64,14 +64,7 @@ impl Clone for Write {
     ghost is_infallible = { λ _. Unit {0} };
 
     fn clone(&self) -> Result<Self, AllocError> {
-        Ok(Write {
-            origin: self.origin,
-            index: self.index,
-            stamp: self.stamp,
-            moment: self.moment,
-            weights: self.weights.clone()?,
-            op: self.op,
-        })
+        Ok(*self)
     }
 }
 
@@ -97,6 +90,13 @@ impl Write {
             origin: self.origin,
             index: self.index,
         }
+    }
+
+    /// Whether it comes before another in the order of all writes.
+    pub fn comes_before(&self, other: &Write) -> bool
+        ensures { result ≡ comes_before self.now other.now }
+    {
+        self.place() < other.place()
     }
 }
 

@@ -7,7 +7,7 @@ use Rattle.std.proofs.lemmas.List.Elements.{All-weaker, All-filter}
 use Rattle.std.proofs.lemmas.List.FromFn.{length-map-range_with_len}
 use Rattle.std.proofs.lemmas.Grind.{flat_map-append}
 use Rattle.tact_base.proofs.ListLemmas.{get_or-map_range}
-use Rattle.tact_base.specs.declared.limits.TheConstants.{MESSAGE_WRITES}
+use Rattle.tact_base.specs.declared.limits.TheConstants.{LENT_MAX, MESSAGE_WRITES}
 use Rattle.tact_base.specs.declared.write.Cover.{Cover}
 use Rattle.tact_base.specs.declared.write.Write.{Write}
 use Rattle.tact_base.specs.Covers.{no_cover}
@@ -17,6 +17,7 @@ use Rattle.run_model.specs.Taking.{told_have, told_cover, told_first, told_write
 use Rattle.run_model.specs.declared.fields.FieldFault.TheVariants as field
 use Rattle.run_model.specs.Bytes.{StandsAt, number_bytes}
 use Rattle.run_model.proofs.ByteLemmas.{AreBytes, ok_is, no_read}
+use Rattle.run_model.proofs.ListBytes.{AreNumbers, numbers_reader}
 use Rattle.run_model.proofs.OriginWrites.{from_one, from_one-origins}
 use Rattle.run_model.proofs.Readers.{Reader, Then, Made, SpelledAs, and_then, making, said, found}
 use Rattle.std.specs.Result.{IfOk}
@@ -26,7 +27,7 @@ use Rattle.tact_msg.specs.Faults.{Tells}
 use Rattle.tact_msg.specs.declared.parts.Head.{Head}
 use Rattle.tact_msg.specs.declared.parts.Told.{Told}
 use Rattle.tact_msg.specs.MessageBytes.{IsMessage, setup_of, told_of, tolds_of, told_bytes, write_bytes, head_bytes, head_of, message_bytes, message_from, message_at}
-use Rattle.tact_msg.proofs.PartReaders.{IsHead, IsTold, Tolds, CountedTolds, AreAmounts, head_reader, tolds_reader, amounts_reader}
+use Rattle.tact_msg.proofs.PartReaders.{IsHead, IsTold, Tolds, CountedTolds, head_reader, tolds_reader}
 use Rattle.tact_msg.proofs.WriteReaders.{IsWriteOf, AreFrom, AllWrites, writes_reader}
 use Rattle.tact_msg.proofs.MessageParts.{write_of_setup, write_in_setup, IsFew, few_told, told_few, told_at_place, tolds_spelled, AreWritten, written}
 
@@ -48,8 +49,8 @@ module _ (head : Head) (tolds : List Told) (lent returned : List ℕ) (writes : 
     (head_text told_text lent_text returned_text write_text : List ℕ)
     (is_head : IsHead head head_text)
     (are_told : CountedTolds head.to head.replicas 0 MESSAGE_WRITES tolds told_text)
-    (are_lent : AreAmounts head.conits lent lent_text)
-    (are_returned : AreAmounts head.conits returned returned_text)
+    (are_lent : AreNumbers LENT_MAX head.conits lent lent_text)
+    (are_returned : AreNumbers LENT_MAX head.conits returned returned_text)
     (are_writes : AllWrites head.conits tolds writes write_text) where
   abbrev whole : Message
   whole = message_from head tolds lent returned writes
@@ -258,13 +259,13 @@ module _ (message : Message) (is : IsMessage message) where
 
 abbrev Parts : Message → List ℕ → Type 0
 Parts =
-    Then IsHead (λ head. Then (CountedTolds head.to head.replicas 0 MESSAGE_WRITES) (λ tolds. Then (AreAmounts head.conits) (λ lent. Then (AreAmounts head.conits) (λ returned.
+    Then IsHead (λ head. Then (CountedTolds head.to head.replicas 0 MESSAGE_WRITES) (λ tolds. Then (AreNumbers LENT_MAX head.conits) (λ lent. Then (AreNumbers LENT_MAX head.conits) (λ returned.
     Made (AllWrites head.conits tolds) (λ writes. message_from head tolds lent returned writes)))))
 
 pub message_reader : Reader (SpelledAs IsMessage message_bytes) message_at
 unfolding message_at
 message_reader =
-    said (and_then head_reader (λ head. and_then (tolds_reader head.to head.replicas 0 MESSAGE_WRITES) (λ tolds. and_then (amounts_reader head.conits) (λ lent. and_then (amounts_reader head.conits) (λ returned.
+    said (and_then head_reader (λ head. and_then (tolds_reader head.to head.replicas 0 MESSAGE_WRITES) (λ tolds. and_then (numbers_reader LENT_MAX head.conits (omega arith)) (λ lent. and_then (numbers_reader LENT_MAX head.conits (omega arith)) (λ returned.
     making (writes_reader head.conits tolds) (λ writes. message_from head tolds lent returned writes)))))) to from
   where
     to : (message : Message) (text : List ℕ) → Parts message text → SpelledAs IsMessage message_bytes message text

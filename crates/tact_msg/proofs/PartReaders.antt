@@ -1,71 +1,13 @@
 -- Readers of the parts of a message before its writes.
-use Rattle.std.proofs.Common.{◌≡◌, ◌≢◌, ℕ, zero, suc, ◌+◌, ◌-◌, ◌<◌, ◌≤◌, true, List, [], ◌∷◌, ◌++◌, length, get_or, All, Ok, refl, sym, ap, subst, ◌∙◌, arith}
-use Rattle.std.specs.List.{flat_map}
-use Rattle.std.proofs.lemmas.Bool.Decides.{nat_tests}
-use Rattle.std.proofs.lemmas.List.{length-append}
-use Rattle.std.proofs.lemmas.List.Concat.{flat_map-cons}
-use Rattle.std.proofs.lemmas.List.Elements.{All-cons, All-nil, All-head, All-tail}
-use Rattle.tact_base.specs.declared.limits.TheConstants.{CONITS_MAX, HISTORY_MAX, LENT_MAX, MOMENT_MAX, REPLICAS_MAX, REPLICAS_MIN, STAMP_MAX}
-use Rattle.run_model.specs.Bytes.{◌>>=◌, Field, StandsAt, byte_at, number_at, is_from_to, number_bytes}
-use Rattle.run_model.proofs.ByteLemmas.{spelled_then, stands_first, stands_second, stands_within, bind_ok, field_taken, field_again}
-use Rattle.run_model.proofs.Readers.{Reader, Then, Made, IsByte, IsNumber, byte_field, number_field, and_then, making, given, said}
-use Rattle.run_model.proofs.ListBytes.{Listed, Counted, list_reader}
+use Rattle.std.proofs.Common.{◌≡◌, ◌≢◌, ℕ, zero, suc, ◌-◌, ◌<◌, ◌≤◌, List, [], ◌∷◌, ◌++◌, length, refl, sym, ap, subst, arith}
+use Rattle.tact_base.specs.declared.limits.TheConstants.{CONITS_MAX, HISTORY_MAX, MOMENT_MAX, REPLICAS_MAX, REPLICAS_MIN, STAMP_MAX}
+use Rattle.run_model.specs.Bytes.{number_bytes}
+use Rattle.run_model.proofs.Readers.{Reader, Then, Made, IsByte, IsNumber, IsOther, byte_field, number_field, other_reader, and_then, and_then_if, making, given, said}
 use Rattle.tact_msg.specs.declared.parts.Head.{Head}
 use Rattle.tact_msg.specs.declared.parts.Told.{Told}
-use Rattle.tact_msg.specs.MessageBytes.{is_other, other_at, head_at, head_bytes, told_at, told_bound, told_bytes, tolds_at, amounts_at}
-
--- one reader, and then another that may rest on what the first read
-pub and_then_if : {A B : Type 0} {First : A → List ℕ → Type 0} {Second : A → B → List ℕ → Type 0} {read : List ℕ → ℕ → Field A} {next : A → List ℕ → ℕ → Field B}
-    → Reader First read
-    → ((x : A) (text : List ℕ) → First x text → Reader (Second x) (next x))
-    → Reader (Then First Second) (λ bytes place. read bytes place >>= λ x. next x.0 bytes x.1)
-and_then_if {A = A} {B = B} {First = First} {Second = Second} {read = read} {next = next} first second = record {
-  taken = λ bytes place y end fits e.
-      let a = bind_ok (read bytes place) (λ x. next x.0 bytes x.1) (y, end) e in
-      let p = first.taken bytes place a.0.0 a.0.1 fits a.1 in
-      let q = (second a.0.0 p.0 p.1).taken bytes a.0.1 y end fits a.2 in
-      (p.0 ++ q.0, (a.0.0, p.0, q.0, p.1, q.1, refl), spelled_then bytes place p.0 a.0.1 q.0 end p.2 q.2);
-  again = λ bytes place y text fits within s stands.
-      let both : StandsAt (s.1 ++ s.2) bytes place = subst (λ t. StandsAt t bytes place) s.5 stands in
-      let start = stands_first s.1 s.2 bytes place both in
-      let one = first.again bytes place s.0 s.1 fits within s.3 start in
-      let past = stands_within s.1 bytes place start within in
-      let two = (second s.0 s.1 s.3).again bytes (place + length s.1) y s.2 fits past s.4 (stands_second s.1 s.2 bytes place both) in
-      let ends : place + length s.1 + length s.2 ≡ place + length text = omega (arith, ap length s.5, length-append s.1 s.2) in
-      rw (one, two, ends) refl;
-}
+use Rattle.tact_msg.specs.MessageBytes.{head_at, head_bytes, told_at, told_bound, told_bytes, tolds_at}
 
 -- ---- the head
-
-other_is : (other replicas replica : ℕ)
-    → is_other other replicas replica ≡ true
-    → (is_from_to 0 replicas replica ≡ true) × (replica ≢ other)
-other_is other replicas replica e = (grind (arith, nat_tests), λ same. grind (arith, nat_tests))
-
-is_the_other : (other replicas replica : ℕ)
-    → replica < replicas
-    → replica ≢ other
-    → is_other other replicas replica ≡ true
-is_the_other other replicas replica below isnt = grind (arith, nat_tests)
-
-abbrev IsOther : ℕ → ℕ → ℕ → List ℕ → Type 0
-IsOther other replicas replica text = (replica < replicas) × (replica ≢ other) × (text ≡ replica ∷ [])
-
-other_reader : (other replicas : ℕ) → Reader (IsOther other replicas) (other_at other replicas)
-unfolding other_at byte_at
-other_reader other replicas = record {
-  taken = λ bytes place x next fits e.
-      let t = field_taken 1 (λ field. get_or field 0 0) (is_other other replicas) bytes place x next e in
-      let is = other_is other replicas x t.2 in
-      let byte : byte_at 0 replicas bytes place ≡ Ok (x, place + 1) = field_again 1 (λ field. get_or field 0 0) (is_from_to 0 replicas) bytes place x t.0 t.1 is.0 in
-      let b = (byte_field 0 replicas).taken bytes place x (place + 1) fits byte in
-      (b.0, (b.1.1, is.1, b.1.2), record { stands = b.2.stands; after = t.3 ∙ b.2.after });
-  again = λ bytes place x text fits within s stands.
-      let byte = (byte_field 0 replicas).again bytes place x text fits within (omega arith, s.0, s.2) stands in
-      let t = field_taken 1 (λ field. get_or field 0 0) (is_from_to 0 replicas) bytes place x (place + length text) byte in
-      let again = field_again 1 (λ field. get_or field 0 0) (is_other other replicas) bytes place x t.0 t.1 (is_the_other other replicas x s.0 s.1) in
-      again ∙ ap (λ n. Ok (x, n)) (sym t.3);
-}
 
 pub record IsHead (head : Head) (text : List ℕ) : Type 0 where
   pub replicas_least : REPLICAS_MIN ≤ head.replicas
@@ -293,33 +235,3 @@ tolds_reader to (suc count) origin room =
         → Then (IsTold to origin room) (λ told. Made (CountedTolds to count (suc origin) (room - told.count)) (λ others. told ∷ others)) tolds text
     from_more [] text s = absurd (omega (arith, s.0))
     from_more (told ∷ tolds) text s = (told, s.1.0, s.1.1, s.1.2, (tolds, (omega (arith, s.0), s.1.3), refl), s.1.4)
-
--- ---- amounts
-
-abbrev pub AreAmounts : ℕ → List ℕ → List ℕ → Type 0
-AreAmounts conits amounts text = (length amounts ≡ conits) × All (λ amount. amount ≤ LENT_MAX) amounts × (text ≡ flat_map number_bytes amounts)
-
-listed_amounts : (amounts text : List ℕ)
-    → Listed (λ least. IsNumber 0 (suc LENT_MAX)) (λ amount. 0) 0 amounts text
-    → All (λ amount. amount ≤ LENT_MAX) amounts × (text ≡ flat_map number_bytes amounts)
-listed_amounts [] text s = (All-nil (λ amount. amount ≤ LENT_MAX), s)
-listed_amounts (x ∷ xs) text s =
-    let rest = listed_amounts xs s.1 s.3 in
-    (All-cons (λ amount. amount ≤ LENT_MAX) x xs (omega (arith, s.2.1)) rest.0, rw (flat_map-cons, s.4, s.2.2, rest.1) refl)
-
-amounts_listed : (amounts : List ℕ)
-    → All (λ amount. amount ≤ LENT_MAX) amounts
-    → Listed (λ least. IsNumber 0 (suc LENT_MAX)) (λ amount. 0) 0 amounts (flat_map number_bytes amounts)
-amounts_listed [] all = refl
-amounts_listed (x ∷ xs) all =
-    (number_bytes x, flat_map number_bytes xs, (omega arith, omega (arith, All-head (λ amount. amount ≤ LENT_MAX) x xs all), refl), amounts_listed xs (All-tail (λ amount. amount ≤ LENT_MAX) x xs all), rw flat_map-cons refl)
-
-pub amounts_reader : (conits : ℕ) → Reader (AreAmounts conits) (amounts_at conits)
-amounts_reader conits =
-    said (list_reader (λ least. number_at 0 (suc LENT_MAX)) (λ amount. 0) (λ least. IsNumber 0 (suc LENT_MAX)) (λ least. number_field 0 (suc LENT_MAX) (omega arith)) conits 0) to from
-  where
-    to : (amounts text : List ℕ) → Counted (λ least. IsNumber 0 (suc LENT_MAX)) (λ amount. 0) conits 0 amounts text → AreAmounts conits amounts text
-    to amounts text s = (s.0, (listed_amounts amounts text s.1).0, (listed_amounts amounts text s.1).1)
-
-    from : (amounts text : List ℕ) → AreAmounts conits amounts text → Counted (λ least. IsNumber 0 (suc LENT_MAX)) (λ amount. 0) conits 0 amounts text
-    from amounts text s = (s.0, rw s.2 (amounts_listed amounts s.1))

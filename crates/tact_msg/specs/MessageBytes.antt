@@ -1,11 +1,11 @@
 -- Messages as bytes: how each is spelled, and how a spelling is read.
-use Rattle.std.specs.Prelude.{ℕ, zero, suc, ◌-◌, ◌≤◌, Bool, not, ◌&&◌, ◌==◌, nat_lt, min, List, [], ◌∷◌, ◌++◌, length, map, slice_index, Ok, if◌then◌else◌}
+use Rattle.std.specs.Prelude.{ℕ, zero, suc, ◌-◌, ◌≤◌, ◌==◌, min, List, [], ◌∷◌, ◌++◌, length, map, Ok, if◌then◌else◌}
 use Rattle.std.specs.List.{flat_map, range_with_len}
 use Rattle.tact_base.specs.declared.limits.TheConstants.{CONITS_MAX, HISTORY_MAX, LENT_MAX, MESSAGE_WRITES, MOMENT_MAX, REPLICAS_MAX, REPLICAS_MIN, STAMP_MAX}
 use Rattle.tact_base.specs.declared.write.Write.{Write}
 use Rattle.tact_base.specs.Setup.{Setup}
 use Rattle.run_model.specs.declared.entry.Message.{Message}
-use Rattle.run_model.specs.Bytes.{◌>>=◌, Field, byte_at, field_at, number_at, list_at, weights_at, op_at, number_bytes, weights_bytes, op_bytes}
+use Rattle.run_model.specs.Bytes.{◌>>=◌, Field, byte_at, other_at, number_at, numbers_at, list_at, weights_at, op_at, number_bytes, weights_bytes, op_bytes}
 use Rattle.run_model.specs.Ranges.{IsMessageInRange}
 use Rattle.run_model.specs.Taking.{told_have, told_cover, told_first, told_writes}
 use Rattle.tact_msg.specs.declared.parts.Head.{Head}
@@ -74,13 +74,6 @@ message_bytes message =
 
 -- ---- reading, field by field
 
--- a replica other than one, of so many
-abbrev pub is_other : ℕ → ℕ → ℕ → Bool
-is_other other replicas replica = nat_lt replica replicas && not (replica == other)
-
-unfoldable pub other_at : ℕ → ℕ → List ℕ → ℕ → Field ℕ
-other_at other replicas = field_at 1 (λ field. slice_index field 0) (is_other other replicas)
-
 unfoldable pub head_at : List ℕ → ℕ → Field Head
 head_at bytes place = do
   mark ← byte_at 77 78 bytes place
@@ -125,7 +118,7 @@ tolds_at to (suc count) origin room bytes place = do
 
 -- amounts, one for each conit
 abbrev pub amounts_at : ℕ → List ℕ → ℕ → Field (List ℕ)
-amounts_at conits = list_at (λ least. number_at 0 (suc LENT_MAX)) (λ amount. 0) conits 0
+amounts_at = numbers_at (suc LENT_MAX)
 
 -- a write of an origin with an index
 unfoldable pub write_at : ℕ → ℕ → ℕ → List ℕ → ℕ → Field Write

@@ -4,12 +4,12 @@
 ghost use Rattle.std.specs.Prelude.{◌≡◌, ◌≤◌, ◌+◌, ◌-◌, All, IfErr, IfOk, Err, Ok, length};
 ghost use Rattle.tact_base.specs.declared.limits.TheConstants.{CONITS_MAX, HISTORY_MAX, LENT_MAX, MESSAGE_WRITES, REPLICAS_MAX};
 ghost use Rattle.run_model.specs.Bytes.{list_at, number_at};
-ghost use Rattle.tact_msg.specs.MessageBytes.{amounts_at, head_at, other_at, told_at, told_bound, tolds_at};
+ghost use Rattle.tact_msg.specs.MessageBytes.{amounts_at, head_at, told_at, told_bound, tolds_at};
 
 use crate::parts::{Head, Told};
-use run_model::{FieldFault, byte_at, number_at};
+use run_model::{FieldFault, byte_at, number_at, numbers_at, other_at};
 use tact_base::{
-    CONITS_MAX, Cover, Few, HISTORY_MAX, LENT_MAX, MESSAGE_WRITES, MOMENT_MAX, REPLICAS_MAX,
+    Blank, CONITS_MAX, Cover, Few, HISTORY_MAX, LENT_MAX, MESSAGE_WRITES, MOMENT_MAX, REPLICAS_MAX,
     REPLICAS_MIN, STAMP_MAX,
 };
 
@@ -39,29 +39,6 @@ pub(crate) fn head_at(bytes: &[u8], place: usize) -> Result<(Head, usize), Field
     ))
 }
 
-// A replica other than one, of so many.
-#[tactic(auto, unfolding(crate::specs::MessageBytes::other_at))]
-fn other_at(
-    other: u32,
-    replicas: u32,
-    bytes: &[u8],
-    place: usize,
-) -> Result<(u32, usize), FieldFault>
-    requires { place ≤ length bytes.now }
-    ensures within { IfOk result (λ read. read.1 ≤ length bytes.now) }
-    ensures exact { result ≡ other_at other replicas bytes.now place }
-{
-    let Some(byte) = bytes.get(place) else {
-        return Err(FieldFault::Short);
-    };
-    let replica = u32::from(*byte);
-    if replica < replicas && replica != other {
-        Ok((replica, place + 1))
-    } else {
-        Err(FieldFault::BadField(place))
-    }
-}
-
 // What is told of each of so many origins.
 pub(crate) fn tolds_at(
     to: u32,
@@ -75,7 +52,7 @@ pub(crate) fn tolds_at(
     ensures small { IfOk result (λ read. All (λ told. told.first ≤ HISTORY_MAX) read.0) }
     ensures exact { result ≡ tolds_at to replicas 0 MESSAGE_WRITES bytes.now place }
 {
-    let mut items = [Told::default(); REPLICAS_MAX as usize];
+    let mut items = [Told::blank(); REPLICAS_MAX as usize];
     let items = &mut items[..replicas as usize];
     let place = fill_tolds(items, to, bytes, place)?;
     Ok((Few::new(items), place))
@@ -168,21 +145,6 @@ pub(crate) fn amounts_at(
 {
     let mut items = [0; CONITS_MAX as usize];
     let items = &mut items[..conits as usize];
-    let place = fill_amounts(items, bytes, place)?;
+    let place = numbers_at(items, LENT_MAX + 1, bytes, place)?;
     Ok((Few::new(items), place))
-}
-
-fn fill_amounts(items: &mut [u64], bytes: &[u8], start: usize) -> Result<usize, FieldFault>
-    requires { start ≤ length bytes.now }
-    ensures within { IfOk result (λ next. next ≤ length bytes.now) }
-    ensures ok { IfOk result (λ next. amounts_at (length items.old) bytes.now start ≡ Ok (items.new, next)) }
-    ensures err { IfErr result (λ fault. amounts_at (length items.old) bytes.now start ≡ Err fault) }
-{
-    let mut place = start;
-    for item in items.iter_mut() {
-        let (amount, next) = number_at(bytes, place, 0, LENT_MAX + 1)?;
-        place = next;
-        *item = amount;
-    }
-    Ok(place)
 }

@@ -2,15 +2,14 @@
 
 ghost use Rattle.std.specs.Prelude.{◌≡◌, ◌≤◌, All, IfErr, IfOk, Ok, length};
 ghost use Rattle.tact_base.specs.declared.limits.TheConstants.{HISTORY_MAX};
-ghost use Rattle.run_model.specs.Bytes.{op_at, weights_at};
 ghost use Rattle.tact_msg.specs.Faults.{IsFaultOf, Tells, behind};
 ghost use Rattle.tact_msg.specs.MessageBytes.{write_at, writes_at, writes_of_at};
 
 use crate::MsgFault;
 use crate::parts::Told;
-use run_model::{FieldFault, get_op, get_weights, number_at};
+use run_model::{FieldFault, number_at, op_at, weights_at};
 use std::alloc::Global;
-use tact_base::{MOMENT_MAX, Op, STAMP_MAX, Weights, Write, WriteList};
+use tact_base::{MOMENT_MAX, STAMP_MAX, Write, WriteList};
 
 // The told writes of all origins.
 pub(crate) fn writes_at(
@@ -71,8 +70,8 @@ fn write_at(
 {
     let (stamp, place) = number_at(bytes, place, 1, STAMP_MAX + 1)?;
     let (moment, place) = number_at(bytes, place, 0, MOMENT_MAX + 1)?;
-    let (weights, place) = weights_of(conits, bytes, place)?;
-    let (op, place) = op_of(bytes, place)?;
+    let (weights, place) = weights_at(conits, bytes, place)?;
+    let (op, place) = op_at(bytes, place)?;
     Ok((
         Write {
             origin,
@@ -84,26 +83,4 @@ fn write_at(
         },
         place,
     ))
-}
-
-#[tactic(auto, using(run_model::proofs::ByteLemmas::stands_within))]
-fn weights_of(conits: u32, bytes: &[u8], place: usize) -> Result<(Weights, usize), FieldFault>
-    requires { place ≤ length bytes.now }
-    ensures within { IfOk result (λ read. read.1 ≤ length bytes.now) }
-    ensures exact { result ≡ weights_at conits bytes.now place }
-{
-    let mut next = place;
-    let weights = get_weights(conits, bytes, &mut next)?;
-    Ok((weights, next))
-}
-
-#[tactic(auto, using(run_model::proofs::ByteLemmas::stands_within))]
-fn op_of(bytes: &[u8], place: usize) -> Result<(Op, usize), FieldFault>
-    requires { place ≤ length bytes.now }
-    ensures within { IfOk result (λ read. read.1 ≤ length bytes.now) }
-    ensures exact { result ≡ op_at bytes.now place }
-{
-    let mut next = place;
-    let op = get_op(bytes, &mut next)?;
-    Ok((op, next))
 }

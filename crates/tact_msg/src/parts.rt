@@ -1,4 +1,4 @@
-use tact_base::Cover;
+use tact_base::{Blank, Cover};
 
 /// What a message begins with.
 #[derive(Clone, Copy, Debug)]
@@ -16,7 +16,7 @@ pub(crate) struct Head {
 }
 
 /// What a message tells of one origin.
-#[derive(Clone, Copy, Debug, Default)]
+#[derive(Clone, Copy, Debug)]
 pub(crate) struct Told {
     /// The origin.
     pub origin: u32,
@@ -28,4 +28,28 @@ pub(crate) struct Told {
     pub first: u64,
     /// How many of its writes are told.
     pub count: u32,
+}
+
+impl Blank for Told {
+    ghost blank = { record {
+      origin = 0;
+      have = 0;
+      cover = record { count = 0; stamp = 0; moment = 0 };
+      first = 0;
+      count = 0;
+    } };
+
+    fn blank() -> Told {
+        Told {
+            origin: 0,
+            have: 0,
+            cover: Cover {
+                count: 0,
+                stamp: 0,
+                moment: 0,
+            },
+            first: 0,
+            count: 0,
+        }
+    }
 }

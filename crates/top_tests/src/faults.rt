@@ -12,7 +12,7 @@ end 0
 
 #[test]
 fn the_outside_is_named(rt: HostRuntime) -> Result<(), Fail> {
-    for (line, reads, writes, wanted) in [
+    for (line, reads, writes, wanted) in &[
         (
             "tactcli check",
             [1].as_slice(),
@@ -53,7 +53,7 @@ fn the_outside_is_named(rt: HostRuntime) -> Result<(), Fail> {
         ),
     ] {
         let (status, sink) = obeyed(rt.alloc(), line, RECORD.as_bytes(), reads, writes)?;
-        assert_eq!(rt; status, wanted, "{line}");
+        assert_eq!(rt; &status, wanted, "{line}");
         assert_eq!(rt; sink.bytes().is_empty(), true, "{line}");
     }
     Ok(())

@@ -1,5 +1,5 @@
 -- What contracts see of the logs of origins, read and written place by place.
-use Rattle.std.proofs.Common.{◌≡◌, ◌≢◌, ℕ, ◌+◌, ◌<◌, List, [], length, get_or, set, map, ap, ap₂, sym, ◌∙◌, subst}
+use Rattle.std.proofs.Common.{◌≡◌, ◌≢◌, ℕ, ◌<◌, List, [], length, get_or, set, map, ap, sym, ◌∙◌, subst}
 use Rattle.std.proofs.lemmas.List.{get_or-map, map-set, get_or-set_same, get_or-set_other, set-get_or, length-map}
 use Rattle.std.proofs.Math.Seq.{map-set_same}
 use Rattle.tact_base.specs.declared.write.Write.{Write}

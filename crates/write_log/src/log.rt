@@ -8,28 +8,30 @@ use std::alloc::Global;
 use std::marker::Model;
 use tact_base::{NoMemory, RoomyList, Write};
 
-/// The writes of an origin, of which the first may be given up. Contracts see all of them, how many were given up,
-/// and the room: how many more can surely be held without taking memory, and still be counted.
+/// The writes of an origin, of which the first may be given up. Their memory is that of others once they are as many
+/// as those behind them, which then move to the front. Contracts see all of them, how many were given up, and the room:
+/// how many more can surely be held without taking memory, and still be counted.
 #[derive(Debug, Drop)]
 pub(crate) struct Log {
     base: u64,
+    dropped: u64,
     gone: GivenUp<Write>,
     held: RoomyList<Write>,
 }
 
 impl Model for Log {
-    ghost use Rattle.std.specs.Prelude.{◌≡◌, ◌+◌, ◌-◌, ◌<◌, ◌^◌, ◌++◌, min, length};
-    ghost use Rattle.write_log.specs.OneLog.{OneLog};
+    ghost use Rattle.std.specs.Prelude.{◌+◌, ◌-◌, ◌^◌, ◌++◌, min, length};
+    ghost use Rattle.write_log.specs.OneLog.{OneLog, KeepsLog};
 
     ghost Value = { OneLog };
 
     ghost view = { λ s. record {
       all = s.gone.items ++ s.held.items;
       base = s.base;
-      room = min s.held.room (2 ^ 64 - 1 - (s.base + length s.held.items));
+      room = min s.held.room (2 ^ 64 - 1 - (s.dropped + length s.held.items));
     } };
 
-    ghost invariant = { λ s. (length s.gone.items ≡ s.base) × (s.base + length s.held.items < 2 ^ 64) };
+    ghost invariant = { λ s. KeepsLog s.gone.items s.held.items s.dropped s.base };
 }
 
 impl Log {
@@ -40,6 +42,7 @@ impl Log {
     {
         Log {
             base: 0,
+            dropped: 0,
             gone: GivenUp::new(),
             held: RoomyList::new(alloc),
         }
@@ -84,10 +87,13 @@ impl Log {
         ensures room { self.old.room ≤ self.new.room }
     {
         if upto > self.base {
-            let count = (upto - self.base) as usize;
-            self.gone.extend(&self.held.items()[..count]);
-            self.held.drop_front(count);
             self.base = upto;
+            let spare = (upto - self.dropped) as usize;
+            if spare >= self.held.items().len() - spare {
+                self.gone.extend(&self.held.items()[..spare]);
+                self.held.drop_front(spare);
+                self.dropped = upto;
+            }
         }
     }
 
@@ -95,7 +101,7 @@ impl Log {
     pub(crate) fn count(&self) -> u64
         ensures { result ≡ have_of self.now }
     {
-        self.base + self.held.items().len() as u64
+        self.dropped + self.held.items().len() as u64
     }
 
     /// How many writes were given up. Takes no memory.
@@ -112,7 +118,7 @@ impl Log {
         requires held { first + k ≤ have_of self.now }
         ensures { result.now ≡ slice_range self.now.all first (first + k) }
     {
-        let start = (first - self.base) as usize;
+        let start = (first - self.dropped) as usize;
         &self.held.items()[start..start + k as usize]
     }
 }

@@ -1,7 +1,7 @@
 //! Writes that a replica gets of an origin: they go to the end of its log, and to their places in the order.
 ghost use Rattle.std.specs.Prelude.{◌≡◌, ◌≢◌, ◌+◌, ◌-◌, ℕ, ◌<◌, ◌≤◌, ◌++◌, All, IsTrue, length, slice_set};
 ghost use Rattle.std.specs.List.Sorted.{IsStrictlySortedBy};
-ghost use Rattle.tact_base.specs.WriteOrder.{write_cmp, comes_before};
+ghost use Rattle.tact_base.specs.WriteOrder.{write_cmp};
 ghost use Rattle.tact_base.specs.declared.limits.TheConstants.{SUMMED_WRITES};
 ghost use Rattle.commit_order.specs.Batches.{with_writes};
 ghost use Rattle.write_log.specs.Logs.{log_of, room_of};
@@ -41,15 +41,9 @@ pub(crate) fn are_in_order(writes: &[Write]) -> bool
     ensures { IsTrue result → IsStrictlySortedBy write_cmp writes.now }
 {
     for place in 1..writes.len() {
-        if !comes_before(&writes[place - 1], &writes[place]) {
+        if !writes[place - 1].comes_before(&writes[place]) {
             return false;
         }
     }
     true
-}
-
-fn comes_before(one: &Write, other: &Write) -> bool
-    ensures { result ≡ comes_before one.now other.now }
-{
-    one.place() < other.place()
 }

@@ -76,7 +76,7 @@ impl Replica {
         requires given { length given.now ≡ self.now.core.setup.replicas }
         ensures { IfOk result (λ firsts. firsts ≡ map (first_told self.now.core to given.now) (origins_of self.now.core)) }
     {
-        let mut firsts = Numbers::new(self.alloc);
+        let mut firsts = Numbers::with_capacity(self.alloc, self.config.replicas() as usize)?;
         for origin in 0..self.config.replicas() {
             firsts.push(self.first_told(to, given, origin))?;
         }
@@ -97,7 +97,7 @@ impl Replica {
     fn haves(&self) -> Result<Numbers, NoMemory>
         ensures { IfOk result (λ haves. haves ≡ map (λ origin. length (log_at self.now.core origin)) (origins_of self.now.core)) }
     {
-        let mut haves = Numbers::new(self.alloc);
+        let mut haves = Numbers::with_capacity(self.alloc, self.config.replicas() as usize)?;
         for origin in 0..self.config.replicas() {
             haves.push(self.have(origin))?;
         }
@@ -107,7 +107,7 @@ impl Replica {
     fn told_covers(&self, moment: u64) -> Result<Covers, NoMemory>
         ensures { IfOk result (λ covers. covers ≡ map (cover_told self.now.core moment) (origins_of self.now.core)) }
     {
-        let mut covers = Covers::new(self.alloc);
+        let mut covers = Covers::with_capacity(self.alloc, self.config.replicas() as usize)?;
         for origin in 0..self.config.replicas() {
             covers.push(self.told_cover(origin, moment))?;
         }
@@ -136,12 +136,24 @@ impl Replica {
         requires held { (origin : ℕ) → origin < self.now.core.setup.replicas → base_at self.now.core origin ≤ slice_index firsts.now origin }
         ensures { IfOk result (λ writes. writes ≡ writes_told self.now.core firsts.now) }
     {
-        let mut writes = WriteList::new(self.alloc);
+        let mut writes = WriteList::with_capacity(self.alloc, self.told_count(firsts))?;
         for origin in 0..self.config.replicas() {
             let room = MESSAGE_WRITES - writes.len();
-            writes.append_clones(self.writes_from(origin, firsts[origin as usize], room))?;
+            writes.append(self.writes_from(origin, firsts[origin as usize], room))?;
         }
         Ok(writes)
+    }
+
+    // How many writes there are from these firsts on, and at most as many as there is room for: how much memory they want.
+    fn told_count(&self, firsts: &[u64]) -> usize
+        requires { length firsts.now ≡ self.now.core.setup.replicas }
+    {
+        let mut room = MESSAGE_WRITES as u64;
+        for origin in 0..self.config.replicas() {
+            let first = firsts[origin as usize];
+            room -= room.min(self.have(origin).saturating_sub(first));
+        }
+        MESSAGE_WRITES - room as usize
     }
 
     // At most so many writes of an origin from the first on, none of which is given up.
@@ -162,7 +174,7 @@ impl Replica {
         requires other { holder ≢ self.now.core.replica }
         ensures { IfOk result (λ lent. lent ≡ map (lent_to self.now.core.budgets holder) (conits_of self.now.core.setup)) }
     {
-        let mut lent = Numbers::new(self.alloc);
+        let mut lent = Numbers::with_capacity(self.alloc, self.config.conits() as usize)?;
         for conit in 0..self.config.conits() {
             lent.push(self.budgets.lent(holder, conit))?;
         }
@@ -175,7 +187,7 @@ impl Replica {
         requires other { owner ≢ self.now.core.replica }
         ensures { IfOk result (λ returned. returned ≡ map (returned_to self.now.core.budgets owner) (conits_of self.now.core.setup)) }
     {
-        let mut returned = Numbers::new(self.alloc);
+        let mut returned = Numbers::with_capacity(self.alloc, self.config.conits() as usize)?;
         for conit in 0..self.config.conits() {
             returned.push(self.budgets.returned(owner, conit))?;
         }

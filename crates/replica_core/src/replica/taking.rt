@@ -31,8 +31,9 @@ impl Replica {
     /// Takes a message that fits (`fits`): of each other origin the writes that it lacks, unless they would leave
     /// a gap, and the cover, where it vouches for no more than the log has; what the sender is known to have,
     /// to have lent and to have given back; and the clock (anti-entropy after Golding; docs/MODEL.md). It makes
-    /// its room first, beside that for own writes. The moment of the entry is the greater of the handed one and
-    /// that of the last entry.
+    /// its room first, beside that for own writes. Then it gives up, of the committed writes, those before the first
+    /// that some replica isn't known to have: they are still counted, and no longer held. The moment of the entry is
+    /// the greater of the handed one and that of the last entry.
     ///
     /// `Full` comes exactly where 20,000 entries were made or the clock stands at 2^40. Both faults leave the
     /// replica as it was.

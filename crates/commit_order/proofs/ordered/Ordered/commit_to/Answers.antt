@@ -6,7 +6,7 @@ use Rattle.tact_base.specs.declared.write.Write.{Write}
 use Rattle.tact_base.specs.WriteOrder.{committed_to}
 use Rattle.commit_order.specs.Order.{OrderState}
 use Rattle.commit_order.proofs.Given.{held-sorted, committed-length}
-use Rattle.commit_order.proofs.WriteOrderLemmas.{stamps_first}
+use Rattle.commit_order.proofs.WriteOrderLemmas.{committed-rises, stamps_first}
 use Rattle.commit_order.proofs.Partitions.{count_by-front}
 use Rattle.commit_order.proofs.ordered.Ordered.commit_to.Goals as goal
 
@@ -32,6 +32,7 @@ invariant_of-self c =
       many = kept.many;
       past = All-weaker (λ (write : Write). write.stamp ≤ c.self.inside.point) (λ (write : Write). write.stamp ≤ c.args.stamp) (λ write h. omega (arith, h, rises c)) c.self.inside.gone.items kept.past;
       committed = count c;
+      given_up = omega (arith, count c, kept.committed, kept.given_up, committed-rises c.self.inside.point c.args.stamp c.self.inside.writes.items (rises c));
       counted = kept.counted;
     }
 

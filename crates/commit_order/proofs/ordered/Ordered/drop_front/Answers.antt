@@ -1,54 +1,18 @@
-use Rattle.std.proofs.Common.{◌≡◌, ℕ, ◌+◌, ◌-◌, ◌≤◌, List, ◌++◌, All, take, drop, ap, length, ◌∙◌, sym, subst, arith}
-use Rattle.std.proofs.lemmas.List.{append_assoc, length-append, length-drop, length-take-le, take-append-drop, take-take}
-use Rattle.std.proofs.lemmas.List.Elements.{All-append, All-take}
-use Rattle.tact_base.proofs.CommitLemmas.{All-committed_to}
-use Rattle.tact_base.proofs.OrderLemmas.{IsSorted-from_ordered}
-use Rattle.tact_base.specs.WriteOrder.{write_cmp, committed_to}
+use Rattle.std.proofs.Common.{◌≡◌, ℕ, ◌+◌, ◌≤◌, List, ◌++◌, length, ap, sym, subst, arith}
+use Rattle.tact_base.specs.WriteOrder.{committed_to}
 use Rattle.tact_base.specs.declared.write.Write.{Write}
-use Rattle.std.specs.List.Sorted.{IsStrictlySortedBy}
 use Rattle.commit_order.specs.Order.{OrderState, KeepsOrder}
-use Rattle.commit_order.proofs.Given.{held-sorted, committed-length}
-use Rattle.commit_order.proofs.WriteOrderLemmas.{by_place, committed-few, committed-front, committed_to-drop}
+use Rattle.commit_order.proofs.Given.{committed-length}
+use Rattle.commit_order.proofs.WriteOrderLemmas.{committed-few}
 use Rattle.commit_order.proofs.ordered.Ordered.drop_front.Goals as goal
 
--- Writes that were given up, and others that are held; of these the first are given up too.
-module _ (gone held : List Write) (dropped committed point : ℕ) (kept : KeepsOrder gone held dropped committed point) (k : ℕ)
-    (few : dropped + k ≤ length (committed_to point (gone ++ held))) where
-  pub early : k ≤ length (committed_to point held)
-  early = omega (arith, few, kept.many, committed-length gone held point kept.past point (omega arith))
-
-  pub within : k ≤ length held
-  within = omega (arith, early, committed-few point held)
-
-  pub same : (gone ++ take k held) ++ drop k held ≡ gone ++ held
-  same = append_assoc gone (take k held) (drop k held) ∙ ap (λ (rest : List Write). gone ++ rest) (take-append-drop k held)
-
-  sorted : IsStrictlySortedBy write_cmp held
-  sorted = held-sorted gone held point kept.past kept.sorted
-
-  going : All (λ (write : Write). write.stamp ≤ point) (take k held)
-  going =
-      let front : take k (committed_to point held) ≡ take k held =
-      ap (take k) (committed-front point held sorted) ∙ take-take k (length (committed_to point held)) held early in
-      subst (All (λ (write : Write). write.stamp ≤ point)) front (All-take (λ (write : Write). write.stamp ≤ point) k (committed_to point held) (All-committed_to point held))
-
-  pub still : (after left : List Write)
-      → after ≡ gone ++ take k held
-      → left ≡ drop k held
-      → KeepsOrder after left (dropped + k) (committed - k) point
-  still after left is rest =
-      rw (is, rest) (record {
-        sorted = rw same kept.sorted;
-        many = omega (arith, length-append gone (take k held), length-take-le k held within, kept.many);
-        past = All-append (λ (write : Write). write.stamp ≤ point) gone (take k held) kept.past going;
-        committed = omega (
-          arith,
-          kept.committed,
-          ap length (committed_to-drop point held (IsSorted-from_ordered held (by_place held sorted)) k early),
-          length-drop k (committed_to point held),
-        );
-        counted = omega (arith, length-drop k held, within, kept.counted);
-      })
+-- of the committed writes that are held at most all are given up
+all_committed : (gone held : List Write) (dropped front committed point k : ℕ)
+    → KeepsOrder gone held dropped front committed point
+    → dropped + front + k ≤ length (committed_to point (gone ++ held))
+    → front + k ≤ committed
+all_committed gone held dropped front committed point k kept few =
+    omega (arith, few, kept.many, kept.committed, committed-length gone held point kept.past point (omega arith))
 
 few_is : (seen now : OrderState) (k : ℕ)
     → seen ≡ now
@@ -56,36 +20,40 @@ few_is : (seen now : OrderState) (k : ℕ)
     → seen.dropped + k ≤ length (committed_to seen.point seen.writes)
 few_is seen now k same few = subst (λ (s : OrderState). s.dropped + k ≤ length (committed_to s.point s.writes)) (sym same) few
 
-pub slice_bounds-extend-end : goal.slice_bounds-extend-end
-slice_bounds-extend-end c =
-    let inside = c.self.inside in
-    let least = within inside.gone.items inside.writes.items inside.dropped inside.committed inside.point c.self.invariant c.args.k (few_is _ c.args.self.now c.args.k c.self.view_is c.requires) in
-    sym (length-take-le c.args.k c.items.result.now (omega (arith, least, ap length c.items.ensures)))
-
-pub drop_front-requires : goal.drop_front-requires
-drop_front-requires c =
-    let inside = c.self.inside in
-    omega (arith, within inside.gone.items inside.writes.items inside.dropped inside.committed inside.point c.self.invariant c.args.k (few_is _ c.args.self.now c.args.k c.self.view_is c.requires))
-
-pub overflow_sub-self : goal.overflow_sub-self
-overflow_sub-self c =
-    let inside = c.self.inside in
-    omega (arith, c.self.invariant.committed, early inside.gone.items inside.writes.items inside.dropped inside.committed inside.point c.self.invariant c.args.k (few_is _ c.args.self.now c.args.k c.self.view_is c.requires))
-
 pub overflow_add-self : goal.overflow_add-self
 overflow_add-self c =
     let inside = c.self.inside in
-    omega (arith, c.self.invariant.counted, within inside.gone.items inside.writes.items inside.dropped inside.committed inside.point c.self.invariant c.args.k (few_is _ c.args.self.now c.args.k c.self.view_is c.requires))
+    let kept = c.self.invariant in
+    let most = all_committed inside.gone.items inside.writes.items inside.dropped inside.front inside.committed inside.point c.args.k kept (few_is _ c.args.self.now c.args.k c.self.view_is c.requires) in
+    omega (arith, most, kept.committed, kept.counted, committed-few inside.point inside.writes.items)
+
+pub overflow_sub-items : goal.overflow_sub-items
+overflow_sub-items c =
+    let inside = c.self.inside in
+    let kept = c.self.invariant in
+    let most = all_committed inside.gone.items inside.writes.items inside.dropped inside.front inside.committed inside.point c.args.k kept (few_is _ c.args.self.now c.args.k c.self.view_is c.requires) in
+    omega (arith, most, kept.committed, committed-few inside.point inside.writes.items, ap length c.items.ensures)
+
+-- what is kept then
+gives_up : (gone held : List Write) (dropped front committed point k : ℕ)
+    → KeepsOrder gone held dropped front committed point
+    → dropped + front + k ≤ length (committed_to point (gone ++ held))
+    → KeepsOrder gone held dropped (front + k) committed point
+gives_up gone held dropped front committed point k kept few = record {
+  sorted = kept.sorted;
+  many = kept.many;
+  past = kept.past;
+  committed = kept.committed;
+  given_up = all_committed gone held dropped front committed point k kept few;
+  counted = kept.counted;
+}
 
 pub invariant_of-self : goal.invariant_of-self
 invariant_of-self c =
     let inside = c.self.inside in
-    still inside.gone.items inside.writes.items inside.dropped inside.committed inside.point c.self.invariant c.args.k (few_is _ c.args.self.now c.args.k c.self.view_is c.requires)
-    c.extend.new.self.items c.drop_front.new.self.items (c.extend.ensures ∙ ap (λ (l : List Write). inside.gone.items ++ take c.args.k l) c.items.ensures) c.drop_front.ensures.items
+    gives_up inside.gone.items inside.writes.items inside.dropped inside.front inside.committed inside.point c.args.k c.self.invariant (few_is _ c.args.self.now c.args.k c.self.view_is c.requires)
 
-pub returns-clause-room : goal.returns-clause-room
-returns-clause-room c =
+pub invariant_of-self-else-self-items : goal.invariant_of-self-else-self-items
+invariant_of-self-else-self-items c =
     let inside = c.self.inside in
-    let least = within inside.gone.items inside.writes.items inside.dropped inside.committed inside.point c.self.invariant c.args.k (few_is _ c.args.self.now c.args.k c.self.view_is c.requires) in
-    let many = ap length c.drop_front.ensures.items ∙ length-drop c.args.k inside.writes.items in
-    omega (arith, ap (λ (s : OrderState). s.room) c.self.view_is, many, least, c.drop_front.ensures.room)
+    gives_up inside.gone.items inside.writes.items inside.dropped inside.front inside.committed inside.point c.args.k c.self.invariant (few_is _ c.args.self.now c.args.k c.self.view_is c.requires)

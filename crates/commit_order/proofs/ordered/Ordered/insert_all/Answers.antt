@@ -1,9 +1,7 @@
-use Rattle.std.proofs.Common.{◌≡◌, ◌≢◌, ℕ, ◌+◌, ◌-◌, ◌<◌, ◌≤◌, ◌^◌, false, List, ◌++◌, All, length, get_or, nat_le, sym, ap, ◌∙◌, subst, arith}
+use Rattle.std.proofs.Common.{◌≡◌, ℕ, ◌+◌, ◌-◌, ◌<◌, ◌≤◌, ◌^◌, false, List, ◌++◌, All, length, nat_le, sym, ap, ◌∙◌, subst, arith}
 use Rattle.std.proofs.lemmas.Bool.{lt-leb}
 use Rattle.std.specs.List.Sorted.{IsStrictlySortedBy}
 use Rattle.std.proofs.lemmas.List.Elements.{All-weaker}
-use Rattle.std.specs.declared.cmp.Ordering.TheVariants.{Equal}
-use Rattle.tact_base.proofs.ListLemmas.{All-append_right}
 use Rattle.tact_base.specs.declared.write.Write.{Write}
 use Rattle.tact_base.specs.WriteOrder.{write_cmp, committed_to}
 use Rattle.commit_order.specs.Batches.{with_writes, first_place}
@@ -13,7 +11,7 @@ use Rattle.commit_order.proofs.Given.{held-sorted, first_place-is, with_writes-i
 use Rattle.commit_order.proofs.ordered.Ordered.insert_all.Goals as goal
 
 -- Writes past the point, put in behind those that were given up.
-module _ (gone held : List Write) (dropped committed point : ℕ) (kept : KeepsOrder gone held dropped committed point) (writes : List Write)
+module _ (gone held : List Write) (dropped front committed point : ℕ) (kept : KeepsOrder gone held dropped front committed point) (writes : List Write)
     (past : All (λ (write : Write). point < write.stamp) writes) where
   place-is : (place : ℕ) → place ≡ first_place (gone ++ held) writes → place - dropped ≡ first_place held writes
   place-is place is = omega (arith, is, first_place-is gone held point kept.past writes past, kept.many)
@@ -29,7 +27,7 @@ module _ (gone held : List Write) (dropped committed point : ℕ) (kept : KeepsO
       → IsStrictlySortedBy write_cmp writes
       → AreNew writes (gone ++ held)
       → dropped + (length held + length writes) < 2 ^ 64
-      → KeepsOrder gone items dropped committed point
+      → KeepsOrder gone items dropped front committed point
   still items is sorted new fits =
       let late : All (λ (write : Write). nat_le write.stamp point ≡ false) writes =
       All-weaker (λ (write : Write). point < write.stamp) (λ (write : Write). nat_le write.stamp point ≡ false) (λ write h. lt-leb write.stamp point h) writes past in
@@ -38,6 +36,7 @@ module _ (gone held : List Write) (dropped committed point : ℕ) (kept : KeepsO
         many = kept.many;
         past = kept.past;
         committed = kept.committed ∙ ap length (sym (ap (committed_to point) is ∙ filter-with_writes (λ write. nat_le write.stamp point) writes held late));
+        given_up = kept.given_up;
         counted = omega (arith, ap length is, length-with_writes writes held, fits);
       }
 
@@ -52,30 +51,24 @@ pub insert_copies-requires-clause-held : goal.insert_copies-requires-clause-held
 insert_copies-requires-clause-held c =
     held-sorted c.self.inside.gone.items c.self.inside.writes.items c.self.inside.point c.self.invariant.past c.self.invariant.sorted
 
-pub insert_copies-requires-clause-new : goal.insert_copies-requires-clause-new
-insert_copies-requires-clause-new c =
-    let inside = c.self.inside in
-    let whole : AreNew c.args.writes.now (inside.gone.items ++ inside.writes.items) = subst (λ (s : OrderState). AreNew c.args.writes.now s.writes) (sym c.self.view_is) c.requires.new in
-    λ k d within. All-append_right (λ other. write_cmp other (get_or c.args.writes.now k d) ≢ Equal) inside.gone.items inside.writes.items (whole k d within)
-
 pub overflow_sub-place : goal.overflow_sub-place
 overflow_sub-place c =
     let inside = c.self.inside in
-    behind inside.gone.items inside.writes.items inside.dropped inside.committed inside.point c.self.invariant c.args.writes.now
+    behind inside.gone.items inside.writes.items inside.dropped inside.front inside.committed inside.point c.self.invariant c.args.writes.now
     (past_is _ c.args.self.now c.args.writes.now c.self.view_is c.requires.tentative) c.place_of_first-place.result
     (subst (λ (s : OrderState). c.place_of_first-place.result ≡ first_place s.writes c.args.writes.now) (sym c.self.view_is) c.place_of_first-place.ensures)
 
 pub insert_copies-requires-clause-place : goal.insert_copies-requires-clause-place
 insert_copies-requires-clause-place c =
     let inside = c.self.inside in
-    place-is inside.gone.items inside.writes.items inside.dropped inside.committed inside.point c.self.invariant c.args.writes.now
+    place-is inside.gone.items inside.writes.items inside.dropped inside.front inside.committed inside.point c.self.invariant c.args.writes.now
     (past_is _ c.args.self.now c.args.writes.now c.self.view_is c.requires.tentative) c.place_of_first-place.result
     (subst (λ (s : OrderState). c.place_of_first-place.result ≡ first_place s.writes c.args.writes.now) (sym c.self.view_is) c.place_of_first-place.ensures)
 
 written_is : (c : goal.After-insert_copies) → c.self.inside.gone.items ++ c.insert_copies.new.list.items ≡ with_writes c.args.writes.now c.args.self.now.writes
 written_is c =
     let inside = c.self.inside in
-    written inside.gone.items inside.writes.items inside.dropped inside.committed inside.point c.self.invariant c.args.writes.now
+    written inside.gone.items inside.writes.items inside.dropped inside.front inside.committed inside.point c.self.invariant c.args.writes.now
     (past_is _ c.args.self.now c.args.writes.now c.self.view_is c.requires.tentative) c.insert_copies.new.list.items c.insert_copies.ensures.items
     ∙ ap (λ (s : OrderState). with_writes c.args.writes.now s.writes) c.self.view_is
 
@@ -84,7 +77,7 @@ invariant_of-self c =
     let inside = c.self.inside in
     let writes = c.args.writes.now in
     let new : AreNew writes (inside.gone.items ++ inside.writes.items) = subst (λ (s : OrderState). AreNew writes s.writes) (sym c.self.view_is) c.requires.new in
-    still inside.gone.items inside.writes.items inside.dropped inside.committed inside.point c.self.invariant writes
+    still inside.gone.items inside.writes.items inside.dropped inside.front inside.committed inside.point c.self.invariant writes
     (past_is _ c.args.self.now writes c.self.view_is c.requires.tentative) c.insert_copies.new.list.items c.insert_copies.ensures.items c.requires.sorted new
     (omega (arith, c.self.invariant.counted, c.requires.room, ap (λ (s : OrderState). s.room) c.self.view_is))
 

@@ -7,4 +7,4 @@ use Rattle.commit_order.proofs.ordered.Ordered.new.Goals as goal
 pub invariant_of-result : goal.invariant_of-result
 unfolding IsStrictlySortedBy
 invariant_of-result c =
-    rw (c.new.ensures, c.new-2.ensures) (record { sorted = tt; many = refl; past = All-nil (λ (write : Write). write.stamp ≤ 0); committed = refl; counted = omega arith })
+    rw (c.new.ensures, c.new-2.ensures) (record { sorted = tt; many = refl; past = All-nil (λ (write : Write). write.stamp ≤ 0); committed = refl; given_up = omega arith; counted = omega arith })

@@ -19,14 +19,14 @@ returns c =
     let image = c.self.inside in
     let at = c.args.place - image.committed in
     let op = c.in_ok-op.field-0.now in
-    let held = c.in_ok-held.field-0.now in
+    let undo = c.in_ok-undo.field-0.now in
     let undos = image.layers.undos.items in
     let there =
     read c.deref.result.now image.ops.items at op
     c.deref.ensures.value c.in_ok-op.ensures.lookup.0 c.in_ok-op.ensures.lookup.1 in
     let kept =
-    read c.deref-2.result.now undos at held
-    c.deref-2.ensures.value c.in_ok-held.ensures.lookup.0 c.in_ok-held.ensures.lookup.1 in
+    read c.deref-2.result.now undos at undo
+    c.deref-2.ensures.value c.in_ok-undo.ensures.lookup.0 c.in_ok-undo.ensures.lookup.1 in
     let state : ImageState = record {
       committed = image.committed;
       base = image.layers.base.entries;
@@ -35,4 +35,4 @@ returns c =
     } in
     rw (← c.self.view_is)
     (c.among.ensures
-    ∙ value_before-tentative state c.args.place c.args.key undos op held (omega arith) c.self.invariant.applied.undone there kept)
+    ∙ value_before-tentative state c.args.place c.args.key undos op undo (omega arith) c.self.invariant.applied.undone there kept)

@@ -1,14 +1,15 @@
 use Rattle.std.proofs.Common.{◌≡◌, length, take, drop, ap, sym, arith}
-use Rattle.std.proofs.lemmas.List.{take-append-drop, length-take}
+use Rattle.std.proofs.lemmas.List.{take-append-drop, length-take, length-map}
 use Rattle.tact_base.specs.Images.{image_from}
 use Rattle.rollback_apply.specs.Values.{value_at}
+use Rattle.rollback_apply.specs.declared.layers.Undo.{Undo}
 use Rattle.rollback_apply.proofs.ImageLemmas.{applied-settle, same_image, length-undos_of}
 use Rattle.rollback_apply.proofs.layers.Layers.settle.Goals as goal
 
 pub drop_front-requires : goal.drop_front-requires
 drop_front-requires c =
     let old = c.args.self.now in
-    omega (arith, c.requires.within, ap length c.requires.applied.undone, length-undos_of (value_at old.base) c.args.ops.now)
+    omega (arith, c.requires.within, ap length c.requires.applied.undone, length-map old.undos.items (λ (undo : Undo). undo.held), length-undos_of (value_at old.base) c.args.ops.now)
 
 pub returns-clause-applied : goal.returns-clause-applied
 returns-clause-applied c =

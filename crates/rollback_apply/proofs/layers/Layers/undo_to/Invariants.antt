@@ -1,8 +1,7 @@
-use Rattle.std.proofs.Common.{◌≡◌, ◌+◌, ◌*◌, ◌≤◌, length, take, vec_len}
-use Rattle.std.specs.HashMap.{spare}
+use Rattle.std.proofs.Common.{◌≡◌, ◌≤◌, length, take, vec_len}
 use Rattle.std.specs.Vec.{vec_capacity}
 use Rattle.rollback_apply.specs.Layers.{Applies}
-use Rattle.rollback_apply.specs.Values.{capacity_of}
+use Rattle.rollback_apply.specs.Recent.{room_of}
 use Rattle.rollback_apply.proofs.layers.Layers.undo_to.Given as goal
 
 abbrev pub invariant-loop-self : goal.invariant-loop-self
@@ -12,8 +11,8 @@ invariant-loop-self l = record {
   within : vec_len l.self.undos ≤ length l.ops;
   applied : Applies l.self (take (vec_len l.self.undos) l.ops);
   capacity : vec_capacity l.self.undos ≡ vec_capacity l.initial.self.undos;
-  memory : capacity_of l.initial.self.recent ≤ capacity_of l.self.recent;
-  left : spare l.initial.self.recent + 2 * vec_len l.self.undos ≤ spare l.self.recent + 2 * length l.ops;
+  memory : room_of l.self.recent ≡ room_of l.initial.self.recent;
+  left : l.self.recent.spare ≡ l.initial.self.recent.spare;
 }
 
 abbrev pub decreases-loop-self : goal.decreases-loop-self

@@ -2,8 +2,8 @@ use Rattle.std.proofs.Common.{refl, rules}
 use Rattle.run_check.proofs.Going.{messages_stay, refused}
 use Rattle.run_check.proofs.check.Checker.judge_one.Goals as goal
 
-pub returns-in_err-test_time-clause-err : goal.returns-in_err-test_time-clause-err
-returns-in_err-test_time-clause-err g c = search (rules, c.in_err-test_time.ensures.err c.args.short.now.act)
+pub returns-in-Err-clause-err : goal.returns-in-Err-clause-err
+returns-in-Err-clause-err g c = search (rules, c.in-Err.ensures.err c.args.short.now.act)
 
 pub returns-in-Call-clause-sent : goal.returns-in-Call-clause-sent
 returns-in-Call-clause-sent g c =

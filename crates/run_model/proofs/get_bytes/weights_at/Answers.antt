@@ -5,7 +5,7 @@ use Rattle.tact_base.proofs.ConitListLemmas.{weight_in_limits}
 use Rattle.run_model.proofs.WeightBytes.{weight_reader}
 use Rattle.run_model.specs.Bytes.{weight_bytes, weight_at}
 use Rattle.run_model.proofs.ListBytes.{never_refused}
-use Rattle.run_model.proofs.get_bytes.weights_of.Goals as goal
+use Rattle.run_model.proofs.get_bytes.weights_at.Goals as goal
 
 pub returns-in-Err-clause-exact : goal.returns-in-Err-clause-exact
 returns-in-Err-clause-exact c =

@@ -4,7 +4,7 @@ use Rattle.tact_base.specs.declared.conit_list.Need.{Need}
 use Rattle.run_model.proofs.WeightBytes.{need_in_limits, need_reader}
 use Rattle.run_model.specs.Bytes.{need_bytes, need_at}
 use Rattle.run_model.proofs.ListBytes.{never_refused}
-use Rattle.run_model.proofs.get_bytes.needs_of.Goals as goal
+use Rattle.run_model.proofs.get_bytes.needs_at.Goals as goal
 
 pub returns-in-Err-clause-exact : goal.returns-in-Err-clause-exact
 returns-in-Err-clause-exact c =
