@@ -181,7 +181,7 @@ impl Ordered {
 
     // Moves those behind the writes that were given up to the front. Takes no memory.
     fn move_up(&mut self)
-        ensures same { self.new ≡ record self.old { room = self.new.room; } }
+        ensures same { self.new ≡ record self.old { room = self.new.room } }
         ensures room { self.old.room ≤ self.new.room }
     {
         self.gone.extend(&self.writes.items()[..self.front]);
