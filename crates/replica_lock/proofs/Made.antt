@@ -73,19 +73,3 @@ module _ (setup : Setup) (sound : IsSetup setup) (before after : LockedView) (ol
   pub HasMade-part : (made : HasMade setup old new moment done) → part_of made.front old.replica ≡ part_in before
   HasMade-part made =
       ap (λ h. part_of h old.replica) (same_from_push made.front entered.front (entry_after old made.front moment done) (entry_after old entered.front moment done) (sym made.seen ∙ seen_is)).0 ∙ part_is
-
--- after a sending
-pub HasSent-made : (setup : Setup) (before : LockedView) (old new : SessionView) (moment to : ℕ) (message : Message)
-    → setup ≡ before.core.setup
-    → old.replica ≡ before.core.replica
-    → (made : HasMade setup old new moment (act.Send message))
-    → part_of made.front old.replica ≡ part_in before
-    → message ≡ message_to before.core.setup before.core.replica (part_in before) moment to
-    → HasSent setup old new moment to message
-HasSent-made setup before old new moment to message of_setup replica made part is = record {
-  made = made;
-  message_is =
-      is ∙ sym (ap (λ s. message_to s old.replica (part_of made.front old.replica) moment to) of_setup
-      ∙ ap (λ r. message_to before.core.setup r (part_of made.front old.replica) moment to) replica
-      ∙ ap (λ p. message_to before.core.setup before.core.replica p moment to) part);
-}
