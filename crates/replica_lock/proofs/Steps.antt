@@ -4,7 +4,6 @@ use Rattle.run_model.specs.Histories.{part_of, calls_in, is_call_of, IsPrefix}
 use Rattle.run_model.specs.Runs.{IsRun}
 use Rattle.run_model.specs.declared.entry.Act.{Act}
 use Rattle.run_model.specs.declared.entry.Message.{Message}
-use Rattle.atomic_table.specs.Seated.{TableId}
 use Rattle.run_history.specs.Seats.{NoteView}
 use Rattle.run_history.specs.Ticks.{entries_of}
 use Rattle.weight_ledger.specs.Seen.{HeldView, TallyView}

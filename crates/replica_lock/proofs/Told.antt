@@ -1,33 +1,18 @@
 -- What a call on a turn has told its session.
 use Rattle.std.proofs.Common.{◌≡◌, ◌≢◌, ℕ, ◌+◌, Bool, cond, List, slice_index, refl, sym, ap, ◌∙◌, subst}
 use Rattle.std.proofs.lemmas.Bool.{eq-eqb}
-use Rattle.tact_base.specs.Setup.{Setup}
-use Rattle.run_model.specs.Histories.{part_of, calls_in, IsPrefix}
-use Rattle.run_model.specs.Runs.{IsRun}
+use Rattle.run_model.specs.Histories.{part_of, calls_in}
 use Rattle.run_model.specs.declared.call.Reply.{Reply}
 use Rattle.run_model.specs.declared.call.Request.{Request}
 use Rattle.run_model.specs.declared.entry.Act.TheVariants as act
 use Rattle.run_model.specs.declared.entry.Entry.{Entry}
 use Rattle.run_model.proofs.PartLemmas.{calls_in-push}
 use Rattle.atomic_table.specs.Seated.{TableId}
-use Rattle.run_history.specs.Seats.{NoteView}
-use Rattle.run_history.specs.Ticks.{entries_of}
-use Rattle.weight_ledger.specs.Seen.{HeldView, TallyView}
-use Rattle.replica_core.specs.States.{Core}
+use Rattle.weight_ledger.specs.Seen.{TallyView}
 use Rattle.replica_lock.specs.Allowances.{AllowanceView}
-use Rattle.replica_lock.specs.Faults.{IsNodeFaultOf}
-use Rattle.replica_lock.specs.Loans.{IsLoanFaultOf, IsLoanFaultSeen, PassesMost}
 use Rattle.replica_lock.specs.Locks.{HasEntered, IsLocked, LockedView, entry_in, made_place, part_in, turns_place}
-use Rattle.replica_lock.specs.Nodes.{KeepsTurn}
-use Rattle.replica_lock.specs.Sessions.{HasHeard, IsFaultSeen, IsSessionOf, KeepsSession, NodeView, SessionView, TurnView}
-use Rattle.replica_lock.specs.declared.fault.NodeFault.{NodeFault}
-use Rattle.replica_lock.specs.declared.fault.NodeLoanFault.{NodeLoanFault}
-use Rattle.replica_lock.specs.declared.fault.NodeLoanFault.TheVariants as loan_fault
-use Rattle.replica_lock.specs.declared.label.Label.{Label}
-use Rattle.replica_lock.specs.declared.loan.Loan.{Loan}
+use Rattle.replica_lock.specs.Sessions.{KeepsSession, SessionView}
 use Rattle.replica_lock.proofs.Allowing.{part-entered}
-use Rattle.replica_lock.proofs.Seeing.{HasHeard-learnt, IsFaultSeen-of}
-use Rattle.replica_lock.proofs.Turning.{Tells, tells}
 
 -- an allowance's view, part by part
 pub allowance_as : (replica conit : ℕ) (cell cell_as : TableId) (amount amount_as : ℕ)
