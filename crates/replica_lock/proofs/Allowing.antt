@@ -24,7 +24,7 @@ use Rattle.run_promises.proofs.Kept.{IsExact-run, KeepsShares-run}
 use Rattle.run_history.specs.Ticks.{entries_of}
 use Rattle.replica_lock.specs.Answering.{MayAskWith}
 use Rattle.replica_lock.specs.Locks.{HasEntered, IsLocked, LockedView, entry_in, part_in}
-use Rattle.replica_lock.proofs.Entering.{amount_on-most, entries-push, releases_most, spends_most}
+use Rattle.replica_lock.proofs.Entering.{amount_on-most, entries-push, moves_most}
 
 -- each of some numbers is at most their sum
 each-le-sum : {X : Type 0} (f : X → ℕ) (xs : List X) (x : X) → All (λ x. f x ≤ sum_by f xs) xs
@@ -75,9 +75,9 @@ used-most setup conit amount (request.Write weights op) given may = omega arith
 used-most setup conit amount (request.Read key needs) given may = omega arith
 used-most setup conit amount (request.Reserve at more) given may = omega arith
 used-most setup conit amount (request.Held weight op) given may =
-    omega (arith, spends_most weight op conit given, amount_on-most weight.conit (unsigned_abs weight.nweight) conit, may.3)
+    omega (arith, (moves_most conit given).spends weight op, amount_on-most weight.conit (unsigned_abs weight.nweight) conit, may.3)
 used-most setup conit amount (request.Release at back) given may =
-    omega (arith, releases_most at back conit given, amount_on-most at back conit, may.1)
+    omega (arith, (moves_most conit given).releases at back, amount_on-most at back conit, may.1)
 
 -- An entry that was made.
 module _ (before after : LockedView) (known : List Entry) (entry : Entry) (entered : HasEntered before after known entry) where

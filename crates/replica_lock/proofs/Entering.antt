@@ -91,45 +91,24 @@ pub record IsCallOn (client conit : ℕ) (done : Act) : Type 0 where
 abbrev pub amount_on : ℕ → ℕ → ℕ → ℕ
 amount_on at amount conit = cond (at == conit) amount 0
 
--- no more of it is granted, released or spent, whatever the reply
-pub grants_most : (at amount conit : ℕ) (given : Reply) → granted_on conit (request.Reserve at amount) given ≤ amount_on at amount conit
-grants_most at amount on (reply.Done index stamp) = omega arith
-grants_most at amount on reply.Granted = omega arith
-grants_most at amount on reply.Released = omega arith
-grants_most at amount on (reply.Value value sums) = omega arith
-grants_most at amount on (reply.TooHeavy conit peer size share) = omega arith
-grants_most at amount on (reply.WaitHeld conit peer held size share) = omega arith
-grants_most at amount on (reply.WaitShare conit peer missing held size share) = omega arith
-grants_most at amount on (reply.WaitLent conit holder out total num) = omega arith
-grants_most at amount on (reply.WaitOrder conit replica tentative order) = omega arith
-grants_most at amount on (reply.WaitStale conit replica moment wanted) = omega arith
-grants_most at amount on (reply.NotHeld conit held wanted) = omega arith
+-- No more of it is granted, released or spent, whatever the reply.
+pub record MovesMost (conit : ℕ) (given : Reply) : Type 0 where
+  pub grants : (at amount : ℕ) → granted_on conit (request.Reserve at amount) given ≤ amount_on at amount conit
+  pub releases : (at amount : ℕ) → used_on conit (request.Release at amount) given ≤ amount_on at amount conit
+  pub spends : (weight : Weight) (op : Op) → used_on conit (request.Held weight op) given ≤ amount_on weight.conit (unsigned_abs weight.nweight) conit
 
-pub releases_most : (at amount conit : ℕ) (given : Reply) → used_on conit (request.Release at amount) given ≤ amount_on at amount conit
-releases_most at amount on (reply.Done index stamp) = omega arith
-releases_most at amount on reply.Granted = omega arith
-releases_most at amount on reply.Released = omega arith
-releases_most at amount on (reply.Value value sums) = omega arith
-releases_most at amount on (reply.TooHeavy conit peer size share) = omega arith
-releases_most at amount on (reply.WaitHeld conit peer held size share) = omega arith
-releases_most at amount on (reply.WaitShare conit peer missing held size share) = omega arith
-releases_most at amount on (reply.WaitLent conit holder out total num) = omega arith
-releases_most at amount on (reply.WaitOrder conit replica tentative order) = omega arith
-releases_most at amount on (reply.WaitStale conit replica moment wanted) = omega arith
-releases_most at amount on (reply.NotHeld conit held wanted) = omega arith
-
-pub spends_most : (weight : Weight) (op : Op) (conit : ℕ) (given : Reply) → used_on conit (request.Held weight op) given ≤ amount_on weight.conit (unsigned_abs weight.nweight) conit
-spends_most weight op on (reply.Done index stamp) = omega arith
-spends_most weight op on reply.Granted = omega arith
-spends_most weight op on reply.Released = omega arith
-spends_most weight op on (reply.Value value sums) = omega arith
-spends_most weight op on (reply.TooHeavy conit peer size share) = omega arith
-spends_most weight op on (reply.WaitHeld conit peer held size share) = omega arith
-spends_most weight op on (reply.WaitShare conit peer missing held size share) = omega arith
-spends_most weight op on (reply.WaitLent conit holder out total num) = omega arith
-spends_most weight op on (reply.WaitOrder conit replica tentative order) = omega arith
-spends_most weight op on (reply.WaitStale conit replica moment wanted) = omega arith
-spends_most weight op on (reply.NotHeld conit held wanted) = omega arith
+pub moves_most : (conit : ℕ) (given : Reply) → MovesMost conit given
+moves_most conit (reply.Done index stamp) = record { grants = λ at amount. omega arith; releases = λ at amount. omega arith; spends = λ weight op. omega arith }
+moves_most conit reply.Granted = record { grants = λ at amount. omega arith; releases = λ at amount. omega arith; spends = λ weight op. omega arith }
+moves_most conit reply.Released = record { grants = λ at amount. omega arith; releases = λ at amount. omega arith; spends = λ weight op. omega arith }
+moves_most conit (reply.Value value sums) = record { grants = λ at amount. omega arith; releases = λ at amount. omega arith; spends = λ weight op. omega arith }
+moves_most conit (reply.TooHeavy at peer size share) = record { grants = λ at amount. omega arith; releases = λ at amount. omega arith; spends = λ weight op. omega arith }
+moves_most conit (reply.WaitHeld at peer held size share) = record { grants = λ at amount. omega arith; releases = λ at amount. omega arith; spends = λ weight op. omega arith }
+moves_most conit (reply.WaitShare at peer missing held size share) = record { grants = λ at amount. omega arith; releases = λ at amount. omega arith; spends = λ weight op. omega arith }
+moves_most conit (reply.WaitLent at holder out total num) = record { grants = λ at amount. omega arith; releases = λ at amount. omega arith; spends = λ weight op. omega arith }
+moves_most conit (reply.WaitOrder at replica tentative order) = record { grants = λ at amount. omega arith; releases = λ at amount. omega arith; spends = λ weight op. omega arith }
+moves_most conit (reply.WaitStale at replica moment wanted) = record { grants = λ at amount. omega arith; releases = λ at amount. omega arith; spends = λ weight op. omega arith }
+moves_most conit (reply.NotHeld at held wanted) = record { grants = λ at amount. omega arith; releases = λ at amount. omega arith; spends = λ weight op. omega arith }
 
 -- which is nothing on another conit, and never more than the amount
 amount_on-other : (at amount conit number : ℕ) → number ≤ amount_on at amount conit → conit ≢ at → number ≡ 0
@@ -152,17 +131,17 @@ call-on setup client number conit amount (request.Read key needs) given may = re
 call-on setup client number conit amount (request.Held weight op) given may = record {
   calls = λ one. refl;
   grants = λ other differ. refl;
-  uses = λ other differ. amount_on-other weight.conit (unsigned_abs weight.nweight) other _ (spends_most weight op other given) (λ same. differ (same ∙ may.2));
+  uses = λ other differ. amount_on-other weight.conit (unsigned_abs weight.nweight) other _ ((moves_most other given).spends weight op) (λ same. differ (same ∙ may.2));
 }
 call-on setup client number conit amount (request.Reserve at more) given may = record {
   calls = λ one. refl;
-  grants = λ other differ. amount_on-other at more other _ (grants_most at more other given) (λ same. differ (same ∙ may.0));
+  grants = λ other differ. amount_on-other at more other _ ((moves_most other given).grants at more) (λ same. differ (same ∙ may.0));
   uses = λ other differ. refl;
 }
 call-on setup client number conit amount (request.Release at back) given may = record {
   calls = λ one. refl;
   grants = λ other differ. refl;
-  uses = λ other differ. amount_on-other at back other _ (releases_most at back other given) (λ same. differ (same ∙ may.0));
+  uses = λ other differ. amount_on-other at back other _ ((moves_most other given).releases at back) (λ same. differ (same ∙ may.0));
 }
 
 -- a clerk's part with what it drew

@@ -10,4 +10,5 @@ mod Allowing
 mod Replying
 mod Told
 mod Calling
+mod Steps
 mod LoanActs

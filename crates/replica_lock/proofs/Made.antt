@@ -6,15 +6,12 @@ use Rattle.tact_base.specs.Setup.{Setup, IsSetup}
 use Rattle.run_model.specs.Histories.{part_of, calls_in, is_call_of, moment_at}
 use Rattle.run_model.specs.Runs.{IsRun, IsLawful}
 use Rattle.run_model.specs.declared.entry.Act.{Act}
-use Rattle.run_model.specs.declared.entry.Act.TheVariants as act
 use Rattle.run_model.specs.declared.entry.Entry.{Entry}
-use Rattle.run_model.specs.declared.entry.Message.{Message}
 use Rattle.run_model.proofs.PartLemmas.{part_of-push_same}
 use Rattle.run_model.proofs.PrefixLemmas.{EachAfter-last}
 use Rattle.run_promises.proofs.Kept.{IsKept-run}
 use Rattle.replica_lock.specs.Locks.{HasEntered, LockedView, entry_in, part_in}
-use Rattle.replica_lock.specs.Parcels.{message_to}
-use Rattle.replica_lock.specs.Sessions.{SessionView, HasMade, HasSent, calls_of, entry_after}
+use Rattle.replica_lock.specs.Sessions.{SessionView, HasMade, calls_of, entry_after}
 use Rattle.replica_lock.proofs.Seeing.{calls_of-same}
 
 -- with one more entry that is no call of the client
@@ -73,19 +70,3 @@ module _ (setup : Setup) (sound : IsSetup setup) (before after : LockedView) (ol
   pub HasMade-part : (made : HasMade setup old new moment done) → part_of made.front old.replica ≡ part_in before
   HasMade-part made =
       ap (λ h. part_of h old.replica) (same_from_push made.front entered.front (entry_after old made.front moment done) (entry_after old entered.front moment done) (sym made.seen ∙ seen_is)).0 ∙ part_is
-
--- after a sending
-pub HasSent-made : (setup : Setup) (before : LockedView) (old new : SessionView) (moment to : ℕ) (message : Message)
-    → setup ≡ before.core.setup
-    → old.replica ≡ before.core.replica
-    → (made : HasMade setup old new moment (act.Send message))
-    → part_of made.front old.replica ≡ part_in before
-    → message ≡ message_to before.core.setup before.core.replica (part_in before) moment to
-    → HasSent setup old new moment to message
-HasSent-made setup before old new moment to message of_setup replica made part is = record {
-  made = made;
-  message_is =
-      is ∙ sym (ap (λ s. message_to s old.replica (part_of made.front old.replica) moment to) of_setup
-      ∙ ap (λ r. message_to before.core.setup r (part_of made.front old.replica) moment to) replica
-      ∙ ap (λ p. message_to before.core.setup before.core.replica p moment to) part);
-}

@@ -1,42 +1,18 @@
 -- What a call on a turn has told its session.
 use Rattle.std.proofs.Common.{◌≡◌, ◌≢◌, ℕ, ◌+◌, Bool, cond, List, slice_index, refl, sym, ap, ◌∙◌, subst}
 use Rattle.std.proofs.lemmas.Bool.{eq-eqb}
-use Rattle.tact_base.specs.Setup.{Setup}
-use Rattle.run_model.specs.Histories.{part_of, calls_in, IsPrefix}
-use Rattle.run_model.specs.Runs.{IsRun}
+use Rattle.run_model.specs.Histories.{part_of, calls_in}
 use Rattle.run_model.specs.declared.call.Reply.{Reply}
 use Rattle.run_model.specs.declared.call.Request.{Request}
 use Rattle.run_model.specs.declared.entry.Act.TheVariants as act
 use Rattle.run_model.specs.declared.entry.Entry.{Entry}
 use Rattle.run_model.proofs.PartLemmas.{calls_in-push}
 use Rattle.atomic_table.specs.Seated.{TableId}
-use Rattle.run_history.specs.Seats.{NoteView}
-use Rattle.run_history.specs.Ticks.{entries_of}
-use Rattle.weight_ledger.specs.Seen.{HeldView, TallyView}
-use Rattle.replica_core.specs.States.{Core}
+use Rattle.weight_ledger.specs.Seen.{TallyView}
 use Rattle.replica_lock.specs.Allowances.{AllowanceView}
-use Rattle.replica_lock.specs.Faults.{IsNodeFaultOf}
-use Rattle.replica_lock.specs.Loans.{IsLoanFaultOf, IsLoanFaultSeen, PassesMost}
 use Rattle.replica_lock.specs.Locks.{HasEntered, IsLocked, LockedView, entry_in, made_place, part_in, turns_place}
-use Rattle.replica_lock.specs.Nodes.{KeepsTurn}
-use Rattle.replica_lock.specs.Sessions.{HasHeard, IsFaultSeen, IsSessionOf, KeepsSession, NodeView, SessionView, TurnView}
-use Rattle.replica_lock.specs.declared.fault.NodeFault.{NodeFault}
-use Rattle.replica_lock.specs.declared.fault.NodeLoanFault.{NodeLoanFault}
-use Rattle.replica_lock.specs.declared.fault.NodeLoanFault.TheVariants as loan_fault
-use Rattle.replica_lock.specs.declared.label.Label.{Label}
-use Rattle.replica_lock.specs.declared.loan.Loan.{Loan}
+use Rattle.replica_lock.specs.Sessions.{KeepsSession, SessionView}
 use Rattle.replica_lock.proofs.Allowing.{part-entered}
-use Rattle.replica_lock.proofs.Seeing.{HasHeard-learnt, IsFaultSeen-of}
-use Rattle.replica_lock.proofs.Turning.{Tells, tells}
-
--- a session of a node, by other names of both
-pub session_of : (turn turn_as : TurnView) (session session_as : SessionView)
-    → turn ≡ turn_as
-    → session ≡ session_as
-    → IsSessionOf turn_as.node session_as
-    → IsSessionOf turn.node session
-session_of turn turn_as session session_as same same_session of =
-    subst (λ (t : TurnView). IsSessionOf t.node session) (sym same) (subst (IsSessionOf turn_as.node) (sym same_session) of)
 
 -- an allowance's view, part by part
 pub allowance_as : (replica conit : ℕ) (cell cell_as : TableId) (amount amount_as : ℕ)
@@ -83,64 +59,3 @@ KeepsSession-counted session tally agreed counted cell desk seen keeps same id t
       made = made ∙ ap (λ (t : TallyView). slice_index t.amounts (made_place session.conits session.client) + 1) same ∙ ap (λ n. n + 1) keeps.made;
       calls = calls;
     }
-
--- What a session is after a call on a turn that stored nothing: its note has seen what the clerk has seen.
-abbrev pub with_note : SessionView → TableId → NoteView → SessionView
-with_note session cell note = record session { cell = cell; desk = note.table; seen = note.seen }
-
--- a call on a turn that stored nothing, by what the value behind the lock then is and what the session's note is
-pub record HasToldNothing (setup : Setup) (before after : LockedView) (session : SessionView) (cell : TableId) (note : NoteView) : Type 0 where
-  pub kept : IsLocked after
-  pub replica : after.core.replica ≡ before.core.replica
-  pub stored : after.stored ≡ before.stored
-  pub cell_is : cell ≡ session.cell
-  pub desk_is : note.table ≡ session.desk
-  pub seen : note.seen ≡ after.clerk.seen
-  pub told : IsPrefix session.seen note.seen
-  pub run : IsRun setup note.seen
-
-module _ (node : NodeView) (held : HeldView Label) (before : LockedView) (session : SessionView) (tally : TallyView)
-    (turn : KeepsTurn node held before) (kept : IsLocked before) (of : IsSessionOf node session) (keeps : KeepsSession session tally)
-    (agrees : (p : ℕ) → slice_index tally.owns p ≢ 0 → slice_index held.book p ≡ slice_index tally.amounts p)
-    (after : LockedView) (cell : TableId) (note : NoteView) (nothing : HasToldNothing node.desk.setup before after session cell note) where
-  knows : Tells node before session
-  knows = tells node held before session tally turn kept of keeps agrees
-
-  value : with_note session cell note ≡ record session { seen = after.clerk.seen }
-  value = let cells = nothing.cell_is in let desks = nothing.desk_is in let seens = nothing.seen in cc
-
-  -- it has heard what the clerk has seen
-  pub heard-nothing : HasHeard node.desk.setup session (with_note session cell note)
-  heard-nothing =
-      HasHeard-learnt node.desk.setup turn.keeps.sound after session (with_note session cell note) nothing.kept
-      (knows.replica ∙ sym nothing.replica)
-      (knows.calls ∙ sym (ap (λ stored. calls_in (entries_of stored) session.client) nothing.stored))
-      knows.known (subst (IsPrefix session.seen) nothing.seen nothing.told) (subst (IsRun node.desk.setup) nothing.seen nothing.run) value
-
-  -- and the fault says so of it
-  pub fault-nothing : (fault : NodeFault)
-      → after.core ≡ before.core
-      → IsNodeFaultOf before.core fault
-      → IsFaultSeen (with_note session cell note) fault
-  fault-nothing fault same told =
-      IsFaultSeen-of node.desk.setup turn.keeps.sound after (with_note session cell note) fault nothing.kept (knows.replica ∙ sym nothing.replica) nothing.seen
-      nothing.run (subst (λ (core : Core). IsNodeFaultOf core fault) (sym same) told)
-
-  -- so does the fault of a loan
-  passes : (asked : Loan) (told : NodeLoanFault)
-      → PassesMost before.core.setup before.core.replica (part_in before) asked told
-      → PassesMost node.desk.setup session.replica (part_of note.seen session.replica) asked told
-  passes asked told of_it =
-      let part : part_of note.seen session.replica ≡ part_in before =
-      ap (λ h. part_of h session.replica) nothing.seen ∙ ap (part_of after.clerk.seen) (knows.replica ∙ sym nothing.replica) ∙ nothing.kept.own ∙ ap entries_of nothing.stored in
-      subst (λ p. PassesMost node.desk.setup session.replica p asked told) (sym part)
-      (subst (λ r. PassesMost node.desk.setup r (part_in before) asked told) (sym knows.replica)
-      (subst (λ s. PassesMost s before.core.replica (part_in before) asked told) (sym knows.setup) of_it))
-
-  pub loan-fault-nothing : (asked : Loan) (told : NodeLoanFault)
-      → after.core ≡ before.core
-      → IsLoanFaultOf before.core (part_in before) asked told
-      → IsLoanFaultSeen node.desk.setup (with_note session cell note) asked told
-  loan-fault-nothing asked (loan_fault.Node told) same of_it = fault-nothing told same of_it.0
-  loan-fault-nothing asked (loan_fault.Home at most) same of_it = passes asked (loan_fault.Home at most) of_it.1
-  loan-fault-nothing asked (loan_fault.Free at most) same of_it = passes asked (loan_fault.Free at most) of_it.1

@@ -1,18 +1,25 @@
-use Rattle.std.proofs.Common.{◌≡◌, ◌+◌, ◌-◌, set, sym, ap, ◌∙◌, subst, arith}
+use Rattle.std.proofs.Common.{◌≡◌, ◌+◌, ◌-◌, set, refl, sym, ap, ◌∙◌, subst, arith}
 use Rattle.tact_base.specs.Setup.{Setup}
 use Rattle.run_model.specs.Missing.{granted_on, used_on, reserved}
-use Rattle.run_model.specs.Runs.{IsRun}
 use Rattle.weight_ledger.specs.Seen.{TallyView}
 use Rattle.replica_lock.specs.Allowances.{AllowanceView}
 use Rattle.replica_lock.specs.Answering.{MayAskWith}
 use Rattle.replica_lock.specs.Locks.{made_place, one_more_at, part_in, turns_place}
-use Rattle.replica_lock.specs.Sessions.{IsSessionOf, NodeView, SessionView}
+use Rattle.replica_lock.specs.Sessions.{SessionView}
 use Rattle.replica_lock.specs.contracts.session.Session.{the_view}
 use Rattle.replica_lock.proofs.Allowing.{used-most, reserved-entered, entered-due}
 use Rattle.replica_lock.proofs.Seeing.{HasCalled-entered}
-use Rattle.replica_lock.proofs.Told.{HasToldNothing, KeepsSession-counted, allowance_as, calls-entered, calls-seen, fault-nothing, heard-nothing, session_of}
-use Rattle.replica_lock.proofs.Turning.{tells, session_as}
+use Rattle.replica_lock.proofs.Told.{KeepsSession-counted, allowance_as, calls-entered, calls-seen}
+use Rattle.replica_lock.proofs.Steps.{HasLeft, left, noted}
+use Rattle.replica_lock.proofs.Turning.{agreed, tells, session_as}
 use Rattle.replica_lock.proofs.turn.Turn.ask.Goals as goal
+
+-- what a refusal leaves of the session
+leaves : (g : _) (c : goal.In-Err g) → HasLeft c.self.inside.node.now c.self.inside.locked (the_view c.session.inside) (noted (the_view c.session.inside) c.agree.new.tally c.call-answer.new.note)
+leaves g c =
+    let agrees = agreed _ _ (the_view c.session.inside) _ _ _ _ c.self.view_is c.session.view_is c.requires.session c.self.invariant c.stand.ensures c.session.invariant c.agree.ensures.owned c.agree.ensures.tally refl in
+    let told = c.in-Err.ensures in
+    left _ _ _ _ _ _ _ _ c.call-answer.new.note agrees told.kept told.err.0 told.err.1 told.note told.learnt.1 c.node.view_is told.run
 
 pub move_total-requires-clause-enough : goal.move_total-requires-clause-enough
 move_total-requires-clause-enough g c =
@@ -24,8 +31,7 @@ move_total-requires-clause-enough g c =
 pub invariant_of-session : goal.invariant_of-session
 invariant_of-session g c =
     let before : SessionView = the_view c.session.inside in
-    let of : IsSessionOf c.self.inside.node.now before = session_of _ _ before _ c.self.view_is c.session.view_is c.requires.session in
-    let knows = tells c.self.inside.node.now c.self.inside.held c.self.inside.locked before c.session.inside.tally c.self.invariant c.stand.ensures of c.session.invariant c.agree.ensures.owned in
+    let knows = tells _ _ _ before _ _ (agreed _ _ (the_view c.session.inside) _ _ _ _ c.self.view_is c.session.view_is c.requires.session c.self.invariant c.stand.ensures c.session.invariant c.agree.ensures.owned c.agree.ensures.tally refl) in
     let told = c.in-Ok.ensures in
     let pushed = calls-entered _ c.call-answer.new.self _ _ _ _ _ _ told.entered in
     KeepsSession-counted before c.session.inside.tally c.agree.new.tally c.count.new.tally _ _ _ c.session.invariant c.agree.ensures.tally c.count.ensures.id c.count.ensures.turns c.count.ensures.made
@@ -45,13 +51,12 @@ returns-in-Ok-clause-moved g c =
 
 pub returns-in-Ok-clause-answered : goal.returns-in-Ok-clause-answered
 returns-in-Ok-clause-answered g c =
-    let before : SessionView = the_view c.session.inside in
-    let of : IsSessionOf c.self.inside.node.now before = session_of _ _ before _ c.self.view_is c.session.view_is c.requires.session in
-    let knows = tells c.self.inside.node.now c.self.inside.held c.self.inside.locked before c.session.inside.tally c.self.invariant c.stand.ensures of c.session.invariant c.agree.ensures.owned in
+    let agrees = agreed _ _ (the_view c.session.inside) _ _ _ _ c.self.view_is c.session.view_is c.requires.session c.self.invariant c.stand.ensures c.session.invariant c.agree.ensures.owned c.agree.ensures.tally refl in
+    let knows = tells _ _ _ _ _ _ agrees in
     let told = c.in-Ok.ensures in
     let value = session_as c.session.inside.replica c.session.inside.conits c.session.inside.client (c.session.inside.calls + 1) (c.session.inside.made + 1) _ _ _ _ _ _
     (ap (λ (t : TallyView). t.id) (c.count.ensures.id ∙ ap (λ (t : TallyView). record t { amounts = c.count.new.tally.amounts }) c.agree.ensures.tally)) told.note.0 told.note.1 in
-    let width = of.conits ∙ ap (λ (s : Setup). s.conits) knows.setup in
+    let width = agrees.of.conits ∙ ap (λ (s : Setup). s.conits) knows.setup in
     let conit = c.allowance.inside.conit in
     let client = c.session.inside.client in
     rw (← c.self.view_is, ← c.session.view_is, ← c.allowance.view_is) (record {
@@ -63,24 +68,13 @@ returns-in-Ok-clause-answered g c =
 
 pub returns-in-Err-clause-refused : goal.returns-in-Err-clause-refused
 returns-in-Err-clause-refused g c =
-    let before : SessionView = the_view c.session.inside in
-    let of : IsSessionOf c.self.inside.node.now before = session_of _ _ before _ c.self.view_is c.session.view_is c.requires.session in
     let told = c.in-Err.ensures in
-    let nothing : HasToldNothing c.self.inside.node.now.desk.setup c.self.inside.locked c.call-answer.new.self before c.agree.new.tally.id c.call-answer.new.note = record {
-      kept = told.kept;
-      replica = told.label.1;
-      stored = told.err.1;
-      cell_is = ap (λ (t : TallyView). t.id) c.agree.ensures.tally;
-      desk_is = told.note.0;
-      seen = told.note.1;
-      told = told.learnt.1;
-      run = subst (λ (n : NodeView). IsRun n.desk.setup c.call-answer.new.note.seen) c.node.view_is told.run;
-    } in
+    let of = leaves g c in
     rw (← c.self.view_is, ← c.session.view_is) (record {
       core = told.err.0;
       stored = told.err.1;
       totals = told.err.2;
-      heard = heard-nothing _ _ _ before _ c.self.invariant c.stand.ensures of c.session.invariant c.agree.ensures.owned c.call-answer.new.self _ _ nothing;
+      heard = of.heard;
       fault = told.fault;
-      fault_seen = fault-nothing _ _ _ before _ c.self.invariant c.stand.ensures of c.session.invariant c.agree.ensures.owned c.call-answer.new.self _ _ nothing c.in-Err.fault told.err.0 told.fault;
+      fault_seen = of.fault c.in-Err.fault told.fault;
     })

@@ -1,0 +1,114 @@
+-- What a step on a turn leaves of its session: where it is refused, and where it made an entry that is no call.
+use Rattle.std.proofs.Common.{◌≡◌, ℕ, ◌+◌, false, sym, ap, ◌∙◌, subst}
+use Rattle.run_model.specs.Histories.{part_of, calls_in, is_call_of, IsPrefix}
+use Rattle.run_model.specs.Runs.{IsRun}
+use Rattle.run_model.specs.declared.entry.Act.{Act}
+use Rattle.run_model.specs.declared.entry.Message.{Message}
+use Rattle.run_history.specs.Seats.{NoteView}
+use Rattle.run_history.specs.Ticks.{entries_of}
+use Rattle.weight_ledger.specs.Seen.{HeldView, TallyView}
+use Rattle.replica_core.specs.States.{Core}
+use Rattle.replica_lock.specs.Faults.{IsNodeFaultOf}
+use Rattle.replica_lock.specs.Loans.{IsLoanFaultOf, IsLoanFaultSeen, PassesMost}
+use Rattle.replica_lock.specs.Locks.{HasEntered, IsLocked, LockedView, entry_in, part_in}
+use Rattle.replica_lock.specs.Parcels.{message_to}
+use Rattle.replica_lock.specs.Sessions.{HasHeard, HasMade, IsFaultSeen, NodeView, SessionView}
+use Rattle.replica_lock.specs.declared.fault.NodeFault.{NodeFault}
+use Rattle.replica_lock.specs.declared.fault.NodeLoanFault.{NodeLoanFault}
+use Rattle.replica_lock.specs.declared.fault.NodeLoanFault.TheVariants as loan_fault
+use Rattle.replica_lock.specs.declared.label.Label.{Label}
+use Rattle.replica_lock.specs.declared.loan.Loan.{Loan}
+use Rattle.replica_lock.proofs.Made.{HasMade-entered, HasMade-part}
+use Rattle.replica_lock.proofs.Seeing.{HasHeard-learnt, IsFaultSeen-of}
+use Rattle.replica_lock.proofs.Turning.{Agreed, Tells, tells}
+
+-- a session by what its tally and its note then are, where it is refused and where an entry was made for it
+abbrev pub noted : SessionView → TallyView → NoteView → SessionView
+noted session tally note = record session { cell = tally.id; desk = note.table; seen = note.seen }
+
+abbrev pub noted_made : SessionView → TallyView → NoteView → SessionView
+noted_made session tally note = record session { cell = tally.id; desk = note.table; made = session.made + 1; seen = note.seen }
+
+-- What a refusal leaves of a session: it has heard what the clerk has seen, and the fault says so of it.
+pub record HasLeft (node : NodeView) (before : LockedView) (old new : SessionView) : Type 0 where
+  pub heard : HasHeard node.desk.setup old new
+  pub fault : (told : NodeFault) → IsNodeFaultOf before.core told → IsFaultSeen new told
+  pub loan_fault : (asked : Loan) (told : NodeLoanFault)
+      → IsLoanFaultOf before.core (part_in before) asked told
+      → IsLoanFaultSeen node.desk.setup new asked told
+
+-- A refused step, which left the core and the stored entries as they were, and whose note has seen what the clerk then has.
+module _ (node node_as : NodeView) (held : HeldView Label) (before after : LockedView) (session : SessionView) (tally now : TallyView) (note : NoteView)
+    (agrees : Agreed node held before session tally now) (kept : IsLocked after) (core : after.core ≡ before.core) (stored : after.stored ≡ before.stored)
+    (seen : (note.table ≡ session.desk) × (note.seen ≡ after.clerk.seen)) (learnt : IsPrefix session.seen note.seen)
+    (same : node_as ≡ node) (runs : IsRun node_as.desk.setup note.seen) where
+  knows : Tells node before session
+  knows = tells node held before session tally now agrees
+
+  replica : session.replica ≡ after.core.replica
+  replica = knows.replica ∙ sym (ap (λ (c : Core). c.replica) core)
+
+  run : IsRun node.desk.setup note.seen
+  run = subst (λ (n : NodeView). IsRun n.desk.setup note.seen) same runs
+
+  value : noted session now note ≡ record session { seen = after.clerk.seen }
+  value = let cells = agrees.cell in let desks = seen.0 in let seens = seen.1 in cc
+
+  heard : HasHeard node.desk.setup session (noted session now note)
+  heard =
+      HasHeard-learnt node.desk.setup agrees.turn.keeps.sound after session (noted session now note) kept replica
+      (knows.calls ∙ sym (ap (λ pairs. calls_in (entries_of pairs) session.client) stored))
+      knows.known (subst (IsPrefix session.seen) seen.1 learnt) (subst (IsRun node.desk.setup) seen.1 run) value
+
+  fault_seen : (told : NodeFault) → IsNodeFaultOf before.core told → IsFaultSeen (noted session now note) told
+  fault_seen told of =
+      IsFaultSeen-of node.desk.setup agrees.turn.keeps.sound after (noted session now note) told kept replica seen.1 run
+      (subst (λ (c : Core). IsNodeFaultOf c told) (sym core) of)
+
+  passes : (asked : Loan) (told : NodeLoanFault)
+      → PassesMost before.core.setup before.core.replica (part_in before) asked told
+      → PassesMost node.desk.setup session.replica (part_of note.seen session.replica) asked told
+  passes asked told of =
+      let part : part_of note.seen session.replica ≡ part_in before =
+      ap (λ h. part_of h session.replica) seen.1 ∙ ap (part_of after.clerk.seen) replica ∙ kept.own ∙ ap entries_of stored in
+      subst (λ p. PassesMost node.desk.setup session.replica p asked told) (sym part)
+      (subst (λ r. PassesMost node.desk.setup r (part_in before) asked told) (sym knows.replica)
+      (subst (λ s. PassesMost s before.core.replica (part_in before) asked told) (sym knows.setup) of))
+
+  loan_fault_seen : (asked : Loan) (told : NodeLoanFault)
+      → IsLoanFaultOf before.core (part_in before) asked told
+      → IsLoanFaultSeen node.desk.setup (noted session now note) asked told
+  loan_fault_seen asked (loan_fault.Node told) of = fault_seen told of.0
+  loan_fault_seen asked (loan_fault.Home at most) of = passes asked (loan_fault.Home at most) of.1
+  loan_fault_seen asked (loan_fault.Free at most) of = passes asked (loan_fault.Free at most) of.1
+
+  pub left : HasLeft node before session (noted session now note)
+  left = record { heard = heard; fault = fault_seen; loan_fault = loan_fault_seen }
+
+-- A step that made an entry that is no call, and counted it.
+module _ (node : NodeView) (held : HeldView Label) (before after : LockedView) (session : SessionView) (tally now counted : TallyView) (note : NoteView)
+    (moment : ℕ) (done : Act) (agrees : Agreed node held before session tally now) (counts : counted ≡ record now { amounts = counted.amounts })
+    (seen : (note.table ≡ session.desk) × (note.seen ≡ after.clerk.seen)) (entered : HasEntered before after session.seen (entry_in before moment done))
+    (quiet : is_call_of session.client done ≡ false) where
+  tells_made : Tells node before session
+  tells_made = tells node held before session tally now agrees
+
+  value_made : noted_made session counted note ≡ record session { made = session.made + 1; seen = after.clerk.seen }
+  value_made = let cells = ap (λ (t : TallyView). t.id) counts ∙ agrees.cell in let desks = seen.0 in let seens = seen.1 in cc
+
+  pub made : HasMade node.desk.setup session (noted_made session counted note) moment done
+  made =
+      HasMade-entered node.desk.setup agrees.turn.keeps.sound before after session (noted_made session counted note) moment done
+      tells_made.setup tells_made.replica entered value_made tells_made.calls tells_made.known quiet
+
+  -- a message that was due behind the lock is due in what the session has seen
+  pub message_made : (to : ℕ) (message : Message)
+      → message ≡ message_to before.core.setup before.core.replica (part_in before) moment to
+      → message ≡ message_to node.desk.setup session.replica (part_of made.front session.replica) moment to
+  message_made to message is =
+      let part =
+      HasMade-part node.desk.setup agrees.turn.keeps.sound before after session (noted_made session counted note) moment done
+      tells_made.setup tells_made.replica entered value_made made in
+      is ∙ sym (ap (λ s. message_to s session.replica (part_of made.front session.replica) moment to) tells_made.setup
+      ∙ ap (λ r. message_to before.core.setup r (part_of made.front session.replica) moment to) tells_made.replica
+      ∙ ap (λ p. message_to before.core.setup before.core.replica p moment to) part)
