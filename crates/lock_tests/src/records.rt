@@ -10,9 +10,16 @@ use tact_base::Bytes;
 
 /// The line that the checker says of all that nodes stored.
 pub fn said_of(alloc: Global, config: &Config, stored: &[&Stored]) -> Result<Bytes, Fail> {
-    let verdict = judged(alloc, config, stored)?;
+    match judged(alloc, config, stored) {
+        Ok(verdict) => line_on(alloc, &verdict),
+        Err(fault) => Err(fault),
+    }
+}
+
+// The line on a verdict.
+fn line_on(alloc: Global, verdict: &Verdict) -> Result<Bytes, Fail> {
     let mut line = Bytes::new(alloc);
-    put_verdict(alloc, &verdict, &mut line)?;
+    put_verdict(alloc, verdict, &mut line)?;
     Ok(line)
 }
 
