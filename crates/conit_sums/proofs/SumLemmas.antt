@@ -1,5 +1,5 @@
 -- Sums by conit: over the first weights of a write, and over the weights of several writes.
-use Rattle.std.proofs.Common.{◌≡◌, ◌≢◌, ℕ, ◌+◌, ◌-◌, ◌*◌, ◌<◌, ◌≤◌, List, [], ◌∷◌, ◌++◌, zero, suc, All, length, get_or, set, take, drop, map, sum_by, true, nat_le, unsigned_abs, refl, sym, ap, ◌∙◌, arith, inl, inr}
+use Rattle.std.proofs.Common.{◌≡◌, ◌≢◌, ℕ, ◌+◌, ◌-◌, ◌*◌, ◌<◌, ◌≤◌, List, [], ◌∷◌, ◌++◌, zero, suc, pos, All, length, get_or, set, take, drop, map, sum_by, true, nat_le, unsigned_abs, refl, sym, ap, ◌∙◌, arith, inl, inr}
 use Rattle.std.proofs.lemmas.Bool.{cases_eq, and_parts, leb-true}
 use Rattle.std.proofs.lemmas.List.{length-append, take-append-drop, get_or-set_same, get_or-set_other}
 use Rattle.std.proofs.lemmas.List.Elements.{filter-append, All-append, All-cons, All-tail}
@@ -16,6 +16,10 @@ use Rattle.tact_base.specs.declared.limits.TheConstants.{WEIGHT_MAX}
 use Rattle.conit_sums.specs.declared.Summed.{Summed}
 use Rattle.conit_sums.specs.declared.Summed.TheVariants.{Plus, Minus, Order}
 use Rattle.conit_sums.specs.ConitSums.{SumsState, AreSumsOf, number_of, write_sum, sum_of}
+
+-- what a read past the end would give
+abbrev pub no_weight : Weight
+no_weight = record { conit = 0; nweight = pos 0; oweight = 0 }
 
 -- what was read of a place
 pub read_at : (sums : List ℕ) (at read : ℕ)
@@ -53,6 +57,11 @@ module _ (summed : Summed) (weights : List Weight) (i : ℕ) (d : Weight) (withi
   pub write_sum-more : write_sum summed (take (i + 1) weights) (get_or weights i d).conit
       ≡ write_sum summed (take i weights) (get_or weights i d).conit + number_of summed (get_or weights i d)
   write_sum-more = sum_on_conit-yes (number_of summed) (get_or weights i d).conit weights i d within refl
+
+  -- on its conit, those before it and it are no more than all
+  pub write_sum-next : write_sum summed (take i weights) (get_or weights i d).conit + number_of summed (get_or weights i d)
+      ≤ write_sum summed weights (get_or weights i d).conit
+  write_sum-next = omega (arith, write_sum-more, write_sum-take summed weights (i + 1) (get_or weights i d).conit)
 
   pub write_sum-other : (conit : ℕ)
       → (get_or weights i d).conit ≢ conit
