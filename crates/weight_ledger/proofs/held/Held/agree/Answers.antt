@@ -5,13 +5,8 @@ use Rattle.weight_ledger.proofs.held.Held.agree.Goals as goal
 
 pub join_seat-requires : goal.join_seat-requires
 join_seat-requires g c =
-    let key = c.cell.inside.table.shared.key in (
-      search rules,
-      search rules,
-      search rules,
-      search rules,
-      joins g.T.Counted.label g.T.Counted.totals (g.T.Counted.label key.first.value) key.shared key.owned _ _ _ _ (search rules),
-    )
+    let key = c.cell.inside.table.shared.key in
+    (search rules, search rules, search rules, search rules, joins g.T.Counted.label g.T.Counted.totals (g.T.Counted.label key.first.value) key.shared key.owned _ _ _ _ (search rules))
 
 pub load-requires : goal.load-requires
 load-requires g c =
