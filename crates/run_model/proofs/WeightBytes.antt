@@ -35,7 +35,7 @@ pub need_limits_of : (num order stale : ℕ)
     → (nat_le num AMOUNT_MAX && nat_le order AMOUNT_MAX && nat_le stale MOMENT_MAX) ≡ true
 need_limits_of num order stale n o s = grind (arith, nat_tests)
 
-need_limits_hold : (num order stale : ℕ)
+pub need_limits_hold : (num order stale : ℕ)
     → (nat_le num AMOUNT_MAX && nat_le order AMOUNT_MAX && nat_le stale MOMENT_MAX) ≡ true
     → (num ≤ AMOUNT_MAX) × (order ≤ AMOUNT_MAX) × (stale ≤ MOMENT_MAX)
 need_limits_hold num order stale e = (grind (arith, nat_tests), grind (arith, nat_tests), grind (arith, nat_tests))

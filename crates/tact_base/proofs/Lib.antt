@@ -6,6 +6,7 @@ pub mod CompareLemmas
 pub mod OrderLemmas
 pub mod CommitLemmas
 pub mod ConitListLemmas
+pub mod ConitListLimits
 pub mod SumsLemmas
 pub mod OrderSums
 pub mod CoversLemmas

@@ -1,28 +1,20 @@
 -- What a message and its parts, as they are read, say of each other.
-use Rattle.std.proofs.Common.{◌≡◌, ◌≢◌, ℕ, zero, suc, ◌+◌, ◌-◌, ◌<◌, ◌≤◌, inl, inr, pos, ◌==◌, Bool, true, false, cond, ◌&&◌, nat_le, not, ltb, List, [], ◌∷◌, ◌++◌, length, get_or, map, All, Option, Some, None, refl, sym, ap, ap₂, subst, ◌∙◌, arith}
-use Rattle.std.specs.Prelude.{min, unsigned_abs}
-use Rattle.std.specs.List.{flat_map, range_with_len, position_or_len}
-use Rattle.std.specs.Option.{option_map, option_or}
+use Rattle.std.proofs.Common.{◌≡◌, ◌≢◌, ℕ, zero, suc, ◌+◌, ◌-◌, ◌<◌, ◌≤◌, inl, inr, ◌==◌, List, [], ◌∷◌, ◌++◌, length, get_or, map, All, refl, sym, ap, ap₂, subst, ◌∙◌, arith}
+use Rattle.std.specs.Prelude.{min}
+use Rattle.std.specs.List.{flat_map, range_with_len}
 use Rattle.std.proofs.lemmas.Bool.{cases_eq, eq-eqb, ne_eqb}
-use Rattle.std.proofs.lemmas.Bool.Decides.{nat_tests}
 use Rattle.std.proofs.lemmas.List.{length-append, append-nil}
 use Rattle.std.proofs.lemmas.List.Concat.{flat_map-cons}
 use Rattle.std.proofs.lemmas.List.Elements.{All-append, All-cons, All-nil, All-weaker, filter-append}
-use Rattle.std.proofs.lemmas.List.Sums.{position_or_len_is}
 use Rattle.std.proofs.lemmas.Grind.{flat_map-append}
 use Rattle.tact_base.proofs.ListLemmas.{All-range, flat_map_agree}
-use Rattle.tact_base.specs.declared.limits.TheConstants.{WEIGHT_MAX}
 use Rattle.tact_base.specs.declared.write.Write.{Write}
 use Rattle.tact_base.specs.declared.conit_list.Weight.{Weight}
-use Rattle.tact_base.specs.declared.conit_list.ListFault.{ListFault}
-use Rattle.tact_base.specs.declared.conit_list.ListFault.TheVariants.{TooMany, Unordered, Range}
-use Rattle.tact_base.specs.ConitList.{first_unordered, first_out_of_limits}
 use Rattle.tact_base.specs.Setup.{Setup}
-use Rattle.tact_base.proofs.ConitListLemmas.{weight_in_limits}
 use Rattle.run_model.specs.Ranges.{AreWeightsInRange, IsWriteInRange}
 use Rattle.run_model.specs.Bytes.{AreWeightsOf}
 use Rattle.run_model.proofs.OriginWrites.{from_one, from_one-all, from_one-none}
-use Rattle.run_model.proofs.WeightsInRange.{AreWeightsInRange-kept}
+use Rattle.run_model.proofs.WeightsInRange.{AreWeightsInRange-kept, IsWeights-in_range}
 use Rattle.tact_msg.specs.declared.parts.Told.{Told}
 use Rattle.tact_msg.specs.MessageBytes.{told_bound, told_bytes, write_bytes}
 use Rattle.tact_msg.proofs.PartReaders.{IsTold, Tolds}
@@ -30,47 +22,11 @@ use Rattle.tact_msg.proofs.WriteReaders.{IsWriteOf, AllWrites}
 
 -- ---- weights, as their type has them and as ranges have them
 
-both_limits : (nweight oweight : ℕ)
-    → nweight ≤ WEIGHT_MAX
-    → oweight ≤ WEIGHT_MAX
-    → (nat_le nweight WEIGHT_MAX && nat_le oweight WEIGHT_MAX) ≡ true
-both_limits nweight oweight n o = grind (arith, nat_tests)
-
-abbrev nothing : Weight
-nothing = record { conit = 0; nweight = pos 0; oweight = 0 }
-
-none_out : (weights : List Weight)
-    → ((k : ℕ) (d : Weight) → k < length weights → weight_in_limits (get_or weights k d) ≡ true)
-    → first_out_of_limits (λ (weight : Weight). weight.conit) weight_in_limits weights ≡ None
-none_out weights each =
-    let past : position_or_len (λ (weight : Weight). not (weight_in_limits weight)) weights ≡ length weights =
-    position_or_len_is (λ (weight : Weight). not (weight_in_limits weight)) weights (length weights) nothing (omega arith) (λ k below. ap not (each k nothing below)) (λ below. absurd (omega arith)) in
-    grind (arith, nat_tests)
-
-with_limits : (many : Bool) (unordered out never : Option ListFault)
-    → out ≡ None
-    → cond many (Some TooMany) (option_or unordered never) ≡ None
-    → cond many (Some TooMany) (option_or unordered out) ≡ None
-with_limits true unordered out never is e = cc
-with_limits false (Some fault) out never is e = cc
-with_limits false None out never is e = is
-
-map_none : {A B : Type 0} (f : A → B) (o : Option A) → o ≡ None → option_map f o ≡ None
-map_none f None is = refl
-map_none f (Some x) is = cc
-
 -- weights in range of a setup are its weights as their type has them
 pub weights_of_setup : (setup : Setup) (weights : List Weight)
     → AreWeightsInRange setup weights
     → AreWeightsOf setup.conits weights
-weights_of_setup setup weights are =
-    let out = none_out weights (λ k d within. both_limits (unsigned_abs (get_or weights k d).nweight) (get_or weights k d).oweight (are.each k d within).nweight (are.each k d within).oweight) in (
-      with_limits (ltb 4 (length weights)) (option_map Unordered (first_unordered (λ (weight : Weight). weight.conit) (λ _. true) weights))
-          (option_map Range (first_out_of_limits (λ (weight : Weight). weight.conit) weight_in_limits weights))
-          (option_map Range (first_out_of_limits (λ (weight : Weight). weight.conit) (λ _. true) weights))
-          (map_none Range (first_out_of_limits (λ (weight : Weight). weight.conit) weight_in_limits weights) out) are.listed,
-      λ k d within. (are.each k d within).conit,
-    )
+weights_of_setup setup weights are = (IsWeights-in_range setup weights are, λ k d within. (are.each k d within).conit)
 
 -- and a write in range has its numbers within their limits, and the other way round
 pub write_of_setup : (setup : Setup) (write : Write) → IsWriteInRange setup write → IsWriteOf setup.conits write
