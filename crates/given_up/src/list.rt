@@ -30,14 +30,14 @@ impl<A> GivenUp<A> {
     pub fn new() -> GivenUp<A>
         ensures { result.items ≡ [] }
     {
-        GivenUp { of: PhantomData }
+        GivenUp::of_items(&(), &())
     }
 
     /// The list with one more item at its end.
     pub fn and(&self, item: &A) -> GivenUp<A>
         ensures { result.items ≡ self.now.items ++ item.now ∷ [] }
     {
-        GivenUp { of: PhantomData }
+        GivenUp::of_items(self, item)
     }
 
     /// Puts more items at its end.
@@ -47,5 +47,13 @@ impl<A> GivenUp<A> {
         for item in more {
             *self = self.and(item);
         }
+    }
+
+    // The list of the items that the caller's proof makes of what the two are.
+    fn of_items<S, T>(_front: &S, _last: &T) -> GivenUp<A>
+        ghost items: { List A }
+        ensures { result.items ≡ items }
+    {
+        GivenUp { of: PhantomData }
     }
 }

@@ -1,4 +1,4 @@
--- `and` makes the empty struct, with the items that its clause names (as the toolchain's own list of this kind does).
+-- `of_items` makes the empty struct, with the items that its clause names (as the toolchain's own list of this kind does).
 use Rattle.std.proofs.Common.{List, [], ◌∷◌, ◌++◌, refl}
 use seplogic.Ra.Ura.{Ura}
 use mir.Syntax.{Fn, Args, a_type}
@@ -32,14 +32,14 @@ use denote.Triple.Walked.{says, Stays, stay_dropped, walk_of, ends_at, walk_Meet
 use Rattle.std.specs.contracts.marker.PhantomData as Mark
 use Rattle.given_up.proofs.Walks.{none, one, one_made}
 use Rattle.given_up.specs.contracts.list.GivenUp as GivenUp
-use Rattle.given_up.specs.contracts.list.GivenUp.and as F
-use Rattle.given_up.specs.contracts.list.GivenUp.and.Key.{name as #self}
-use Rattle.given_up.proofs.list.GivenUp.and.Statement as stated
-use Rattle.given_up.proofs.list.GivenUp.and.Code as code
+use Rattle.given_up.specs.contracts.list.GivenUp.of_items as F
+use Rattle.given_up.specs.contracts.list.GivenUp.of_items.Key.{name as #self}
+use Rattle.given_up.proofs.list.GivenUp.of_items.Statement as stated
+use Rattle.given_up.proofs.list.GivenUp.of_items.Code as code
 
-module _ (A : RattleType) where
+module _ (A S T : RattleType) where
   abbrev args : Args
-  args = layouts (a_type ∷ []) (A, tt)
+  args = layouts (a_type ∷ a_type ∷ a_type ∷ []) (A, (S, (T, tt)))
 
   abbrev item : RattleType
   item = param 0 A
@@ -48,19 +48,19 @@ module _ (A : RattleType) where
   function = inst_fn args code.function
 
   abbrev ended : Ended
-  ended = F.ended A
+  ended = F.ended A S T
 
   abbrev stayed : Stays ended.signature.params ended.kept
   stayed = (
-    stay_dropped (RefOf (0 ∷ []) tt (plain (λ _. GivenUp.the_row (param 0 A))) (λ _. tt)) yes,
-    (stay_dropped (RefOf (1 ∷ []) tt (plain (λ _. param 0 A)) (λ _. tt)) yes, tt),
+    stay_dropped (RefOf (0 ∷ []) tt (plain (λ _. param 1 S)) (λ _. tt)) yes,
+    (stay_dropped (RefOf (1 ∷ []) tt (plain (λ _. param 2 T)) (λ _. tt)) yes, tt),
   )
 
   module _ {M : Type 1} {𝓤 : Ura M} (𝓛 : Logic 𝓤) (at_mem : Memory → SProp 𝓤) (run : Routine → Fun 𝓤) where
     open 𝓛 use {H}
 
     abbrev held : Clauses 𝓤 ended
-    held = F.clauses A 𝓛 at_mem run
+    held = F.clauses A S T 𝓛 at_mem run
 
     module _ (C : Calls 𝓤 H) (Λ : Loops 𝓤 H) (z : (walk_of 𝓛 ended stayed held).Ghost) where
       abbrev Post : Val → SProp 𝓤
@@ -74,7 +74,7 @@ module _ (A : RattleType) where
           let a = z.0.3 in
           let vss = z.0.4 in
           let made : (GivenUp.the_row (param 0 A)).Denot =
-          record { of = record {}; items = a.0.now.items ++ a.1.0.now ∷ [] } in
+          record { of = record {}; items = z.1 } in
           qed 𝓛 ((raw toks ⊛ ‵ (owns (types_at ended.signature.params z.0.0) a vss)) ∷ raw ((held z.0.0 a).requires z.1) ∷ []) ∵
           keep ! (0 ∷ []) $ split ! $ move ! (1 ∷ []) $
           fsplit ! $ fsplit ! $ feq_l ! (λ is₀. drop ! $ fsplit ! $ fsplit ! $ feq_l ! (λ is₁. drop ! $ drop ! $
@@ -94,14 +94,14 @@ module _ (A : RattleType) where
     meets : (𝓣 : Tables 𝓤 H) → Meets 𝓛 ended.signature (WpFn 𝓤 H 𝓣.C 𝓣.Λ function) (closing 𝓛 ended held)
     meets 𝓣 =
         walk_Meets 𝓛 ended stayed (
-          Goes-dropped 𝓛 3 (RefOf (0 ∷ []) tt (plain (λ _. GivenUp.the_row (param 0 A))) (λ _. tt)) yes (λ κs x f. refl),
-          (Goes-dropped 𝓛 3 (RefOf (1 ∷ []) tt (plain (λ _. param 0 A)) (λ _. tt)) yes (λ κs x f. refl), tt),
+          Goes-dropped 𝓛 5 (RefOf (0 ∷ []) tt (plain (λ _. param 1 S)) (λ _. tt)) yes (λ κs x f. refl),
+          (Goes-dropped 𝓛 5 (RefOf (1 ∷ []) tt (plain (λ _. param 2 T)) (λ _. tt)) yes (λ κs x f. refl), tt),
         ) held
         (WpFn 𝓤 H 𝓣.C 𝓣.Λ function) (WpFn-mono 𝓤 H 𝓛.laws 𝓣 function) (walks 𝓣.C 𝓣.Λ)
 
-pub and_spec : {M : Type 1} → stated.statement M
+pub of_items_spec : {M : Type 1} → stated.statement M
 unfolding tables_of
-and_spec 𝓤 𝓛 𝓜 𝓡 wired A LA =
+of_items_spec 𝓤 𝓛 𝓜 𝓡 wired A S T LA LS LT =
     let 𝓣 : Tables 𝓤 𝓛.H = tables_of 𝓤 𝓛.H 𝓜 (tables 𝓤 𝓛.H 𝓜 𝓡 𝓡.env) in
-    entered 𝓤 𝓛.H (triple_of 𝓛 (ended A).signature (closing 𝓛 (ended A) (held A 𝓛 𝓜.mem 𝓡.returns))) 𝓣.C 𝓣.Λ (#self (args A)) (function A)
-    (code.unfolded 𝓤 𝓛.H 𝓜 𝓡 wired (A, tt)) (meets A 𝓛 𝓜.mem 𝓡.returns 𝓣)
+    entered 𝓤 𝓛.H (triple_of 𝓛 (ended A S T).signature (closing 𝓛 (ended A S T) (held A S T 𝓛 𝓜.mem 𝓡.returns))) 𝓣.C 𝓣.Λ (#self (args A S T)) (function A S T)
+    (code.unfolded 𝓤 𝓛.H 𝓜 𝓡 wired (A, (S, (T, tt)))) (meets A S T 𝓛 𝓜.mem 𝓡.returns 𝓣)
