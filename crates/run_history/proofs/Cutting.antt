@@ -14,24 +14,16 @@ use Rattle.run_history.specs.declared.view.View.{View}
 use Rattle.run_history.specs.Rule.{FitsPart, FitsSeat, HasPart, IsOneHistory, KeepsHistory}
 use Rattle.run_history.specs.Steps.{noted, handing, handed, nothing_known}
 use Rattle.run_history.proofs.Enrolling.{none_apart}
-use Rattle.run_history.proofs.SeatLemmas.{each_set, each_push, moved, moved-there, moved-else, replicas_in, HasPart-set_other, HasPart-push}
+use Rattle.run_history.proofs.SeatLemmas.{each_set, each_push, moved, moved-there, moved-else, replicas_in, HasPart-set_other, HasPart-push, HasPart-moved, IsOneHistory-reseated}
 
 -- a seat that comes with no part
 pub rule_with : (setup : Setup) (words : List ℕ) (views : List View) (new : View) (kept : IsOneHistory setup words views)
     → FitsSeat words kept.seat_of kept.history (length views) new
     → IsOneHistory setup words (views ++ new ∷ [])
-rule_with setup words views new kept fits = record {
-  history = kept.history;
-  seat_of = kept.seat_of;
-  good = kept.good;
-  run = kept.run;
-  size = kept.size;
-  drawn = kept.drawn;
-  enrolled = kept.enrolled;
-  unborn = kept.unborn;
-  held = λ replica within. HasPart-push views new (kept.seat_of replica) replica (kept.held replica within);
-  seats = each_push views new (FitsSeat words kept.seat_of kept.history) fits kept.seats;
-}
+rule_with setup words views new kept fits =
+    IsOneHistory-reseated setup words views (views ++ new ∷ []) kept.seat_of kept
+    (λ replica within. HasPart-push views new (kept.seat_of replica) replica (kept.held replica within))
+    (each_push views new (FitsSeat words kept.seat_of kept.history) fits kept.seats)
 
 -- it fits where it has seen a front and doesn't open
 pub partless_fits : (words : List ℕ) (seat_of : ℕ → ℕ) (history : List Entry) (id : ℕ) (view : View)
@@ -135,36 +127,17 @@ module _ (setup : Setup) (words : List ℕ) (views : List View) (kept : IsOneHis
   held_after : (replica : ℕ) → replica < slice_index words 1
       → HasPart (left ++ handed view ∷ []) (seat_of' replica) replica
   held_after replica within =
-      let has = kept.held replica within in
-      ⊎_elim
-      (λ (same : kept.seat_of replica ≡ id).
-      let is : has.view ≡ view = some-injective has.view view (sym has.at ∙ ap (get_elem? views) same ∙ at) in
-      rw (moved-there kept.seat_of id to replica same) (record {
-        view = handed view;
-        at = at_last left (handed view) to refl;
-        part = subst (λ view. Contains (replicas_in view) replica) is has.part;
-      }))
-      (λ (other : kept.seat_of replica ≡ id → ⊥).
-      rw (moved-else kept.seat_of id to replica other)
-      (HasPart-push left (handed view) (kept.seat_of replica) replica
-      (HasPart-set_other views id (handing view) (kept.seat_of replica) replica other has)))
-      (cases_eq (kept.seat_of replica) id)
+      HasPart-moved views (left ++ handed view ∷ []) kept.seat_of id to view (handed view) replica at (at_last left (handed view) to refl) (λ has. has)
+      (λ other has.
+      HasPart-push left (handed view) (kept.seat_of replica) replica
+      (HasPart-set_other views id (handing view) (kept.seat_of replica) replica other has))
+      (kept.held replica within)
 
   pub rule_after_hand : IsOneHistory setup words (left ++ handed view ∷ [])
-  rule_after_hand = record {
-    history = kept.history;
-    seat_of = seat_of';
-    good = kept.good;
-    run = kept.run;
-    size = kept.size;
-    drawn = kept.drawn;
-    enrolled = kept.enrolled;
-    unborn = kept.unborn;
-    held = held_after;
-    seats = each_push left (handed view) (FitsSeat words seat_of' history) handed_fits
-        (each_set views id (handing view) (FitsSeat words seat_of' history) handing_fits
-        (λ seat other apart at_other. FitsSeat-stays words kept.seat_of history id to seat other apart (kept.seats seat other at_other)));
-  }
+  rule_after_hand = IsOneHistory-reseated setup words views (left ++ handed view ∷ []) seat_of' kept held_after
+      (each_push left (handed view) (FitsSeat words seat_of' history) handed_fits
+      (each_set views id (handing view) (FitsSeat words seat_of' history) handing_fits
+      (λ seat other apart at_other. FitsSeat-stays words kept.seat_of history id to seat other apart (kept.seats seat other at_other))))
 
 pub hands : (setup : Setup) (id : ℕ) (view : View)
     → Splits (KeepsHistory setup) id view (handing view) (handed view)

@@ -17,7 +17,7 @@ use Rattle.run_history.specs.declared.view.View.{View}
 use Rattle.run_history.specs.Rule.{FitsPart, FitsSeat, HasPart, IsOneHistory, KeepsHistory}
 use Rattle.run_history.specs.Steps.{longer, joined, nothing_known}
 use Rattle.run_history.proofs.Cutting.{partless_fits, FitsPart-stays, FitsPart-moves, FitsSeat-stays}
-use Rattle.run_history.proofs.SeatLemmas.{each_set, at_put, moved, moved-there, moved-else, replicas_in, HasPart-set, HasPart-set_other, IsLonger, longer_begins}
+use Rattle.run_history.proofs.SeatLemmas.{each_set, at_put, moved, moved-there, moved-else, replicas_in, HasPart-set, HasPart-set_other, IsLonger, longer_begins, HasPart-moved, IsOneHistory-reseated}
 
 -- a front as long as the whole is the whole
 whole_front : {A : Type 0} (front whole : List A) → IsPrefix front whole
@@ -124,41 +124,22 @@ module _ (setup : Setup) (words : List ℕ) (views : List View) (kept : IsOneHis
   held_after : (replica : ℕ) → replica < slice_index words 1
       → HasPart views' (seat_of' replica) replica
   held_after replica within =
-      let has = kept.held replica within in
-      ⊎_elim
-      (λ (same : kept.seat_of replica ≡ from).
-      let is : has.view ≡ other = some-injective has.view other (sym has.at ∙ ap (get_elem? views) same ∙ at_other) in
-      rw (moved-there kept.seat_of from id replica same) (record {
-        view = both;
-        at = at_both;
-        part = rw (replicas_both replica) (Contains-append_right (replicas_in view) (replicas_in other) replica
-            (subst (λ view. Contains (replicas_in view) replica) is has.part));
-      }))
-      (λ (else : kept.seat_of replica ≡ from → ⊥).
-      rw (moved-else kept.seat_of from id replica else)
-      (HasPart-set_other (slice_set views id both) from nothing_known (kept.seat_of replica) replica else
+      HasPart-moved views views' kept.seat_of from id other both replica at_other at_both
+      (λ theirs. rw (replicas_both replica) (Contains-append_right (replicas_in view) (replicas_in other) replica theirs))
+      (λ else has.
+      HasPart-set_other (slice_set views id both) from nothing_known (kept.seat_of replica) replica else
       (HasPart-set views id view both (kept.seat_of replica) replica at
-      (λ theirs. rw (replicas_both replica) (Contains-append_left (replicas_in view) (replicas_in other) replica theirs)) has)))
-      (cases_eq (kept.seat_of replica) from)
+      (λ mine. rw (replicas_both replica) (Contains-append_left (replicas_in view) (replicas_in other) replica mine)) has))
+      (kept.held replica within)
 
   pub rule_after_join : IsOneHistory setup words views'
-  rule_after_join = record {
-    history = kept.history;
-    seat_of = seat_of';
-    good = kept.good;
-    run = kept.run;
-    size = kept.size;
-    drawn = kept.drawn;
-    enrolled = kept.enrolled;
-    unborn = kept.unborn;
-    held = held_after;
-    seats = each_set (slice_set views id both) from nothing_known (FitsSeat words seat_of' history)
-        (partless_fits words seat_of' history from nothing_known (history, refl) (All-nil (λ old. IsPrefix old [])) refl refl)
-        (λ seat view not_from at_seat.
-        each_set views id both (λ seat view. seat ≢ from → FitsSeat words seat_of' history seat view) (λ not. both_fits)
-        (λ seat view not_id at_seat not_from. FitsSeat-stays words kept.seat_of history from id seat view not_from (kept.seats seat view at_seat))
-        seat view at_seat not_from);
-  }
+  rule_after_join = IsOneHistory-reseated setup words views views' seat_of' kept held_after
+      (each_set (slice_set views id both) from nothing_known (FitsSeat words seat_of' history)
+      (partless_fits words seat_of' history from nothing_known (history, refl) (All-nil (λ old. IsPrefix old [])) refl refl)
+      (λ seat view not_from at_seat.
+      each_set views id both (λ seat view. seat ≢ from → FitsSeat words seat_of' history seat view) (λ not. both_fits)
+      (λ seat view not_id at_seat not_from. FitsSeat-stays words kept.seat_of history from id seat view not_from (kept.seats seat view at_seat))
+      seat view at_seat not_from))
 
 pub joins : (setup : Setup) (id : ℕ) (view : View) (from : ℕ) (other : View)
     → Joins (KeepsHistory setup) id view from other (joined view other) nothing_known

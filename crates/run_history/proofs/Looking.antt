@@ -14,7 +14,7 @@ use Rattle.run_history.specs.declared.view.View.{View}
 use Rattle.run_history.specs.Rule.{FitsPart, FitsSeat, IsOneHistory, KeepsHistory}
 use Rattle.run_history.specs.Steps.{IsLooked}
 use Rattle.run_history.specs.Ticks.{drawn_by}
-use Rattle.run_history.proofs.SeatLemmas.{each_set, HasPart-set}
+use Rattle.run_history.proofs.SeatLemmas.{each_set, HasPart-set, IsOneHistory-reseated}
 
 -- Whatever the table is, a seat may look.
 module _ (setup : Setup) (words : List ℕ) (views : List View) (kept : IsOneHistory setup words views)
@@ -43,18 +43,9 @@ module _ (setup : Setup) (words : List ℕ) (views : List View) (kept : IsOneHis
   }
 
   rule_same_words : IsOneHistory setup words (slice_set views id new)
-  rule_same_words = record {
-    history = kept.history;
-    seat_of = kept.seat_of;
-    good = kept.good;
-    run = kept.run;
-    size = kept.size;
-    drawn = kept.drawn;
-    enrolled = kept.enrolled;
-    unborn = kept.unborn;
-    held = λ replica within. HasPart-set views id view new (kept.seat_of replica) replica at (λ has. has) (kept.held replica within);
-    seats = each_set views id new (FitsSeat words kept.seat_of history) here_fits (λ seat other apart at_other. kept.seats seat other at_other);
-  }
+  rule_same_words = IsOneHistory-reseated setup words views (slice_set views id new) kept.seat_of kept
+      (λ replica within. HasPart-set views id view new (kept.seat_of replica) replica at (λ has. has) (kept.held replica within))
+      (each_set views id new (FitsSeat words kept.seat_of history) here_fits (λ seat other apart at_other. kept.seats seat other at_other))
 
   pub rule_after_look : IsOneHistory setup (slice_set words 0 (slice_index words 0)) (slice_set views id new)
   rule_after_look = subst (λ list. IsOneHistory setup list (slice_set views id new)) (sym (set-get_or words 0 0)) rule_same_words

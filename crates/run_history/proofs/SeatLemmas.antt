@@ -1,16 +1,17 @@
 -- Seats and their views: facts on all seats where one view changes or one more comes, and who has a part.
-use Rattle.std.proofs.Common.{◌≡◌, ◌≢◌, ◌⊎◌, ℕ, zero, suc, ◌<◌, ◌≤◌, ◌==◌, nat_lt, cond, if◌then◌else◌, Bool, true, false, List, [], ◌∷◌, ◌++◌, Contains, map, length, set, refl, sym, ap, ◌∙◌, subst, inl, inr, ⊎_elim, arith, eq-eqb, ne_eqb}
+use Rattle.std.proofs.Common.{◌≡◌, ◌≢◌, ◌⊎◌, ℕ, zero, suc, ◌<◌, ◌≤◌, ◌==◌, nat_lt, cond, if◌then◌else◌, Bool, true, false, List, [], ◌∷◌, ◌++◌, Contains, map, length, set, slice_index, refl, sym, ap, ◌∙◌, subst, inl, inr, ⊎_elim, arith, eq-eqb, ne_eqb}
 use Rattle.std.proofs.lemmas.Bool.{cases_eq}
 use Rattle.std.proofs.lemmas.Bool.Decides.{nat_tests}
 use mathlib.Core.Option.{some, some-injective, some-ne-none}
 use lib.ListN.{get_elem?}
 use Rattle.atomic_table.proofs.Lists.{at_set, at_longer, set_else}
+use Rattle.tact_base.specs.Setup.{Setup}
 use Rattle.run_model.specs.Histories.{IsPrefix}
 use Rattle.run_model.specs.declared.entry.Entry.{Entry}
 use Rattle.run_model.proofs.PrefixLemmas.{IsPrefix-refl}
 use Rattle.run_history.specs.declared.view.Part.{Part}
 use Rattle.run_history.specs.declared.view.View.{View}
-use Rattle.run_history.specs.Rule.{HasPart}
+use Rattle.run_history.specs.Rule.{FitsSeat, HasPart, IsOneHistory}
 use Rattle.run_history.specs.Steps.{longer}
 
 module _ {A : Type 0} where
@@ -100,6 +101,43 @@ moved-there seat_of from to replica same = ap (λ yes. cond yes to (seat_of repl
 pub moved-else : (seat_of : ℕ → ℕ) (from to replica : ℕ) → seat_of replica ≢ from
     → moved seat_of from to replica ≡ seat_of replica
 moved-else seat_of from to replica other = ap (λ yes. cond yes to (seat_of replica)) (ne_eqb (seat_of replica) from other)
+
+-- who has a part of a replica where all that one seat has is another's then
+pub HasPart-moved : (views after : List View) (seat_of : ℕ → ℕ) (from to : ℕ) (old new : View) (replica : ℕ)
+    → get_elem? views from ≡ some old
+    → get_elem? after to ≡ some new
+    → (Contains (replicas_in old) replica → Contains (replicas_in new) replica)
+    → (seat_of replica ≢ from → HasPart views (seat_of replica) replica → HasPart after (seat_of replica) replica)
+    → HasPart views (seat_of replica) replica
+    → HasPart after (moved seat_of from to replica) replica
+HasPart-moved views after seat_of from to old new replica at at_new kept elsewhere has = ⊎_elim
+    (λ (same : seat_of replica ≡ from).
+    let is : has.view ≡ old = some-injective has.view old (sym has.at ∙ ap (get_elem? views) same ∙ at) in
+    rw (moved-there seat_of from to replica same) (record {
+      view = new;
+      at = at_new;
+      part = kept (subst (λ view. Contains (replicas_in view) replica) is has.part);
+    }))
+    (λ (other : seat_of replica ≡ from → ⊥). rw (moved-else seat_of from to replica other) (elsewhere other has))
+    (cases_eq (seat_of replica) from)
+
+-- the rule stays where the seats alone change, and each fits
+pub IsOneHistory-reseated : (setup : Setup) (words : List ℕ) (views after : List View) (seat_of : ℕ → ℕ) (kept : IsOneHistory setup words views)
+    → ((replica : ℕ) → replica < slice_index words 1 → HasPart after (seat_of replica) replica)
+    → ((id : ℕ) (view : View) → get_elem? after id ≡ some view → FitsSeat words seat_of kept.history id view)
+    → IsOneHistory setup words after
+IsOneHistory-reseated setup words views after seat_of kept held seats = record {
+  history = kept.history;
+  seat_of = seat_of;
+  good = kept.good;
+  run = kept.run;
+  size = kept.size;
+  drawn = kept.drawn;
+  enrolled = kept.enrolled;
+  unborn = kept.unborn;
+  held = held;
+  seats = seats;
+}
 
 -- Two fronts of one history.
 module _ {A : Type 0} where
