@@ -222,18 +222,22 @@ HasRow-from_IsSetup s h owner conit o c =
     let parts : row_of s (owner, conit) ≡ None = rw (div-mul-add owner s.conits conit c, mod-mul-add owner s.conits conit c) at at in
     HasRow-from_fault s owner conit parts
 
--- one owner and conit on, of a text that has a part for each
-pub flat_map_more_rows : (s : Setup) (f : ℕ × ℕ → List ℕ) (front text : List ℕ) (place : ℕ)
-    → place < s.replicas * s.conits
-    → text ≡ front ++ flat_map f (take place (owners_and_conits s))
-    → text ++ f (place / s.conits, place % s.conits) ≡ front ++ flat_map f (take (place + 1) (owners_and_conits s))
-flat_map_more_rows s f front text place p e =
-    let within : place < length (owners_and_conits s) = rw (length-owners_and_conits s) p in
-    let more = take_more (owners_and_conits s) place (0, 0) within in
-    let at = get_or-owners_and_conits s place p in
-    rw (more, at, e) (flat_map_more f front (take place (owners_and_conits s)) (place / s.conits, place % s.conits))
+-- Of a text that has a part for each owner and conit, by counts that were read: one of these on, and all.
+module _ (s : Setup) (f : ℕ × ℕ → List ℕ) (replicas conits : ℕ) (replicas_are : replicas ≡ s.replicas) (conits_are : conits ≡ s.conits)
+    (front text : List ℕ) (place : ℕ) (so_far : text ≡ front ++ flat_map f (take place (owners_and_conits s))) where
+  pub flat_map_next_row : (more : List ℕ)
+      → place < replicas * conits
+      → more ≡ text ++ f (place / conits, place % conits)
+      → more ≡ front ++ flat_map f (take (place + 1) (owners_and_conits s))
+  flat_map_next_row more below is =
+      let within : place < s.replicas * s.conits = rw (replicas_are, conits_are) at below in
+      let next = take_more (owners_and_conits s) place (0, 0) (rw (length-owners_and_conits s) within) in
+      let row = get_or-owners_and_conits s place within in
+      is
+      ∙ ap (λ m. text ++ f (place / m, place % m)) conits_are
+      ∙ rw (next, row, so_far) (flat_map_more f front (take place (owners_and_conits s)) (place / s.conits, place % s.conits))
 
-pub take_all_rows : (s : Setup) (place : ℕ)
-    → s.replicas * s.conits ≤ place
-    → take place (owners_and_conits s) ≡ owners_and_conits s
-take_all_rows s place p = take_all place (owners_and_conits s) (rw (length-owners_and_conits s) p)
+  pub flat_map_all_rows : replicas * conits ≤ place → text ≡ front ++ flat_map f (owners_and_conits s)
+  flat_map_all_rows above =
+      let past : s.replicas * s.conits ≤ place = rw (replicas_are, conits_are) at above in
+      so_far ∙ ap (λ rows. front ++ flat_map f rows) (take_all place (owners_and_conits s) (rw (length-owners_and_conits s) past))
