@@ -165,7 +165,7 @@ impl Layers {
         ensures spare { self.new.recent.spare ≡ self.old.recent.spare }
     {
         match self.undos.pop() {
-            Some(undo) => set_keys(&mut self.recent, undo, undo.held),
+            Some(undo) => set_places(&mut self.recent, undo, undo.held),
             None => unreachable!(),
         }
     }
@@ -200,7 +200,7 @@ impl Layers {
         if self.undos.push(undo).is_err() {
             unreachable!();
         }
-        set_keys(&mut self.recent, undo, values_after(op, undo.held));
+        set_places(&mut self.recent, undo, values_after(op, undo.held));
     }
 }
 
@@ -231,7 +231,7 @@ fn undo_of(recent: &mut Recent, base: &Values, op: Op) -> Undo
 }
 
 // Gives the keys at the places of an undo other values.
-fn set_keys(recent: &mut Recent, undo: Undo, values: KeyValues)
+fn set_places(recent: &mut Recent, undo: Undo, values: KeyValues)
     requires first { IsPlace recent.old undo.first }
     requires second { IsPlace recent.old undo.second }
     ensures places { recent.new.places ≡ recent.old.places }

@@ -12,6 +12,6 @@ returns-clause-applied c =
     let pushed : c.push.new.self.items ≡ old.undos.items ++ undo ∷ [] = grind (arith, common_steps) in
     let more : vec_len c.push.new.self ≡ c.len.result + 1 = grind (arith, common_steps) in
     rw (pushed, more)
-    (applied-next (value_at old.base) old.recent found.new.recent c.set_keys.new.recent old.undos.items c.args.ops.now c.len.result _ _ undo
+    (applied-next (value_at old.base) old.recent found.new.recent c.set_places.new.recent old.undos.items c.args.ops.now c.len.result _ _ undo
     c.values_after.result (omega arith) refl (rw c.len.ensures c.requires.applied) found.ensures.extends found.ensures.places
-    found.ensures.held c.values_after.ensures c.set_keys.ensures.places (c.set_keys.ensures.values _ found.ensures.places))
+    found.ensures.held c.values_after.ensures c.set_places.ensures.places (c.set_places.ensures.values _ found.ensures.places))

@@ -4,8 +4,8 @@ use Rattle.rollback_apply.specs.Values.{value_at}
 use Rattle.rollback_apply.proofs.ImageLemmas.{applied-last, last-applied}
 use Rattle.rollback_apply.proofs.layers.Layers.undo.Goals as goal
 
-pub set_keys-requires : goal.set_keys-requires
-set_keys-requires c =
+pub set_places-requires : goal.set_places-requires
+set_places-requires c =
     let old = c.args.self.now in
     let left : vec_len old.undos ≡ vec_len c.pop.new.self + 1 = omega (arith, c.in-Some.ensures.len) in
     let last =
@@ -20,5 +20,5 @@ pub returns-clause-applied : goal.returns-clause-applied
 returns-clause-applied c =
     let old = c.args.self.now in
     let left : vec_len old.undos ≡ vec_len c.pop.new.self + 1 = omega (arith, c.in-Some.ensures.len) in
-    applied-last (value_at old.base) old.recent c.set_keys.new.recent c.pop.new.self.items c.args.ops.now (vec_len c.pop.new.self)
-    c.in-Some.undo (omega arith) (rw (left, c.in-Some.ensures.items) at c.requires.applied) c.set_keys.ensures.places c.set_keys.ensures.values
+    applied-last (value_at old.base) old.recent c.set_places.new.recent c.pop.new.self.items c.args.ops.now (vec_len c.pop.new.self)
+    c.in-Some.undo (omega arith) (rw (left, c.in-Some.ensures.items) at c.requires.applied) c.set_places.ensures.places c.set_places.ensures.values
