@@ -1,11 +1,10 @@
 -- What a read waits for, and what it is told, is what the definitions say of each part that the replica stands for.
-use Rattle.std.proofs.Common.{◌≡◌, ℕ, zero, suc, ◌+◌, ◌<◌, ◌≤◌, ◌==◌, not, ◌&&◌, nat_lt, Bool, true, false, cond, List, [], ◌∷◌, map, filter, sum, sum_by, find, All, Option, None, Some, unwrap_or, refl, sym, ap, ap₂, ◌∙◌, ⊎_elim, inl, inr, ◌⊎◌, arith}
+use Rattle.std.proofs.Common.{◌≡◌, ℕ, zero, suc, ◌+◌, ◌<◌, ◌≤◌, ◌==◌, not, ◌&&◌, nat_lt, Bool, cond, List, [], ◌∷◌, map, sum, find, All, Option, None, Some, unwrap_or, refl, sym, ap, ap₂, ◌∙◌, ⊎_elim, inl, inr, ◌⊎◌, arith}
 use Rattle.std.specs.List.{range_with_len, enumerate_from, position_or_len}
 use Rattle.std.specs.Option.{option_map}
 use Rattle.std.proofs.lemmas.Bool.{cases_eq, eq-eqb, ne_eqb}
 use Rattle.std.proofs.lemmas.List.Elements.{All-weaker}
 use Rattle.std.proofs.lemmas.List.FromFn.{length-map-range_with_len}
-use Rattle.std.proofs.lemmas.List.Sums.{sum-map, sum_by-cons}
 use Rattle.tact_base.proofs.ListLemmas.{map_range_agree, get_or-map_range}
 use Rattle.tact_base.specs.Admission.{Hindrance, lent, unordered, stale, hindrance, wanted_moment}
 use Rattle.tact_base.specs.Covers.{least_of, least_stamp, slowest, first_late}
@@ -33,6 +32,7 @@ use Rattle.run_model.specs.declared.call.Request.TheVariants as request
 use Rattle.run_model.specs.declared.entry.Entry.{Entry}
 use Rattle.run_model.proofs.SoundViews.{cover_of-same, cover_of-other}
 use Rattle.run_promises.proofs.FirstReplies.{first_some-agree}
+use Rattle.run_promises.proofs.FreeCalls.{sum-outs}
 use Rattle.replica_core.specs.Reading.{out_at, need_refusal, read_reply, waiting_as}
 use Rattle.replica_core.specs.States.{Core, HasBudgets}
 use Rattle.replica_core.specs.Stands.{Stands}
@@ -72,26 +72,6 @@ module _ (f g : ℕ → Cover) (replica wanted : ℕ) (agree : (k : ℕ) → (k 
   first_late-agree : (len : ℕ) → first_late (map f (range_with_len 0 len)) replica wanted ≡ first_late (map g (range_with_len 0 len)) replica wanted
   first_late-agree len =
       ap (λ (found : Option (ℕ × Cover)). option_map {U = Late} (λ (late : ℕ × Cover). record { replica = late.0; moment = late.1.moment }) found) (found-agree 0 len)
-
--- what the replicas have out, 0 of the replica's own, is what the peers have
-pub sum-outs : (f : ℕ → ℕ) (replica : ℕ) (xs : List ℕ)
-    → sum (map (λ x. cond (x == replica) 0 (f x)) xs) ≡ sum (map f (filter (λ x. not (x == replica)) xs))
-sum-outs f replica xs = sum-map (λ x. cond (x == replica) 0 (f x)) xs ∙ by xs ∙ sym (sum-map f (filter (λ x. not (x == replica)) xs))
-  where
-    by : (xs : List ℕ) → sum_by (λ x. cond (x == replica) 0 (f x)) xs ≡ sum_by f (filter (λ x. not (x == replica)) xs)
-    by [] = refl
-    by (x ∷ xs) = go (x == replica) refl (by xs)
-      where
-        go : (own : Bool)
-            → (x == replica) ≡ own
-            → sum_by (λ x. cond (x == replica) 0 (f x)) xs ≡ sum_by f (filter (λ x. not (x == replica)) xs)
-            → sum_by (λ x. cond (x == replica) 0 (f x)) (x ∷ xs) ≡ sum_by f (cond (not own) (x ∷ filter (λ x. not (x == replica)) xs) (filter (λ x. not (x == replica)) xs))
-        go true is rest =
-            let here : cond (x == replica) 0 (f x) ≡ 0 = ap (λ (own : Bool). cond own 0 (f x)) is in
-            omega (arith, rest, here, sum_by-cons (λ x. cond (x == replica) 0 (f x)) x xs)
-        go false is rest =
-            let here : cond (x == replica) 0 (f x) ≡ f x = ap (λ (own : Bool). cond own 0 (f x)) is in
-            omega (arith, rest, here, sum_by-cons (λ x. cond (x == replica) 0 (f x)) x xs, sum_by-cons f x (filter (λ x. not (x == replica)) xs))
 
 -- the verdict on one need, as a reply
 pub waiting_as-one : (moment : ℕ) (need : Need) (facts : Facts)

@@ -42,29 +42,28 @@ first_some-all f (item ∷ items) all =
     ∙ first_some-all f items (All-tail (λ item. f item ≡ None) item items all)
 
 -- what the replicas have out, 0 of the replica's own, is what the peers have
-sum-outs : (f : ℕ → ℕ) (replica : ℕ) (xs : List ℕ)
-    → sum_by (λ x. cond (x == replica) 0 (f x)) xs ≡ sum_by f (filter (λ x. not (x == replica)) xs)
-sum-outs f replica [] = refl
-sum-outs f replica (x ∷ xs) = go (x == replica) refl (sum-outs f replica xs)
+pub sum-outs : (f : ℕ → ℕ) (replica : ℕ) (xs : List ℕ)
+    → sum (map (λ x. cond (x == replica) 0 (f x)) xs) ≡ sum (map f (filter (λ x. not (x == replica)) xs))
+sum-outs f replica xs = sum-map (λ x. cond (x == replica) 0 (f x)) xs ∙ by xs ∙ sym (sum-map f (filter (λ x. not (x == replica)) xs))
   where
-    go : (own : Bool)
-        → (x == replica) ≡ own
-        → sum_by (λ x. cond (x == replica) 0 (f x)) xs ≡ sum_by f (filter (λ x. not (x == replica)) xs)
-        → sum_by (λ x. cond (x == replica) 0 (f x)) (x ∷ xs) ≡ sum_by f (cond (not own) (x ∷ filter (λ x. not (x == replica)) xs) (filter (λ x. not (x == replica)) xs))
-    go true is rest =
-        let here : cond (x == replica) 0 (f x) ≡ 0 = ap (λ (own : Bool). cond own 0 (f x)) is in
-        omega (arith, rest, here, sum_by-cons (λ x. cond (x == replica) 0 (f x)) x xs)
-    go false is rest =
-        let here : cond (x == replica) 0 (f x) ≡ f x = ap (λ (own : Bool). cond own 0 (f x)) is in
-        omega (arith, rest, here, sum_by-cons (λ x. cond (x == replica) 0 (f x)) x xs, sum_by-cons f x (filter (λ x. not (x == replica)) xs))
+    by : (xs : List ℕ) → sum_by (λ x. cond (x == replica) 0 (f x)) xs ≡ sum_by f (filter (λ x. not (x == replica)) xs)
+    by [] = refl
+    by (x ∷ xs) = go (x == replica) refl (by xs)
+      where
+        go : (own : Bool)
+            → (x == replica) ≡ own
+            → sum_by (λ x. cond (x == replica) 0 (f x)) xs ≡ sum_by f (filter (λ x. not (x == replica)) xs)
+            → sum_by (λ x. cond (x == replica) 0 (f x)) (x ∷ xs) ≡ sum_by f (cond (not own) (x ∷ filter (λ x. not (x == replica)) xs) (filter (λ x. not (x == replica)) xs))
+        go true is rest =
+            let here : cond (x == replica) 0 (f x) ≡ 0 = ap (λ (own : Bool). cond own 0 (f x)) is in
+            omega (arith, rest, here, sum_by-cons (λ x. cond (x == replica) 0 (f x)) x xs)
+        go false is rest =
+            let here : cond (x == replica) 0 (f x) ≡ f x = ap (λ (own : Bool). cond own 0 (f x)) is in
+            omega (arith, rest, here, sum_by-cons (λ x. cond (x == replica) 0 (f x)) x xs, sum_by-cons f x (filter (λ x. not (x == replica)) xs))
 
 outs_of-all_out : (setup : Setup) (replica : ℕ) (part : List Entry) (conit : ℕ)
     → sum (outs_of setup replica part conit) ≡ all_out setup replica part conit
-outs_of-all_out setup replica part conit =
-    let f = λ (holder : ℕ). out setup replica part holder conit in
-    sum-map (λ (holder : ℕ). cond (holder == replica) 0 (f holder)) (replicas_of setup)
-    ∙ sum-outs f replica (replicas_of setup)
-    ∙ sym (sum-map f (peers_of setup replica))
+outs_of-all_out setup replica part conit = sum-outs (λ (holder : ℕ). out setup replica part holder conit) replica (replicas_of setup)
 
 -- no peer is late where nothing is wanted
 none-found : {X : Type 0} (p : X → Bool) (xs : List X)
