@@ -106,7 +106,7 @@ HoldsAll-moved state xs ys moved of = record {
 }
 
 -- with the weights of one more of some writes
-pub weights_of-more : (held : List (List Weight)) (writes : List Write) (k : ℕ) (write : Write)
+weights_of-more : (held : List (List Weight)) (writes : List Write) (k : ℕ) (write : Write)
     → k < length writes
     → write ≡ get_or writes k write
     → (held ++ weights_of (take k writes)) ++ write.weights ∷ [] ≡ held ++ weights_of (take (k + 1) writes)
@@ -115,6 +115,17 @@ weights_of-more held writes k write within is =
     ∙ ap (λ (more : List (List Weight)). held ++ more)
     (sym (map-append weights_in (take k writes) (write ∷ []))
     ∙ ap weights_of (ap (λ (w : Write). take k writes ++ w ∷ []) is ∙ sym (take_more writes k write within)))
+
+-- what passes on to the weights of one more write holds of those of the first ones with it, where it held of those
+pub with_one_more : (Before After : List (List Weight) → Type 0) (held : List (List Weight)) (writes : List Write) (k : ℕ) (write : Write)
+    → k < length writes
+    → write ≡ get_or writes k write
+    → ((front rest : List (List Weight)) → Before (front ++ rest) → After (front ++ write.weights ∷ rest))
+    → Before (held ++ weights_of (take k writes))
+    → After (held ++ weights_of (take (k + 1) writes))
+with_one_more Before After held writes k write within is step so_far =
+    subst After (weights_of-more held writes k write within is)
+    (step (held ++ weights_of (take k writes)) [] (subst Before (sym (append-nil (held ++ weights_of (take k writes)))) so_far))
 
 -- as writes past a point are put in
 pub HasSums-admitted : (seen writes more : List Write) (point : ℕ) (before after : RunningState) (settled : SumsState)
