@@ -12,7 +12,7 @@ use Rattle.conit_weights.specs.Running.{RunningState, HoldsAll}
 use Rattle.rollback_apply.specs.Image.{ImageState, base_of}
 use Rattle.replica_core.specs.declared.last_one.LastOne.{LastOne}
 
--- on how many conits its writes may weigh, all writes in order, how many of them aren't held any more, the last point, and how many more
+-- on how many conits its writes may weigh, all writes in order, how many of them were given up, the last point, and how many more
 -- writes can surely be put in without taking memory
 pub record SeenState : Type 0 where
   pub conits : ℕ

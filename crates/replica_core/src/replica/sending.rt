@@ -147,6 +147,7 @@ impl Replica {
     // How many writes there are from these firsts on, and at most as many as there is room for: how much memory they want.
     fn told_count(&self, firsts: &[u64]) -> usize
         requires { length firsts.now ≡ self.now.core.setup.replicas }
+        ensures { result ≡ length (writes_told self.now.core firsts.now) }
     {
         let mut room = MESSAGE_WRITES as u64;
         for origin in 0..self.config.replicas() {

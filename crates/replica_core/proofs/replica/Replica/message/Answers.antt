@@ -3,7 +3,6 @@ use Rattle.std.proofs.lemmas.Result.{IfOk-weaker}
 use Rattle.run_model.specs.Histories.{moment_at}
 use Rattle.run_model.specs.Messages.{message_of}
 use Rattle.run_model.specs.declared.entry.Entry.{Entry}
-use Rattle.run_model.specs.declared.entry.Message.{Message}
 use Rattle.replica_core.specs.Sending.{next_message}
 use Rattle.replica_core.specs.Stands.{Stands}
 use Rattle.replica_core.specs.States.{Core, ReplicaState}
