@@ -1,6 +1,9 @@
 -- An entry that passes is lawful, and the replicas follow the run with it.
-use Rattle.std.proofs.Common.{◌≡◌, ℕ, ◌<◌, List, [], ◌∷◌, ◌++◌, length, Some, refl, sym, ap, ap₂, ◌∙◌, subst, arith}
+use Rattle.std.proofs.Common.{◌≡◌, ℕ, ◌<◌, List, [], ◌∷◌, ◌++◌, length, get_or, Some, refl, sym, ap, ap₂, ◌∙◌, subst, ⊎_elim, arith}
+use Rattle.std.specs.Prelude.{slice_set}
 use Rattle.std.specs.Option.{option_map}
+use Rattle.std.proofs.lemmas.Bool.{cases_eq}
+use Rattle.std.proofs.lemmas.List.{length-set, get_or-set_same, get_or-set_other}
 use Rattle.tact_base.specs.Setup.{Setup, IsSetup}
 use Rattle.run_model.specs.Histories.{part_of, moment_at, sent_in, calls_in}
 use Rattle.run_model.specs.Messages.{message_of}
@@ -11,7 +14,7 @@ use Rattle.run_model.specs.declared.entry.Act.{Act}
 use Rattle.run_model.specs.declared.entry.Act.TheVariants as act
 use Rattle.run_model.specs.declared.entry.Entry.{Entry}
 use Rattle.run_model.specs.declared.entry.Message.{Message}
-use Rattle.run_model.proofs.PartLemmas.{part_of-push_same, sent_in-push_some}
+use Rattle.run_model.proofs.PartLemmas.{part_of-push_same, part_of-push_other, sent_in-push_some}
 use Rattle.run_model.proofs.PrefixLemmas.{EachAfter-last, EachAfter-push}
 use Rattle.run_record.specs.Records.{short_act_of}
 use Rattle.run_record.specs.declared.short.ShortAct.{ShortAct}
@@ -21,7 +24,7 @@ use Rattle.replica_core.specs.Stands.{Stands}
 use Rattle.replica_set.specs.Sets.{SetState, IsAt, StandsFor, with_act}
 use Rattle.run_check.specs.declared.refusal.At.{At}
 use Rattle.run_check.specs.Expanded.{message_sent, whole_act, entry_with, with_short}
-use Rattle.run_check.specs.Checking.{Follow, IsInTime, HasPassed, short_at}
+use Rattle.run_check.specs.Checking.{Follow, AreSent, IsInTime, HasPassed, short_at}
 use Rattle.run_check.proofs.AtReplica.{item_at, sender_is, number_is, message_was_sent}
 use Rattle.run_check.proofs.WholeEntries.{with_whole}
 
@@ -141,3 +144,28 @@ module _ (history : List Entry) (set : SetState) (follow : Follow history set) (
       ap₂ (λ (ms : List Message) (m : Message). ms ++ m ∷ []) kept message_is
       ∙ sym (sent_in-push_some part entry due refl)
       ∙ sym (ap sent_in (part_of-push_same history entry at.replica refl))
+
+  -- each replica then sent what it sent before, and this one the message too
+  pub sent_with : (to number : ℕ) (firsts : List ℕ) (message : Message) (sent : List (List Message))
+      → message ≡ message_of set.setup at.replica part (moment_at part at.moment) to firsts
+      → AreSent set.setup.replicas history sent
+      → AreSent set.setup.replicas (with_short set.setup history (short_at at (told.Send to number firsts))) (slice_set sent at.replica (get_or sent at.replica [] ++ message ∷ []))
+  sent_with to number firsts message sent is are =
+      let after = with_short set.setup history (short_at at (told.Send to number firsts)) in
+      let entry = entry_with at.replica at.moment (act.Send (message_of set.setup at.replica part at.moment to firsts)) in
+      let messages : List Message = get_or sent at.replica [] ++ message ∷ [] in
+      let inside : at.replica < length sent = omega (arith, within, are.sized) in
+      let here : messages ≡ sent_in (part_of after at.replica) =
+      send_is_kept to number firsts message (get_or sent at.replica []) is (are.each at.replica within) in
+      record {
+        sized = length-set sent at.replica messages ∙ are.sized;
+        each = λ replica below. ⊎_elim
+            (λ (same : at.replica ≡ replica).
+            subst (λ (r : ℕ). get_or (slice_set sent at.replica messages) r [] ≡ sent_in (part_of after r)) same
+            (get_or-set_same sent at.replica messages [] inside ∙ here))
+            (λ (other : at.replica ≡ replica → ⊥).
+            get_or-set_other sent at.replica replica messages [] (λ same. other (sym same))
+            ∙ are.each replica below
+            ∙ sym (ap sent_in (part_of-push_other history entry replica other)))
+            (cases_eq at.replica replica);
+      }

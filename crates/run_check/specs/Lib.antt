@@ -3,3 +3,4 @@ pub mod Causes
 pub mod Verdicts
 pub mod VerdictText
 pub mod Checking
+pub mod Keeping

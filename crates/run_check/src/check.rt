@@ -11,13 +11,14 @@ use crate::Verdict;
 use crate::judging::{
     judge_back, judge_call, judge_lend, judge_restart, judge_send, judge_take, test_time,
 };
+use crate::outboxes::Outboxes;
 use crate::refusal::{At, Refusal};
 use crate::summary::summary_of;
 use replica_set::ReplicaSet;
-use run_model::{Config, Message};
+use run_model::Config;
 use run_record::{Record, Short, ShortAct};
 use std::alloc::Global;
-use tact_base::{Items, NoMemory};
+use tact_base::NoMemory;
 
 /// Checks a record: whether it is that of a run, entry by entry. The answer is `Run`, with how many entries of each
 /// kind there are, exactly where each entry is lawful after those before it; else `Bad`, with the place of the first
@@ -49,7 +50,7 @@ pub fn check_record(alloc: Global, held: &Record) -> Result<Verdict, NoMemory>
 #[derive(Drop)]
 struct Checker {
     set: ReplicaSet,
-    sent: Vec<Items<Message>>,
+    sent: Outboxes,
 }
 
 impl Checker {
@@ -57,16 +58,11 @@ impl Checker {
     fn new(alloc: Global, config: &Config) -> Result<Checker, NoMemory>
         ensures setup { IfOk result (λ made. made.set.setup ≡ config.now) }
         ensures follow { IfOk result (λ made. Follow [] made.set) }
-        ensures sent { IfOk result (λ made. AreSent config.now.replicas [] made.sent.items) }
+        ensures sent { IfOk result (λ made. AreSent config.now.replicas [] made.sent) }
     {
-        let mut sent = Vec::new(alloc);
-        for _replica in 0..config.replicas() {
-            sent.push(Items::new(alloc))?;
-        }
-        Ok(Checker {
-            set: ReplicaSet::new(alloc, config)?,
-            sent,
-        })
+        let set = ReplicaSet::new(alloc, config)?;
+        let sent = Outboxes::new(alloc, config.replicas())?;
+        Ok(Checker { set, sent })
     }
 
     // The entry at a place, after those before it.
@@ -74,12 +70,12 @@ impl Checker {
         ghost history: { List Entry }
         requires within { place < length entries.now }
         requires follow { Follow history self.old.set }
-        requires sent { AreSent self.old.set.setup.replicas history self.old.sent.items }
+        requires sent { AreSent self.old.set.setup.replicas history self.old.sent }
         requires in_range { All (IsShortOf self.old.set.setup) entries.now }
         ensures ok { (short : Short) → slice_get entries.now place ≡ Some short
             → OnOk result (HasPassed self.old.set.setup history short self.new.set) }
         ensures sent { (short : Short) → slice_get entries.now place ≡ Some short
-            → OnOk result (AreSent self.old.set.setup.replicas (with_short self.old.set.setup history short) self.new.sent.items) }
+            → OnOk result (AreSent self.old.set.setup.replicas (with_short self.old.set.setup history short) self.new.sent) }
         ensures err { (short : Short) → slice_get entries.now place ≡ Some short
             → IfErr result (IsRefusalOf self.old.set.setup history short) }
     {
@@ -91,10 +87,10 @@ impl Checker {
     fn judge_one(&mut self, short: &Short) -> Result<(), Refusal>
         ghost history: { List Entry }
         requires follow { Follow history self.old.set }
-        requires sent { AreSent self.old.set.setup.replicas history self.old.sent.items }
+        requires sent { AreSent self.old.set.setup.replicas history self.old.sent }
         requires in_range { IsShortOf self.old.set.setup short.now }
         ensures ok { OnOk result (HasPassed self.old.set.setup history short.now self.new.set) }
-        ensures sent { OnOk result (AreSent self.old.set.setup.replicas (with_short self.old.set.setup history short.now) self.new.sent.items) }
+        ensures sent { OnOk result (AreSent self.old.set.setup.replicas (with_short self.old.set.setup history short.now) self.new.sent) }
         ensures err { IfErr result (IsRefusalOf self.old.set.setup history short.now) }
     {
         let at = At {
@@ -114,13 +110,9 @@ impl Checker {
                 reply,
             } => judge_call(set, at, *client, *number, request, reply),
             ShortAct::Send { to, number, firsts } => {
-                let messages = &mut self.sent[at.replica as usize];
-                judge_send(set, messages, at, *to, *number, firsts)
+                judge_send(set, &mut self.sent, at, *to, *number, firsts)
             }
-            ShortAct::Take { from, number } => {
-                let messages = self.sent[*from as usize].items();
-                judge_take(set, messages, at, *from, *number)
-            }
+            ShortAct::Take { from, number } => judge_take(set, &self.sent, at, *from, *number),
             ShortAct::Lend { to, conit, amount } => judge_lend(set, at, *to, *conit, *amount),
             ShortAct::Back {
                 owner,

@@ -1,20 +1,20 @@
 //! One entry of a record after those before it, by the kind of its act. Each function is called where the
 //! replica has room and the moment doesn't run back.
-ghost use Rattle.std.specs.Prelude.{◌≡◌, ◌↔◌, ◌<◌, ◌≤◌, ℕ, List, IsTrue, length, OnOk, IfErr, MatchOption, None, Some, slice_get};
+ghost use Rattle.std.specs.Prelude.{◌≡◌, ◌↔◌, ◌<◌, ◌≤◌, ℕ, List, IsTrue, length, OnOk, IfErr, MatchOption, Some};
 ghost use Rattle.tact_base.specs.declared.limits.TheConstants.{HISTORY_MAX, REPLICAS_MAX};
-ghost use Rattle.run_model.specs.Histories.{part_of, sent_in};
 ghost use Rattle.run_model.specs.declared.entry.Entry.{Entry};
 ghost use Rattle.run_record.specs.Records.{IsShortOf};
 ghost use Rattle.run_record.specs.declared.short.ShortAct.{ShortAct};
 ghost use Rattle.run_record.specs.declared.short.ShortAct.TheVariants as told;
-ghost use Rattle.run_check.specs.Expanded.{with_short};
-ghost use Rattle.run_check.specs.Checking.{Follow, IsInTime, HasPassed, IsRefusalOf, IsApart, short_at};
+ghost use Rattle.run_check.specs.Expanded.{message_sent, with_short};
+ghost use Rattle.run_check.specs.Checking.{Follow, AreSent, IsInTime, HasPassed, IsRefusalOf, IsApart, short_at};
 
+use crate::outboxes::Outboxes;
 use crate::refusal::{At, Refusal};
 use replica_core::{CoreFault, LoanFault};
 use replica_set::ReplicaSet;
 use run_model::{Cause, Message, Reply, Request};
-use tact_base::{HISTORY_MAX, Items, Numbers};
+use tact_base::{HISTORY_MAX, Numbers};
 
 // Whether a replica has room for an entry at a moment.
 pub(crate) fn test_time(set: &ReplicaSet, at: At) -> Result<(), Refusal>
@@ -79,7 +79,7 @@ pub(crate) fn judge_call(
 // A message sent, which is kept among those of its sender.
 pub(crate) fn judge_send(
     set: &mut ReplicaSet,
-    messages: &mut Items<Message>,
+    sent: &mut Outboxes,
     at: At,
     to: u32,
     number: u64,
@@ -89,12 +89,12 @@ pub(crate) fn judge_send(
     requires follow { Follow history set.old }
     requires in_time { IsInTime history at }
     requires in_range { IsShortOf set.old.setup (short_at at (told.Send to number firsts.now)) }
-    requires sent { messages.old ≡ sent_in (part_of history at.replica) }
+    requires sent { AreSent set.old.setup.replicas history sent.old }
     ensures ok { OnOk result (HasPassed set.old.setup history (short_at at (told.Send to number firsts.now)) set.new) }
-    ensures sent { OnOk result (messages.new ≡ sent_in (part_of (with_short set.old.setup history (short_at at (told.Send to number firsts.now))) at.replica)) }
+    ensures sent { OnOk result (AreSent set.old.setup.replicas (with_short set.old.setup history (short_at at (told.Send to number firsts.now))) sent.new) }
     ensures err { IfErr result (IsRefusalOf set.old.setup history (short_at at (told.Send to number firsts.now))) }
 {
-    let due = messages.len() as u64;
+    let due = sent.count(at.replica);
     if number != due {
         return Err(Refusal::Unlawful(Cause::Number { told: number, due }));
     }
@@ -109,7 +109,7 @@ pub(crate) fn judge_send(
             due: apart.due,
         }));
     }
-    messages.push(message)?;
+    sent.keep(at.replica, message)?;
     Ok(())
 }
 
@@ -142,7 +142,7 @@ fn first_apart(told: &[u64], due: &[u64]) -> Option<Apart>
 // A message taken, which is one of those that its sender sent.
 pub(crate) fn judge_take(
     set: &mut ReplicaSet,
-    messages: &[Message],
+    sent: &Outboxes,
     at: At,
     from: u32,
     number: u64,
@@ -151,13 +151,33 @@ pub(crate) fn judge_take(
     requires follow { Follow history set.old }
     requires in_time { IsInTime history at }
     requires in_range { IsShortOf set.old.setup (short_at at (told.Take from number)) }
-    requires sent { messages.now ≡ sent_in (part_of history from) }
+    requires sent { AreSent set.old.setup.replicas history sent.now }
     ensures ok { OnOk result (HasPassed set.old.setup history (short_at at (told.Take from number)) set.new) }
     ensures err { IfErr result (IsRefusalOf set.old.setup history (short_at at (told.Take from number))) }
 {
-    let Some(message) = message_at(messages, number) else {
-        return Err(Refusal::Unlawful(Cause::NoSend { from, number }));
-    };
+    match sent.message(from, number) {
+        Ok(Some(message)) => take_sent(set, &message, at, from, number),
+        Ok(None) => Err(Refusal::Unlawful(Cause::NoSend { from, number })),
+        Err(fault) => Err(fault.into()),
+    }
+}
+
+// A message taken that was sent under the number.
+fn take_sent(
+    set: &mut ReplicaSet,
+    message: &Message,
+    at: At,
+    from: u32,
+    number: u64,
+) -> Result<(), Refusal>
+    ghost history: { List Entry }
+    requires follow { Follow history set.old }
+    requires in_time { IsInTime history at }
+    requires in_range { IsShortOf set.old.setup (short_at at (told.Take from number)) }
+    requires sent { message_sent history from number ≡ Some message.now }
+    ensures ok { OnOk result (HasPassed set.old.setup history (short_at at (told.Take from number)) set.new) }
+    ensures err { IfErr result (IsRefusalOf set.old.setup history (short_at at (told.Take from number))) }
+{
     if message.to != at.replica {
         return Err(Refusal::Unlawful(Cause::NotAddressed { to: message.to }));
     }
@@ -165,13 +185,6 @@ pub(crate) fn judge_take(
         Ok(()) => Ok(()),
         Err(fault) => Err(want_of_memory(fault)),
     }
-}
-
-// The message of a number.
-fn message_at(messages: &[Message], number: u64) -> Option<&Message>
-    ensures { MatchOption result (slice_get messages.now number ≡ None) (λ message. slice_get messages.now number ≡ Some message.now) }
-{
-    messages.get(number as usize)
 }
 
 // A loan.

@@ -4,7 +4,9 @@
 
 mod check;
 mod judging;
+mod kept;
 mod laws;
+mod outboxes;
 mod printing;
 mod refusal;
 mod summary;

@@ -7,4 +7,4 @@ abbrev pub ghost-judge : goal.ghost-judge
 ghost-judge a = expanded a.self.now.set.setup (take a.place a.entries.now)
 
 abbrev pub invariant-loop-place : goal.invariant-loop-place
-invariant-loop-place l = GoesTo l.held l.place l.checker.set l.checker.sent.items
+invariant-loop-place l = GoesTo l.held l.place l.checker.set l.checker.sent

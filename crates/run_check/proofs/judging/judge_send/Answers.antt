@@ -1,11 +1,13 @@
-use Rattle.std.proofs.Common.{◌≡◌, ℕ, List, length, sym, ap, ◌∙◌, subst₂, arith}
+use Rattle.std.proofs.Common.{◌≡◌, ℕ, List, length, sym, ap, ◌∙◌, subst, subst₂, arith}
 use Rattle.tact_base.proofs.SetupLemmas.{HasCounts-from_IsSetup}
 use Rattle.run_model.specs.Histories.{part_of, sent_in}
-use Rattle.run_check.specs.Checking.{IsApart}
+use Rattle.run_record.specs.declared.short.ShortAct.TheVariants as told
+use Rattle.run_check.specs.Expanded.{with_short}
+use Rattle.run_check.specs.Checking.{AreSent, IsApart, short_at}
 use Rattle.run_check.proofs.AtReplica.{is_memory}
 use Rattle.run_check.proofs.FirstCauses.{first_is_first}
 use Rattle.run_check.proofs.FirstsApart.{firsts_sized, first_fails}
-use Rattle.run_check.proofs.Passing.{send_passes, send_is_kept}
+use Rattle.run_check.proofs.Passing.{send_passes, sent_with}
 use Rattle.run_check.proofs.judging.judge_send.Goals as goal
 
 pub want_of_memory-requires : goal.want_of_memory-requires
@@ -27,7 +29,7 @@ first_apart-requires-clause-few g c =
 pub returns-in-Some-clause-err : goal.returns-in-Some-clause-err
 returns-in-Some-clause-err g c =
     let next : c.args.number ≡ length (sent_in (part_of g.history c.args.at.replica)) =
-    c.if-number-due.false ∙ c.len-due.ensures ∙ ap length c.requires.1.1.1 in
+    c.if-number-due.false ∙ c.count-due.ensures ∙ ap length (c.requires.1.1.1.each c.args.at.replica c.requires.1.1.0.replica) in
     let apart = subst₂ (λ (a b : List ℕ). IsApart a b c.in-Some.apart.origin c.in-Some.apart.told c.in-Some.apart.due) c.items.ensures c.items-2.ensures c.in-Some.ensures in
     first_is_first c.args.set.now.setup g.history c.args.at c.requires.1.0 c.args.to c.args.number c.args.firsts.now next
     c.in-Some.apart.origin c.in-Some.apart.told c.in-Some.apart.due
@@ -37,7 +39,7 @@ returns-in-Some-clause-err g c =
 pub returns-clause-ok : goal.returns-clause-ok
 returns-clause-ok g c =
     let next : c.args.number ≡ length (sent_in (part_of g.history c.args.at.replica)) =
-    c.if-number-due.false ∙ c.len-due.ensures ∙ ap length c.requires.1.1.1 in
+    c.if-number-due.false ∙ c.count-due.ensures ∙ ap length (c.requires.1.1.1.each c.args.at.replica c.requires.1.1.0.replica) in
     let same : c.args.firsts.now ≡ c.in-Ok.message.firsts = sym c.items.ensures ∙ c.in_default.ensures ∙ c.items-2.ensures in
     send_passes g.history c.args.set.now c.requires.0 c.args.at c.requires.1.1.0.replica c.requires.1.0 c.send.new.self c.in-Ok.ensures.setup
     c.args.to c.args.number c.args.firsts.now c.in-Ok.message next same
@@ -45,6 +47,13 @@ returns-clause-ok g c =
 
 pub returns-clause-sent : goal.returns-clause-sent
 returns-clause-sent g c =
-    c.in_ok-push.ensures.ok
-    ∙ send_is_kept g.history c.args.set.now c.requires.0 c.args.at c.requires.1.1.0.replica c.requires.1.0 c.send.new.self c.in-Ok.ensures.setup
-    c.args.to c.args.number c.args.firsts.now c.in-Ok.message c.args.messages.now (c.in-Ok.ensures.due g.history c.requires.0.stands) c.requires.1.1.1
+    subst (AreSent c.args.set.now.setup.replicas (with_short c.args.set.now.setup g.history (short_at c.args.at (told.Send c.args.to c.args.number c.args.firsts.now))))
+    (sym c.in_ok-keep.ensures.ok)
+    (sent_with g.history c.args.set.now c.requires.0 c.args.at c.requires.1.1.0.replica c.requires.1.0 c.send.new.self c.in-Ok.ensures.setup
+    c.args.to c.args.number c.args.firsts.now c.in-Ok.message c.args.sent.now (c.in-Ok.ensures.due g.history c.requires.0.stands) c.requires.1.1.1)
+
+pub count-due-requires : goal.count-due-requires
+count-due-requires g c = omega (arith, c.requires.1.1.0.replica, c.requires.1.1.1.sized)
+
+pub keep-requires : goal.keep-requires
+keep-requires g c = omega (arith, c.requires.1.1.0.replica, c.requires.1.1.1.sized)
