@@ -1,7 +1,7 @@
 //! Messages that a replica can take, and each way in which it can't.
 
-use crate::replica::write;
-use replica_core::Replica;
+use crate::asking::{Ask, Deed};
+use crate::member::Member;
 use run_model::{Config, Message};
 use std::alloc::Global;
 use std::process::Abort;
@@ -78,23 +78,29 @@ fn message_of(alloc: Global, parts: &Parts) -> Result<Message, Fail> {
     })
 }
 
-// Replica 1 of three, which made two writes, and lends 2 on the second of two conits to replica 0.
-fn one_of_three(alloc: Global) -> Result<Replica, Fail> {
+// Replica 1 of three, which lends 2 on the second of two conits to replica 0.
+fn one_of_three(rt: &impl Abort, alloc: Global) -> Result<Box<Member>, Fail> {
     let loans = [0, 0, 0, 0, 0, 0, 0, 0, 0, 2, 0, 0, 0, 0, 0, 0, 0, 0];
     let config = Config::new(alloc, 3, 2, &[9; 6], &loans)?;
-    let mut replica = Replica::new(alloc, &config, 1)?;
-    write(&mut replica, 5)?;
-    write(&mut replica, 6)?;
-    Ok(replica)
+    Member::new(rt, alloc, &config, 1)
+}
+
+fn write_twice(rt: &impl Abort, member: &mut Member) -> Result<(), Fail> {
+    for moment in 5..7 {
+        member.ask(rt, moment, 3, Ask::Plain(Deed::Shift(7, 8, 1)))??;
+    }
+    Ok(())
 }
 
 // Whether the replica can take the message.
-fn is_fit(alloc: Global, replica: &Replica, parts: &Parts) -> Result<bool, Fail> {
+fn is_fit(alloc: Global, member: &Member, parts: &Parts) -> Result<bool, Fail> {
     let message = message_of(alloc, parts)?;
-    Ok(replica.fits(&message))
+    Ok(member.replica.fits(&message))
 }
 
-fn assert_fits(rt: &impl Abort, alloc: Global, replica: &Replica) -> Result<(), Fail> {
+// Of a replica that made two writes.
+fn assert_fits(rt: &impl Abort, alloc: Global, member: &mut Member) -> Result<(), Fail> {
+    write_twice(rt, member)?;
     let cases = [
         (GOOD, true, "a message that fits"),
         (Parts { from: 3, ..GOOD }, false, "a sender past the count"),
@@ -108,14 +114,14 @@ fn assert_fits(rt: &impl Abort, alloc: Global, replica: &Replica) -> Result<(), 
         (of_write(0, 13), false, "a stamp past the sender's"),
         (of_write(1, 13), true, "a write that isn't next"),
     ];
-    for (parts, due, text) in cases {
-        assert_eq!(rt; is_fit(alloc, replica, &parts)?, due, "{text}");
+    for (parts, due, text) in &cases {
+        assert!(rt; is_fit(alloc, member, parts)? == *due, "{text}");
     }
     Ok(())
 }
 
 #[test]
 fn knows_the_messages_that_fit(rt: HostRuntime) -> Result<(), Fail> {
-    let replica = one_of_three(rt.alloc())?;
-    assert_fits(&rt, rt.alloc(), &replica)
+    let mut member = one_of_three(&rt, rt.alloc())?;
+    assert_fits(&rt, rt.alloc(), &mut member)
 }

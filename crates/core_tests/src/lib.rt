@@ -2,13 +2,15 @@
 #![tactic(auto)]
 
 #[cfg(test)]
+mod asking;
+#[cfg(test)]
 mod calling;
 #[cfg(test)]
 mod fitting;
 #[cfg(test)]
 mod lending;
 #[cfg(test)]
-mod pairs;
+mod member;
 #[cfg(test)]
 mod reading;
 #[cfg(test)]

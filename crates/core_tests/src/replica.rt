@@ -1,65 +1,44 @@
 //! A replica: what it accepts, what it sends, and when it is full.
 
-ghost use Rattle.std.specs.Prelude.{◌≡◌, ◌≤◌, []};
-ghost use Rattle.tact_base.specs.declared.limits.TheConstants.{MOMENT_MAX};
-ghost use Rattle.replica_core.specs.Stands.{IsSameReplica};
-ghost use Rattle.core_tests.specs.Groups.{IsOfTwo};
-
-use crate::pairs::one_of_two;
-use replica_core::{CoreFault, LoanFault, Replica};
-use run_model::{Config, Message, Reply, Request};
+use crate::asking::{Ask, Deed};
+use crate::member::Member;
+use replica_core::{CoreFault, LoanFault};
+use run_model::{Config, Message, Reply};
 use std::alloc::Global;
 use std::process::Abort;
 use std::test::Fail;
-use tact_base::{Cover, Numbers, Op, Weights};
-
-// The weights of a write that has none.
-fn no_weights() -> Weights
-    ensures { result ≡ [] }
-{
-    match Weights::new(&[]) {
-        Ok(weights) => weights,
-        Err(_) => unreachable!(),
-    }
-}
+use tact_base::Cover;
 
 // Has client 3 write without weights.
-pub(crate) fn write(replica: &mut Replica, moment: u64) -> Result<Reply, CoreFault>
-    requires { moment ≤ MOMENT_MAX }
-    ensures same { IsSameReplica replica.old.core replica.new.core }
-{
-    let request = Request::Write {
-        weights: no_weights(),
-        op: Op::Shift {
-            from: 7,
-            to: 8,
-            amount: 1,
-        },
-    };
-    replica.call(moment, 3, &request)
+fn write(
+    rt: &impl Abort,
+    member: &mut Member,
+    moment: u8,
+) -> Result<Result<Reply, CoreFault>, Fail> {
+    member.ask(rt, moment, 3, Ask::Plain(Deed::Shift(7, 8, 1)))
 }
 
 // Makes room for two writes, which it then accepts.
-fn accept_two(rt: &impl Abort, replica: &mut Replica)
-    ensures same { IsSameReplica replica.old.core replica.new.core }
-{
-    assert_eq!(rt; replica.reserve(2), Ok(()));
-    assert_eq!(rt; replica.spare(), 2);
+fn accept_two(rt: &impl Abort, member: &mut Member) -> Result<(), Fail> {
+    assert_eq!(rt; member.reserve(2), Ok(()));
+    assert_eq!(rt; member.replica.spare(), 2);
     for (moment, reply) in [
         (5, Reply::Done { index: 0, stamp: 1 }),
         (4, Reply::Done { index: 1, stamp: 2 }),
     ] {
-        assert_eq!(rt; write(replica, moment), Ok(reply));
+        assert_eq!(rt; write(rt, member, moment)?, Ok(reply));
     }
+    Ok(())
 }
 
 // What it counts, and has room for, after these.
-fn assert_accepted(rt: &impl Abort, replica: &Replica) {
+fn assert_accepted(rt: &impl Abort, member: &Member) {
+    let replica = &member.replica;
     assert_eq!(rt;
         (replica.count(), replica.clock(), replica.last()),
         (2, 2, 5)
     );
-    assert_eq!(rt; (replica.calls(3), replica.calls(2)), (2, 0));
+    assert_eq!(rt; (member.calls(rt, 3), member.calls(rt, 2)), (2, 0));
     assert_eq!(rt; (replica.spare(), replica.point()), (0, 0));
     assert_eq!(rt;
         (replica.committed().len(), replica.tentative().len()),
@@ -69,9 +48,9 @@ fn assert_accepted(rt: &impl Abort, replica: &Replica) {
 
 #[test]
 fn accepts_writes(rt: HostRuntime) -> Result<(), Fail> {
-    let mut replica = one_of_two(rt.alloc(), 1, [5, 6])?;
-    accept_two(&rt, &mut replica);
-    assert_accepted(&rt, &replica);
+    let mut member = Member::of_two(&rt, rt.alloc(), 1, [5, 6])?;
+    accept_two(&rt, &mut member)?;
+    assert_accepted(&rt, &member);
     Ok(())
 }
 
@@ -83,32 +62,32 @@ fn assert_message(rt: &impl Abort, message: &Message, first: u64, count: usize, 
         moment,
     };
     assert_eq!(rt; (message.from, message.to, message.number), (1, 0, 0));
-    assert_eq!(rt; message.haves.items(), [0, 2].as_slice());
-    assert_eq!(rt; message.firsts.items(), [0, first].as_slice());
+    assert!(rt; message.haves.items() == [0, 2].as_slice());
+    assert!(rt; message.firsts.items() == [0, first].as_slice());
     assert_eq!(rt; message.writes.len(), count);
-    assert_eq!(rt; message.lent.items(), [6].as_slice());
-    assert_eq!(rt; message.returned.items(), [0].as_slice());
-    assert_eq!(rt; message.covers.items(), [Cover::default(), told].as_slice());
+    assert!(rt; message.lent.items() == [6].as_slice());
+    assert!(rt; message.returned.items() == [0].as_slice());
+    assert!(rt; message.covers.items() == [Cover::default(), told].as_slice());
 }
 
 // Writes twice, and sends where the first of its own writes is given.
-fn send_two(alloc: Global, replica: &mut Replica, moment: u64, given: u64) -> Result<Message, Fail>
-    requires moment { moment ≤ MOMENT_MAX }
-    requires replica { IsOfTwo replica.old.core 1 }
-{
-    write(replica, 5)?;
-    write(replica, 6)?;
-    let given = Numbers::from_slice(alloc, &[0, given])?;
-    Ok(replica.send(moment, 0, &given)?)
+fn send_two(
+    rt: &impl Abort,
+    member: &mut Member,
+    moment: u8,
+    given: u64,
+) -> Result<Box<Message>, Fail> {
+    write(rt, member, 5)??;
+    write(rt, member, 6)??;
+    member.send(rt, moment, 0, &[0, given])
 }
 
 // The same by a new replica, whose counts are right then.
-fn sent(rt: &impl Abort, alloc: Global, moment: u64, given: u64) -> Result<Message, Fail>
-    requires { moment ≤ MOMENT_MAX }
-{
-    let mut replica = one_of_two(alloc, 1, [5, 6])?;
-    let message = send_two(alloc, &mut replica, moment, given)?;
-    assert_eq!(rt; (replica.count(), replica.last()), (3, moment.max(6)));
+fn sent(rt: &impl Abort, alloc: Global, moment: u8, given: u64) -> Result<Box<Message>, Fail> {
+    let mut member = Member::of_two(rt, alloc, 1, [5, 6])?;
+    let message = send_two(rt, &mut member, moment, given)?;
+    let last = u64::from(moment).max(6);
+    assert_eq!(rt; (member.replica.count(), member.replica.last()), (3, last));
     Ok(message)
 }
 
@@ -142,12 +121,11 @@ struct Readings {
     spare: u64,
 }
 
-fn read_all(replica: &Replica) -> Readings
-    requires { replica.now.core.setup.replicas ≡ 2 }
-{
+fn read_all(rt: &impl Abort, member: &Member) -> Readings {
+    let replica = &member.replica;
     let mut calls = [0; 8];
     for client in 0..8 {
-        calls[client as usize] = replica.calls(client);
+        calls[client as usize] = member.calls(rt, client);
     }
     Readings {
         haves: [replica.have(0), replica.have(1)],
@@ -170,11 +148,9 @@ fn read_all(replica: &Replica) -> Readings
 }
 
 // As many entries as there can be.
-fn fill(rt: &impl Abort, replica: &mut Replica)
-    ensures same { IsSameReplica replica.old.core replica.new.core }
-{
+fn fill(rt: &impl Abort, member: &mut Member) {
     for _ in 0..20_000 {
-        assert_eq!(rt; replica.restart(3), Ok(()));
+        assert_eq!(rt; member.restart(3), Ok(()));
     }
 }
 
@@ -201,36 +177,34 @@ fn full_readings() -> Readings {
 }
 
 // Each entry is refused, and nothing changes.
-fn assert_full(rt: &impl Abort, replica: &mut Replica)
-    requires replica { IsOfTwo replica.old.core 0 }
-    ensures same { IsSameReplica replica.old.core replica.new.core }
-{
+fn assert_full(rt: &impl Abort, member: &mut Member) -> Result<(), Fail> {
     let (count, clock) = (20_000, 0);
-    assert_eq!(rt; replica.restart(4), Err(CoreFault::Full { count, clock }));
-    assert_eq!(rt; write(replica, 4), Err(CoreFault::Full { count, clock }));
+    assert_eq!(rt; member.restart(4), Err(CoreFault::Full { count, clock }));
     assert_eq!(rt;
-        replica.lend(4, 1, 0, 1),
-        Err(LoanFault::Full { count, clock })
+        write(rt, member, 4)?,
+        Err(CoreFault::Full { count, clock })
     );
-    assert_eq!(rt;
-        replica.give_back(4, 1, 0, 1),
-        Err(LoanFault::Full { count, clock })
-    );
+    let full = Err(LoanFault::Full { count, clock });
+    assert_eq!(rt; member.lend(rt, 4, 1, 0, 1), full);
+    assert_eq!(rt; member.give_back(rt, 4, 1, 0, 1), full);
+    assert_full_readings(rt, member);
+    Ok(())
 }
 
-fn assert_full_readings(rt: &impl Abort, replica: &Replica)
-    requires { replica.now.core.setup.replicas ≡ 2 }
-{
-    assert_eq!(rt; read_all(replica), full_readings());
+fn assert_full_readings(rt: &impl Abort, member: &Member) {
+    assert_eq!(rt; read_all(rt, member), full_readings());
+}
+
+// Replica 0 of two that allow nothing.
+fn of_nothing(rt: &impl Abort, alloc: Global) -> Result<Box<Member>, Fail> {
+    let config = Config::new(alloc, 2, 1, &[0; 2], &[0; 4])?;
+    Member::new(rt, alloc, &config, 0)
 }
 
 #[test]
 fn is_full_after_as_many_entries(rt: HostRuntime) -> Result<(), Fail> {
-    let config = Config::new(rt.alloc(), 2, 1, &[0, 0], &[0, 0, 0, 0])?;
-    let mut replica = Replica::new(rt.alloc(), &config, 0)?;
-    fill(&rt, &mut replica);
-    assert_full_readings(&rt, &replica);
-    assert_full(&rt, &mut replica);
-    assert_full_readings(&rt, &replica);
-    Ok(())
+    let mut member = of_nothing(&rt, rt.alloc())?;
+    fill(&rt, &mut member);
+    assert_full_readings(&rt, &member);
+    assert_full(&rt, &mut member)
 }
