@@ -92,7 +92,7 @@ mod tests {
     use super::*;
     use run_model::Sums;
     use std::test::Fail;
-    use tact_base::{Covers, Op, Weights, Write, WriteList};
+    use tact_base::{Covers, Op, SharedWrites, Weights, Write, WriteList};
 
     #[test]
     fn begins_past_what_is_known(rt: HostRuntime) -> Result<(), Fail> {
@@ -156,7 +156,7 @@ mod tests {
             haves: Numbers::from_slice(alloc, haves)?,
             covers: Covers::new(alloc),
             firsts: Numbers::new(alloc),
-            writes: told,
+            writes: SharedWrites::new(alloc, told)?,
             lent: Numbers::new(alloc),
             returned: Numbers::new(alloc),
         })

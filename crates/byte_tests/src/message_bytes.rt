@@ -4,7 +4,7 @@ use crate::field_bytes::{ADD, LIGHT, changed};
 use run_model::Message;
 use std::alloc::Global;
 use std::test::Fail;
-use tact_base::{Bytes, Cover, Covers, Numbers, Weights, Write, WriteList};
+use tact_base::{Bytes, Cover, Covers, Numbers, SharedWrites, Weights, Write, WriteList};
 use tact_msg::{MsgFault, decode, encode};
 
 // The first message of replica 0 to replica 1: it has accepted one write, and lent 10.
@@ -39,7 +39,7 @@ fn worked(alloc: Global) -> Result<Message, Fail> {
         haves: Numbers::from_slice(alloc, &[1, 0])?,
         covers: Covers::from_slice(alloc, &[own, none])?,
         firsts: Numbers::from_slice(alloc, &[0, 0])?,
-        writes,
+        writes: SharedWrites::new(alloc, writes)?,
         lent: Numbers::from_slice(alloc, &[10])?,
         returned: Numbers::from_slice(alloc, &[0])?,
     })

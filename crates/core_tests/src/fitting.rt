@@ -6,7 +6,7 @@ use run_model::{Config, Message};
 use std::alloc::Global;
 use std::process::Abort;
 use std::test::Fail;
-use tact_base::{Cover, Covers, Numbers, Op, Weights, Write, WriteList};
+use tact_base::{Cover, Covers, Numbers, Op, SharedWrites, Weights, Write, WriteList};
 
 // What a message is made of: the index and the stamp are those of its one write, which is replica 0's.
 #[derive(Clone, Copy)]
@@ -72,7 +72,7 @@ fn message_of(alloc: Global, parts: &Parts) -> Result<Message, Fail> {
         haves: Numbers::from_slice(alloc, parts.haves)?,
         covers: Covers::from_slice(alloc, &[cover; 3])?,
         firsts: Numbers::from_slice(alloc, &[parts.index, 2, 0])?,
-        writes,
+        writes: SharedWrites::new(alloc, writes)?,
         lent: Numbers::from_slice(alloc, &[5, 0])?,
         returned: Numbers::from_slice(alloc, parts.returned)?,
     })

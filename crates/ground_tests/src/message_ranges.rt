@@ -3,7 +3,9 @@
 use run_model::{Config, Message, is_message_in_range};
 use std::alloc::Global;
 use std::test::Fail;
-use tact_base::{Cover, Covers, Items, Numbers, Op, Weight, Weights, Write, WriteList};
+use tact_base::{
+    Cover, Covers, Items, Numbers, Op, SharedWrites, Weight, Weights, Write, WriteList,
+};
 
 const ADD: Op = Op::Add { key: 7, delta: 1 };
 
@@ -93,7 +95,7 @@ fn message_of(alloc: Global, parts: &Parts) -> Result<Message, Fail> {
         haves: Numbers::from_slice(alloc, parts.haves)?,
         covers: Covers::from_slice(alloc, parts.covers)?,
         firsts: Numbers::from_slice(alloc, parts.firsts)?,
-        writes,
+        writes: SharedWrites::new(alloc, writes)?,
         lent: Numbers::from_slice(alloc, parts.lent)?,
         returned: Numbers::from_slice(alloc, parts.returned)?,
     })

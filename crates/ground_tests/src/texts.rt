@@ -5,7 +5,9 @@ use run_model::{
 };
 use std::alloc::Global;
 use std::test::Fail;
-use tact_base::{Bytes, Covers, Need, Needs, Numbers, Op, Weight, Weights, WriteList};
+use tact_base::{
+    Bytes, Covers, Need, Needs, Numbers, Op, SharedWrites, Weight, Weights, WriteList,
+};
 
 const ADD: Op = Op::Add { key: 7, delta: 1 };
 
@@ -60,7 +62,7 @@ fn message(
         haves: Numbers::new(alloc),
         covers: Covers::new(alloc),
         firsts: Numbers::from_slice(alloc, firsts)?,
-        writes: WriteList::new(alloc),
+        writes: SharedWrites::new(alloc, WriteList::new(alloc))?,
         lent: Numbers::new(alloc),
         returned: Numbers::new(alloc),
     })

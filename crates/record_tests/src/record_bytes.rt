@@ -6,7 +6,7 @@ use run_record::{
 };
 use std::alloc::Global;
 use std::test::Fail;
-use tact_base::{Bytes, Covers, Numbers, WriteList};
+use tact_base::{Bytes, Covers, Numbers, SharedWrites, WriteList};
 
 // Two replicas and a conit, and an entry of each kind.
 pub(crate) const WORKED: [u8; 240] = *b"TACT\x01\x02\x01\
@@ -173,7 +173,7 @@ fn bare(alloc: Global, from: u32, to: u32, number: u64) -> Result<Message, Fail>
         haves: Numbers::new(alloc),
         covers: Covers::new(alloc),
         firsts: Numbers::from_slice(alloc, &[0, 3])?,
-        writes: WriteList::new(alloc),
+        writes: SharedWrites::new(alloc, WriteList::new(alloc))?,
         lent: Numbers::new(alloc),
         returned: Numbers::new(alloc),
     })

@@ -174,9 +174,10 @@ module _ (setup : Setup) (replica : ℕ) (among : replica < setup.replicas) wher
   }
 
 -- so is one whose parts are equal to these
-module _ (setup made : Setup) (replica : ℕ) (logs : LogState) (covers : List Cover) (known : List ℕ) (seen : SeenState) (budgets : BudgetState) (among : replica < setup.replicas)
+module _ (setup made : Setup) (replica : ℕ) (logs : LogState) (covers : List Cover) (known : List ℕ) (seen : SeenState) (budgets : BudgetState) (calls : List ℕ) (among : replica < setup.replicas)
     (is_setup : made ≡ setup) (is_logs : logs.logs ≡ replicate setup.replicas []) (is_bases : logs.bases ≡ replicate setup.replicas 0) (is_covers : covers ≡ replicate setup.replicas no_cover) (is_known : known ≡ replicate (setup.replicas * setup.replicas) 0)
-    (is_seen : seen ≡ no_seen setup.conits) (is_budgets : record budgets { room = 0 } ≡ opening setup replica 0) where
+    (is_seen : seen ≡ no_seen setup.conits) (is_budgets : record budgets { room = 0 } ≡ opening setup replica 0)
+    (is_calls : calls ≡ replicate CLIENTS 0) where
   abbrev made_core : Core
   made_core = record {
     setup = made;
@@ -192,11 +193,11 @@ module _ (setup made : Setup) (replica : ℕ) (logs : LogState) (covers : List C
       clock = 0;
     };
     budgets = record budgets { room = 0 };
-    counts = record { calls = replicate CLIENTS 0; sends = 0; count = 0; last = 0 };
+    counts = record { calls = calls; sends = 0; count = 0; last = 0 };
   }
 
   same_core : made_core ≡ new_core setup replica
-  same_core = rw (is_setup, is_logs, is_bases, is_covers, is_known, is_seen, is_budgets) refl
+  same_core = rw (is_setup, is_logs, is_bases, is_covers, is_known, is_seen, is_budgets, is_calls) refl
 
   pub Stands-made : Stands [] made_core
   Stands-made = subst (Stands []) (sym same_core) (Stands-new setup replica among)

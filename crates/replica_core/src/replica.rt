@@ -50,7 +50,7 @@ pub struct Replica {
     seen: Seen,
     clock: u64,
     budgets: Budgets,
-    calls: [u64; CLIENTS as usize],
+    calls: Vec<u64>,
     sends: u64,
     count: u64,
     last: u64,
@@ -79,7 +79,7 @@ impl Model for Replica {
           clock = r.clock;
         };
         budgets = record r.budgets { room = 0 };
-        counts = record { calls = r.calls; sends = r.sends; count = r.count; last = r.last };
+        counts = record { calls = r.calls.items; sends = r.sends; count = r.count; last = r.last };
       };
       spare = r.spare;
       beside = r.beside;
@@ -108,7 +108,7 @@ impl Replica {
             seen: Seen::new(alloc, config.conits())?,
             clock: 0,
             budgets: opening_budgets(alloc, config, replica)?,
-            calls: [0; CLIENTS as usize],
+            calls: vec![in alloc; 0; CLIENTS as usize]?,
             sends: 0,
             count: 0,
             last: 0,

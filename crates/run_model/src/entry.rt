@@ -2,7 +2,7 @@ ghost use Rattle.std.specs.Prelude.{◌≡◌};
 
 use crate::{Reply, Request};
 use std::alloc::AllocError;
-use tact_base::{Covers, Numbers, WriteList};
+use tact_base::{Covers, Numbers, SharedWrites};
 
 /// What one replica tells another. The lists by origin have a number for each replica, those by conit one
 /// for each conit.
@@ -21,7 +21,7 @@ pub struct Message {
     /// By origin, the index of the first of its writes that the message has.
     pub firsts: Numbers,
     /// The writes, by origin, and of one origin by index.
-    pub writes: WriteList,
+    pub writes: SharedWrites,
     /// By conit, all that the sender ever lent to the receiver, the opening loan included.
     pub lent: Numbers,
     /// By conit, all that the sender ever gave back to the receiver.
@@ -84,7 +84,7 @@ impl Clone for Message {
             haves: self.haves.copied()?,
             covers: self.covers.copied()?,
             firsts: self.firsts.copied()?,
-            writes: self.writes.copied()?,
+            writes: self.writes.clone()?,
             lent: self.lent.copied()?,
             returned: self.returned.copied()?,
         })

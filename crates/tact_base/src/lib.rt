@@ -12,6 +12,7 @@ mod limits;
 mod numbers;
 mod roomy_list;
 mod setup;
+mod shared_list;
 mod slowest;
 mod sums;
 mod tokens;
@@ -34,7 +35,8 @@ pub use limits::{
 pub use numbers::{NumberFault, print_marked, print_number, print_signed, read_number};
 pub use roomy_list::RoomyList;
 pub use setup::ConfigFault;
+pub use shared_list::SharedList;
 pub use slowest::{Slowest, slowest_of};
 pub use sums::sum_on;
 pub use tokens::{TokenFault, whole_number, whole_signed};
-pub use write::{Cover, Covers, Late, Op, Place, Write, WriteList};
+pub use write::{Cover, Covers, Late, Op, Place, SharedWrites, Write, WriteList};

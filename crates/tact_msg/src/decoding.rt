@@ -13,7 +13,7 @@ use crate::get_writes::writes_at;
 use crate::parts::{Head, Told};
 use run_model::Message;
 use std::alloc::Global;
-use tact_base::{Covers, NoMemory, Numbers, WriteList};
+use tact_base::{Covers, NoMemory, Numbers, SharedWrites, WriteList};
 
 /// Reads the message at the front of bytes, as `encode` writes it: the message, and how many bytes it has. What
 /// follows isn't read. The fields are read from the left, and each is judged once all its bytes are there: the
@@ -87,7 +87,7 @@ fn message_from(
         haves,
         covers,
         firsts,
-        writes,
+        writes: SharedWrites::new(alloc, writes)?,
         lent: Numbers::from_slice(alloc, lent)?,
         returned: Numbers::from_slice(alloc, returned)?,
     })

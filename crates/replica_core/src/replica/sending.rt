@@ -1,5 +1,5 @@
 //! The message that a replica sends.
-ghost use Rattle.std.specs.Prelude.{◌≡◌, ◌≢◌, ℕ, ◌<◌, ◌≤◌, List, true, false, take, drop, length, map, slice_index, IfOk, IfErr, OnOk, OnErr};
+ghost use Rattle.std.specs.Prelude.{◌≡◌, ◌≢◌, ℕ, ◌<◌, ◌≤◌, List, true, false, take, drop, ◌++◌, length, map, slice_index, IfOk, IfErr, OnOk, OnErr};
 ghost use Rattle.tact_base.specs.declared.limits.TheConstants.{MOMENT_MAX};
 ghost use Rattle.tact_base.specs.Setup.{conits_of};
 ghost use Rattle.split_budget.specs.Budgets.{lent_to, returned_to};
@@ -14,7 +14,9 @@ ghost use Rattle.replica_core.specs.Stands.{Stands, GoesOn, IsSameReplica, IsFau
 use super::Replica;
 use crate::CoreFault;
 use run_model::Message;
-use tact_base::{Cover, Covers, MESSAGE_WRITES, NoMemory, Numbers, Write, WriteList, first_index};
+use tact_base::{
+    Cover, Covers, MESSAGE_WRITES, NoMemory, Numbers, SharedWrites, Write, WriteList, first_index,
+};
 
 impl Replica {
     /// Sends the next message to another replica, in the memory that the replica was made in. By origin its writes begin past those
@@ -63,7 +65,7 @@ impl Replica {
             number: self.sends,
             haves: self.haves()?,
             covers: self.told_covers(moment)?,
-            writes: self.writes(firsts.items())?,
+            writes: SharedWrites::new(self.alloc, self.writes(firsts.items())?)?,
             firsts,
             lent: self.lent(to)?,
             returned: self.returned(to)?,
@@ -139,7 +141,8 @@ impl Replica {
         let mut writes = WriteList::with_capacity(self.alloc, self.told_count(firsts))?;
         for origin in 0..self.config.replicas() {
             let room = MESSAGE_WRITES - writes.len();
-            writes.append(self.writes_from(origin, firsts[origin as usize], room))?;
+            let told = self.writes_from(origin, firsts[origin as usize], room);
+            append_writes(&mut writes, told)?;
         }
         Ok(writes)
     }
@@ -194,4 +197,20 @@ impl Replica {
         }
         Ok(returned)
     }
+}
+
+// How many writes are copied at once.
+const PIECE: usize = 16;
+
+// Appends writes in pieces, each of which is copied by words: a machine copies longer ones by bytes, which counts more steps.
+fn append_writes(writes: &mut WriteList, told: &[Write]) -> Result<(), NoMemory>
+    ensures { OnOk result (writes.new ≡ writes.old ++ told.now) }
+{
+    let mut rest = told;
+    while rest.len() > PIECE {
+        let (piece, others) = rest.split_at(PIECE);
+        writes.append(piece)?;
+        rest = others;
+    }
+    writes.append(rest)
 }

@@ -32,7 +32,7 @@ returns-clause-goes_on c =
         clock = c.self.inside.clock;
       };
       budgets = record c.self.inside.budgets { room = 0 };
-      counts = record { calls = c.self.inside.calls; sends = c.self.inside.sends; count = c.self.inside.count; last = c.self.inside.last };
+      counts = record { calls = c.self.inside.calls.items; sends = c.self.inside.sends; count = c.self.inside.count; last = c.self.inside.last };
     } in
     let reached : c.enter.new.self.core ≡ entered (with_sent old) c.args.moment =
     ap (λ (s : ReplicaState). s.core) c.enter.ensures

@@ -87,7 +87,7 @@ returns-clause-goes_on c part stands =
         clock = inside.clock;
       };
       budgets = with_room inside.budgets 0;
-      counts = record { calls = inside.calls; sends = inside.sends; count = inside.count; last = inside.last };
+      counts = record { calls = inside.calls.items; sends = inside.sends; count = inside.count; last = inside.last };
     } in
     let logged : List (List Write) → List Write → Core = λ logs seen. let k : Core = record old { writes = record old.writes { logs = logs; seen = seen } } in k in
     let is_told : view ≡ told = ap (λ (s : ReplicaState). s.core) c.self.view_is in

@@ -18,5 +18,5 @@ loop-origin-preserved c =
     let of_origin = λ (origin : ℕ). drop (get_or c.args.firsts.now origin 0) (log_at c.args.self.now.core origin) in
     let room : ℕ = MESSAGE_WRITES - c.len-room.result in
     let left : room ≡ MESSAGE_WRITES - length c.loop-origin.writes = ap (λ (n : ℕ). MESSAGE_WRITES - n) c.len-room.ensures in
-    writes_more of_origin c.loop-origin.origin room c.loop-origin.writes c.append.new.self c.loop-origin.invariant left
-    (c.in_ok-append.ensures.ok ∙ ap (λ (ws : List Write). c.loop-origin.writes ++ ws) c.writes_from.ensures)
+    writes_more of_origin c.loop-origin.origin room c.loop-origin.writes c.append_writes.new.writes c.loop-origin.invariant left
+    (c.in_ok-append_writes.ensures ∙ ap (λ (ws : List Write). c.loop-origin.writes ++ ws) c.writes_from-told.ensures)
