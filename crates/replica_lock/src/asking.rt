@@ -10,7 +10,7 @@ ghost use Rattle.replica_lock.specs.Sessions.{IsSessionOf};
 
 use crate::NodeFault;
 use crate::allowance::Allowance;
-use crate::locked::Locked;
+use crate::locked_box::{LockedBox, reserved, stand};
 use crate::session::Session;
 use crate::turn::{Turn, count};
 use run_model::{Reply, Request};
@@ -47,10 +47,10 @@ impl<'n, 'd, G: Gate> Turn<'n, 'd, G> {
     {
         let node = self.node;
         node.gate.reached(session.replica, session.client);
-        self.locked.stand();
+        stand(&self.locked);
         self.held.agree(&mut session.tally);
         self.held.agree(&mut allowance.tally);
-        let before = self.locked.reserved(allowance.conit);
+        let before = reserved(&self.locked, allowance.conit);
         let answer = self.locked.call(
             node.desk,
             &mut session.note,
@@ -67,7 +67,7 @@ impl<'n, 'd, G: Gate> Turn<'n, 'd, G> {
                     session.conits,
                     session.client,
                 );
-                let after = self.locked.reserved(allowance.conit);
+                let after = reserved(&self.locked, allowance.conit);
                 move_total(&mut self.held, allowance, before, after);
                 session.calls += 1;
                 session.made += 1;
@@ -79,7 +79,7 @@ impl<'n, 'd, G: Gate> Turn<'n, 'd, G> {
 }
 
 // Moves the total of an allowance's conit from one number to another, and the allowance by as much.
-fn move_total(held: &mut Held<'_, Locked>, allowance: &mut Allowance, before: u64, after: u64)
+fn move_total(held: &mut Held<'_, LockedBox>, allowance: &mut Allowance, before: u64, after: u64)
     requires cell { allowance.old.cell ≡ held.old.cell.id }
     requires conit { allowance.old.conit < held.old.cell.shared }
     requires before { slice_index held.old.book allowance.old.conit ≡ before }

@@ -16,6 +16,7 @@ ghost use Rattle.replica_lock.specs.declared.loan.Loan.TheVariants as loan;
 use crate::NodeLoanFault;
 use crate::loan::Loan;
 use crate::locked::{Locked, count_entry, draw, may_enter};
+use crate::locked_box::stand;
 use crate::node::Node;
 use crate::session::Session;
 use crate::turn::{Turn, count_made};
@@ -190,7 +191,7 @@ impl<'n, 'd, G: Gate> Turn<'n, 'd, G> {
         ensures err { OnErr result ((self.new.state.core ≡ self.old.state.core) × (self.new.state.stored ≡ self.old.state.stored) × (self.new.state.totals ≡ self.old.state.totals)) }
     {
         let node = self.node;
-        self.locked.stand();
+        stand(&self.locked);
         self.held.agree(&mut session.tally);
         let answer = self
             .locked

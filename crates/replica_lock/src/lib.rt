@@ -9,6 +9,7 @@ mod label;
 mod lending;
 mod loan;
 mod locked;
+mod locked_box;
 mod node;
 mod parcel;
 mod reserving;

@@ -16,7 +16,6 @@ ghost use Rattle.replica_lock.specs.Faults.{IsNodeFaultOf};
 ghost use Rattle.replica_lock.specs.declared.fault.NodeFault.TheVariants as fault;
 ghost use Rattle.replica_lock.specs.Locks.{HasDrawn, HasEntered, IsLocked, IsOfDesk, made_place, one_more_at, part_in, turns_place};
 
-use crate::label::Label;
 use crate::{NewFault, NodeFault};
 use replica_core::Replica;
 use run_history::{Clerk, Desk, Note};
@@ -24,7 +23,6 @@ use run_model::{Act, Config, Entry, Reply, Request};
 use std::alloc::{AllocError, Global};
 use std::marker::Model;
 use tact_base::{CLIENTS, HISTORY_MAX, Numbers, RoomyList, STAMP_MAX};
-use weight_ledger::Counted;
 
 /// The value behind a node's lock: its replica, the clerk that draws the replica's entries, the entries that were drawn
 /// with their ticks, the totals by place that tallies outside add up, and the zeros that a sending is handed as firsts.
@@ -54,16 +52,6 @@ impl Model for Locked {
     } };
 
     ghost invariant = { λ l. IsLocked (view l) × (l.conits ≡ l.replica.core.setup.conits) × (l.firsts ≡ replicate l.replica.core.setup.replicas 0) };
-}
-
-impl Counted for Locked {
-    type Label = Label;
-
-    ghost use Rattle.replica_lock.specs.Nodes.{label_of};
-
-    ghost label = { label_of };
-
-    ghost totals = { λ locked. locked.totals };
 }
 
 impl Locked {

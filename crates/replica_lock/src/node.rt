@@ -9,6 +9,7 @@ ghost use Rattle.replica_lock.specs.Sessions.{HasCalled, HasHeard, IsFaultSeen, 
 
 use crate::ended::{Ended, Stored};
 use crate::locked::Locked;
+use crate::locked_box::{LockedBox, stand};
 use crate::roster::Roster;
 use crate::session::Session;
 use crate::turn::Turn;
@@ -26,7 +27,7 @@ use weight_ledger::{Cell, CellFault};
 /// what they say where they return.
 pub struct Node<'d, G: Gate> {
     pub(crate) desk: &'d Desk,
-    pub(crate) cell: Cell<Locked>,
+    pub(crate) cell: Cell<LockedBox>,
     pub(crate) gate: G,
 }
 
@@ -65,6 +66,7 @@ impl<'d, G: Gate> Node<'d, G> {
         let replica = clerk.replica();
         let conits = config.conits();
         let locked = Locked::new(alloc, config, clerk)?;
+        let locked = LockedBox::new(alloc, locked)?;
         match Cell::new(alloc, locked, conits, 2 * CLIENTS) {
             Ok((cell, tally)) => {
                 let roster = Roster {
@@ -77,7 +79,7 @@ impl<'d, G: Gate> Node<'d, G> {
                 Ok((Node { desk, cell, gate }, roster))
             }
             Err(CellFault { value }) => Err(NewFault {
-                clerk: value.into_clerk(),
+                clerk: value.into_locked().into_clerk(),
             }),
         }
     }
@@ -117,8 +119,8 @@ impl<'d, G: Gate> Node<'d, G> {
         ensures node { result.node ≡ self.now }
         ensures kept { IsLocked result.state }
     {
-        let (held, locked) = self.cell.lock(rt);
-        locked.stand();
+        let (held, LockedBox { locked }) = self.cell.lock(rt);
+        stand(&locked);
         Turn {
             node: self,
             held,
@@ -160,7 +162,7 @@ impl<'d, G: Gate> Node<'d, G> {
             gate: _,
         } = self;
         let Roster { tally, .. } = roster;
-        let (clerk, pairs) = cell.end(rt, tally).into_parts();
+        let (clerk, pairs) = cell.end(rt, tally).into_locked().into_parts();
         Ended {
             clerk,
             stored: Stored { pairs },

@@ -14,6 +14,7 @@ ghost use Rattle.replica_lock.specs.Sessions.{HasHeard, HasSent, IsFaultSeen, Is
 
 use crate::NodeFault;
 use crate::locked::{Locked, count_entry, draw, may_enter};
+use crate::locked_box::stand;
 use crate::node::Node;
 use crate::parcel::Parcel;
 use crate::session::Session;
@@ -84,7 +85,7 @@ impl<'n, 'd, G: Gate> Turn<'n, 'd, G> {
         ensures err { OnErr result ((self.new.state.core ≡ self.old.state.core) × (self.new.state.stored ≡ self.old.state.stored) × (self.new.state.totals ≡ self.old.state.totals)) }
     {
         let node = self.node;
-        self.locked.stand();
+        stand(&self.locked);
         self.held.agree(&mut session.tally);
         let answer = self
             .locked

@@ -13,6 +13,7 @@ ghost use Rattle.replica_lock.specs.Sessions.{HasCalled, HasHeard, IsFaultSeen, 
 use crate::NodeFault;
 use crate::label::Label;
 use crate::locked::Locked;
+use crate::locked_box::{LockedBox, stand};
 use crate::node::Node;
 use crate::session::Session;
 use run_history::Note;
@@ -25,8 +26,8 @@ use weight_ledger::{Held, Tally};
 /// The lock of a node, held over several calls. It can't be dropped: `end` gives the lock back.
 pub struct Turn<'n, 'd, G: Gate> {
     pub(crate) node: &'n Node<'d, G>,
-    pub(crate) held: Held<'n, Locked>,
-    pub(crate) locked: Locked,
+    pub(crate) held: Held<'n, LockedBox>,
+    pub(crate) locked: Box<Locked>,
 }
 
 impl<'n, 'd, G: Gate> Model for Turn<'n, 'd, G> {
@@ -35,9 +36,9 @@ impl<'n, 'd, G: Gate> Model for Turn<'n, 'd, G> {
 
     ghost Value = { TurnView };
 
-    ghost view = { λ t. record { node = t.node.now; state = t.locked } };
+    ghost view = { λ t. record { node = t.node.now; state = t.locked.value } };
 
-    ghost invariant = { λ t. KeepsTurn t.node.now t.held t.locked };
+    ghost invariant = { λ t. KeepsTurn t.node.now t.held t.locked.value };
 }
 
 impl<'n, 'd, G: Gate> Turn<'n, 'd, G> {
@@ -66,7 +67,7 @@ impl<'n, 'd, G: Gate> Turn<'n, 'd, G> {
         ensures note { IsPrefix note.seen session.new.seen }
     {
         let node = self.node;
-        self.locked.stand();
+        stand(&self.locked);
         self.held.agree(&mut session.tally);
         self.locked.hear(node.desk, &mut session.note, note);
     }
@@ -100,7 +101,7 @@ impl<'n, 'd, G: Gate> Turn<'n, 'd, G> {
         ensures fault_seen { IfErr result (IsFaultSeen session.new) }
         ensures err { OnErr result ((self.new.state.core ≡ self.old.state.core) × (self.new.state.stored ≡ self.old.state.stored) × (self.new.state.totals ≡ self.old.state.totals)) }
     {
-        self.locked.stand();
+        stand(&self.locked);
         let mut none = self.node.empty(session, 0);
         self.ask(session, &mut none, moment, request)
     }
@@ -112,12 +113,12 @@ impl<'n, 'd, G: Gate> Turn<'n, 'd, G> {
             held,
             locked,
         } = self;
-        held.end(locked);
+        held.end(LockedBox { locked });
     }
 }
 
 // Counts a call among a client's turns and among the entries made for it, in the totals and in the tally that owns them.
-pub(crate) fn count(held: &mut Held<'_, Locked>, tally: &mut Tally<Label>, conits: u32, client: u32)
+pub(crate) fn count(held: &mut Held<'_, LockedBox>, tally: &mut Tally<Label>, conits: u32, client: u32)
     requires cell { tally.old.id ≡ held.old.cell.id }
     requires client { client < CLIENTS }
     requires few { conits ≤ CONITS_MAX }
@@ -136,7 +137,7 @@ pub(crate) fn count(held: &mut Held<'_, Locked>, tally: &mut Tally<Label>, conit
 
 // Counts an entry that is no call among those made for a client, in the totals and in the tally that owns them.
 pub(crate) fn count_made(
-    held: &mut Held<'_, Locked>,
+    held: &mut Held<'_, LockedBox>,
     tally: &mut Tally<Label>,
     conits: u32,
     client: u32,

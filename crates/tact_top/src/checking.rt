@@ -46,8 +46,9 @@ impl Job for Checking {
 
     ghost faults = { IsRecordFault };
 
-    fn make(alloc: Global, input: &[u8]) -> Result<Output, Refusal> {
-        let record = read_record(alloc, input)?;
+    fn make(alloc: Global, input: Bytes) -> Result<Output, Refusal> {
+        let record = read_record(alloc, input.items())?;
+        drop(input);
         let verdict = check_record(alloc, &record)?;
         let mut text = Bytes::new(alloc);
         put_verdict(alloc, &verdict, &mut text)?;

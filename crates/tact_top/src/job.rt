@@ -42,11 +42,11 @@ pub(crate) trait Job {
     /// An input isn't in its grammar: its first fault is at a place, of a kind.
     ghost faults: { List ℕ → ℕ → Kind → Type 0 };
 
-    /// Makes what an input asks for. It refuses what isn't in the grammar.
-    fn make(alloc: Global, input: &[u8]) -> Result<Output, Refusal>
-        ensures asked { IfOk result (λ output. asks input.now output.status output.text) }
+    /// Makes what an input asks for, and gives the input up once it is read. It refuses what isn't in the grammar.
+    fn make(alloc: Global, input: Bytes) -> Result<Output, Refusal>
+        ensures asked { IfOk result (λ output. asks input output.status output.text) }
         ensures ends { IfOk result (λ output. IsEnd output.status) }
-        ensures refused { IfErr result (λ refusal. IsRefusalBy faults input.now refusal) };
+        ensures refused { IfErr result (λ refusal. IsRefusalBy faults input refusal) };
 }
 
 /// Reads an input to its end, makes what it asks for, and writes that.
@@ -69,7 +69,7 @@ pub(crate) fn done<J: Job, S: Source, K: Sink>(
         Err(ReadEnd::Fault) => return Status::ReadFault,
         Err(ReadEnd::NoMemory) => return Status::NoMemory,
     };
-    match J::make(alloc, input.items()) {
+    match J::make(alloc, input) {
         Ok(output) => written(output, sink),
         Err(Refusal::Bad { place, kind }) => Status::BadInput { place, kind },
         Err(Refusal::NoMemory) => Status::NoMemory,

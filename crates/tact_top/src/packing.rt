@@ -59,8 +59,9 @@ impl Job for Packing {
 
     ghost faults = { IsTextFault };
 
-    fn make(alloc: Global, input: &[u8]) -> Result<Output, Refusal> {
-        let record = read_text(alloc, input)?;
+    fn make(alloc: Global, input: Bytes) -> Result<Output, Refusal> {
+        let record = read_text(alloc, input.items())?;
+        drop(input);
         let mut text = Bytes::new(alloc);
         bytes_of(&record, &mut text)?;
         Ok(Output {
@@ -78,8 +79,9 @@ impl Job for Unpacking {
 
     ghost faults = { IsByteFault };
 
-    fn make(alloc: Global, input: &[u8]) -> Result<Output, Refusal> {
-        let record = read_bytes(alloc, input)?;
+    fn make(alloc: Global, input: Bytes) -> Result<Output, Refusal> {
+        let record = read_bytes(alloc, input.items())?;
+        drop(input);
         let mut text = Bytes::new(alloc);
         print(&record, &mut text)?;
         Ok(Output {

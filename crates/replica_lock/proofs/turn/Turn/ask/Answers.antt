@@ -15,7 +15,7 @@ use Rattle.replica_lock.proofs.Turning.{agreed, tells, session_as}
 use Rattle.replica_lock.proofs.turn.Turn.ask.Goals as goal
 
 -- what a refusal leaves of the session
-leaves : (g : _) (c : goal.In-Err g) → HasLeft c.self.inside.node.now c.self.inside.locked (the_view c.session.inside) (noted (the_view c.session.inside) c.agree.new.tally c.call-answer.new.note)
+leaves : (g : _) (c : goal.In-Err g) → HasLeft c.self.inside.node.now c.self.inside.locked.value (the_view c.session.inside) (noted (the_view c.session.inside) c.agree.new.tally c.call-answer.new.note)
 leaves g c =
     let agrees = agreed _ _ (the_view c.session.inside) _ _ _ _ c.self.view_is c.session.view_is c.requires.session c.self.invariant c.stand.ensures c.session.invariant c.agree.ensures.owned c.agree.ensures.tally refl in
     let told = c.in-Err.ensures in
@@ -62,7 +62,7 @@ returns-in-Ok-clause-answered g c =
     rw (← c.self.view_is, ← c.session.view_is, ← c.allowance.view_is) (record {
       entered = told.entered;
       due = entered-due _ c.call-answer.new.self _ c.args.moment client _ c.args.request c.in-Ok.reply told.entered;
-      totals = told.totals ∙ ap (λ n. set (one_more_at (made_place n client) (one_more_at (turns_place n client) c.self.inside.locked.totals)) conit (reserved (part_in c.call-answer.new.self) conit)) (sym width);
+      totals = told.totals ∙ ap (λ n. set (one_more_at (made_place n client) (one_more_at (turns_place n client) c.self.inside.locked.value.totals)) conit (reserved (part_in c.call-answer.new.self) conit)) (sym width);
       called = HasCalled-entered _ c.self.invariant.keeps.sound _ c.call-answer.new.self _ _ _ _ _ knows.setup knows.replica knows.calls knows.known told.entered value;
     })
 

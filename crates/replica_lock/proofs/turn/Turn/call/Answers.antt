@@ -18,7 +18,7 @@ ask-requires-clause-allowance g c =
 
 pub returns-clause-totals : goal.returns-clause-totals
 returns-clause-totals g c =
-    let setup = turn-setup c.self.inside.node.now c.self.inside.held c.self.inside.locked c.self.invariant in
+    let setup = turn-setup c.self.inside.node.now c.self.inside.held c.self.inside.locked.value c.self.invariant in
     let width = subst (λ (t : TurnView). t.node.desk.setup.conits ≡ t.state.core.setup.conits) c.self.view_is (ap (λ (s : Setup). s.conits) setup) in
     let some = subst (λ (t : TurnView). 0 < t.node.desk.setup.conits) c.self.view_is (first-conit c.self.inside.node.now.desk.setup c.self.invariant.keeps.sound) in
     let conit = ap (λ (a : AllowanceView). a.conit) c.empty-none.ensures.empty in

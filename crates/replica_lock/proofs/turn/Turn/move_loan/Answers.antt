@@ -7,7 +7,7 @@ use Rattle.replica_lock.proofs.Turning.{agreed}
 use Rattle.replica_lock.proofs.turn.Turn.move_loan.Goals as goal
 
 -- what a refusal leaves of the session
-leaves : (g : _) (c : goal.In-Err g) → HasLeft c.self.inside.node.now c.self.inside.locked (the_view c.session.inside) (noted (the_view c.session.inside) c.agree.new.tally c.lend-answer.new.note)
+leaves : (g : _) (c : goal.In-Err g) → HasLeft c.self.inside.node.now c.self.inside.locked.value (the_view c.session.inside) (noted (the_view c.session.inside) c.agree.new.tally c.lend-answer.new.note)
 leaves g c =
     let agrees = agreed _ _ (the_view c.session.inside) _ _ _ _ c.self.view_is c.session.view_is c.requires.session c.self.invariant c.stand.ensures c.session.invariant c.agree.ensures.owned c.agree.ensures.tally refl in
     let told = c.in-Err.ensures in
