@@ -24,7 +24,7 @@ use tact_base::{NoMemory, Write};
 
 /// The writes that a replica has seen, in order, of which those up to the last point are committed, with the
 /// image of their operations and the sums of their weights, which are kept as writes come and are committed. The
-/// first of the committed ones can be given up: they aren't lent any more, and still count in the image and the
+/// first of the committed ones can be given up: they aren't shown any more, and still count in the image and the
 /// sums; their memory is given back later. Contracts see on how many conits the writes may weigh, all writes, how
 /// many of them were given up, the last point, and the room: how many more writes can surely be put in without
 /// taking memory.

@@ -6,7 +6,7 @@ ghost use Rattle.run_check.specs.Keeping.{write_at, whole_of, IsPlaced, HasGrown
 
 use run_model::Message;
 use std::alloc::Global;
-use tact_base::{HISTORY_MAX, Items, NoMemory, Write, WriteList};
+use tact_base::{HISTORY_MAX, Items, NoMemory, SharedWrites, Write, WriteList};
 
 /// A spot of a table of writes: where one write can stand.
 #[derive(Clone, Copy, Debug)]
@@ -143,7 +143,7 @@ pub(crate) fn kept_of(
         }
         Err(fault) => return Err(fault),
     };
-    message.writes = Items::new(alloc);
+    message.writes = SharedWrites::new(alloc, Items::new(alloc))?;
     Ok(Kept { message, spots })
 }
 
@@ -174,6 +174,6 @@ pub(crate) fn made_whole(
     };
     let mut writes = writes_at(alloc, written, kept.spots.items())?;
     writes.append(kept.message.writes.items())?;
-    message.writes = writes;
+    message.writes = SharedWrites::new(alloc, writes)?;
     Ok(message)
 }

@@ -32,7 +32,7 @@ impl Replica {
     /// a gap, and the cover, where it vouches for no more than the log has; what the sender is known to have,
     /// to have lent and to have given back; and the clock (anti-entropy after Golding; docs/MODEL.md). It makes
     /// its room first, beside that for own writes. Then it gives up, of the committed writes, those before the first
-    /// that some replica isn't known to have: they are still counted, and no longer lent, so that they are in nothing
+    /// that some replica isn't known to have: they are still counted, and from then on in nothing
     /// that the replica shows or sends; their memory is given back later. The moment of the entry is the greater of
     /// the handed one and that of the last entry.
     ///
