@@ -118,7 +118,12 @@ impl<'n, 'd, G: Gate> Turn<'n, 'd, G> {
 }
 
 // Counts a call among a client's turns and among the entries made for it, in the totals and in the tally that owns them.
-pub(crate) fn count(held: &mut Held<'_, LockedBox>, tally: &mut Tally<Label>, conits: u32, client: u32)
+pub(crate) fn count(
+    held: &mut Held<'_, LockedBox>,
+    tally: &mut Tally<Label>,
+    conits: u32,
+    client: u32,
+)
     requires cell { tally.old.id ≡ held.old.cell.id }
     requires client { client < CLIENTS }
     requires few { conits ≤ CONITS_MAX }

@@ -9,16 +9,16 @@ leaves : (g : _) (c : goal.In-Err g) → HasLeft c.self.inside.node.now c.self.i
 leaves g c =
     let agrees = agreed _ _ (the_view c.session.inside) _ _ _ _ c.self.view_is c.session.view_is c.requires.session c.self.invariant c.stand.ensures c.session.invariant c.agree.ensures.owned c.agree.ensures.tally refl in
     let told = c.in-Err.ensures in
-    left _ _ _ _ _ _ _ _ c.take-answer.new.note agrees told.kept told.err.0 told.err.1 told.note told.learnt.1 c.node.view_is told.run
+    left _ _ _ _ _ _ _ _ c.take-answer.new.note agrees told.kept (rw c.deref_mut.ensures.value at told.err.0) (rw c.deref_mut.ensures.value at told.err.1) told.note told.learnt.1 c.node.view_is told.run
 
 pub returns-in-Ok-clause-taken : goal.returns-in-Ok-clause-taken
 returns-in-Ok-clause-taken g c =
     let agrees = agreed _ _ (the_view c.session.inside) _ _ _ _ c.self.view_is c.session.view_is c.requires.session c.self.invariant c.stand.ensures c.session.invariant c.agree.ensures.owned c.agree.ensures.tally refl in
     rw (← c.self.view_is, ← c.session.view_is)
-    (made _ _ _ _ _ _ _ _ c.take-answer.new.note c.args.moment _ agrees c.count_made.ensures.id c.in-Ok.ensures.note c.in-Ok.ensures.entered refl)
+    (made _ _ _ _ _ _ _ _ c.take-answer.new.note c.args.moment _ agrees c.count_made.ensures.id c.in-Ok.ensures.note (rw c.deref_mut.ensures.value at c.in-Ok.ensures.entered) refl)
 
 pub returns-in-Err-clause-refused : goal.returns-in-Err-clause-refused
 returns-in-Err-clause-refused g c = rw (← c.self.view_is, ← c.session.view_is) (leaves g c).heard
 
 pub returns-in-Err-clause-fault_seen : goal.returns-in-Err-clause-fault_seen
-returns-in-Err-clause-fault_seen g c = (leaves g c).fault c.in-Err.fault.fault c.in-Err.ensures.fault
+returns-in-Err-clause-fault_seen g c = (leaves g c).fault c.in-Err.fault.fault (rw c.deref_mut.ensures.value at c.in-Err.ensures.fault)
