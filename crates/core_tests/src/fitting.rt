@@ -57,14 +57,18 @@ fn told(parts: &Parts) -> Result<Write, Fail> {
     })
 }
 
+fn writes_of(alloc: Global, parts: &Parts) -> Result<WriteList, Fail> {
+    let mut writes = WriteList::new(alloc);
+    writes.push(told(parts)?)?;
+    Ok(writes)
+}
+
 fn message_of(alloc: Global, parts: &Parts) -> Result<Message, Fail> {
     let cover = Cover {
         count: 1,
         stamp: 12,
         moment: 30,
     };
-    let mut writes = WriteList::new(alloc);
-    writes.push(told(parts)?)?;
     Ok(Message {
         from: parts.from,
         to: parts.to,
@@ -72,7 +76,7 @@ fn message_of(alloc: Global, parts: &Parts) -> Result<Message, Fail> {
         haves: Numbers::from_slice(alloc, parts.haves)?,
         covers: Covers::from_slice(alloc, &[cover; 3])?,
         firsts: Numbers::from_slice(alloc, &[parts.index, 2, 0])?,
-        writes: SharedWrites::new(alloc, writes)?,
+        writes: SharedWrites::new(alloc, writes_of(alloc, parts)?)?,
         lent: Numbers::from_slice(alloc, &[5, 0])?,
         returned: Numbers::from_slice(alloc, parts.returned)?,
     })
@@ -98,9 +102,23 @@ fn is_fit(alloc: Global, member: &Member, parts: &Parts) -> Result<bool, Fail> {
     Ok(member.replica.fits(&message))
 }
 
+// A message's parts, whether it fits, and what it is.
+type Case = (Parts<'static>, bool, &'static str);
+
+fn assert_each(
+    rt: &impl Abort,
+    alloc: Global,
+    member: &Member,
+    cases: &[Case],
+) -> Result<(), Fail> {
+    for (parts, due, text) in cases {
+        assert!(rt; is_fit(alloc, member, parts)? == *due, "{text}");
+    }
+    Ok(())
+}
+
 // Of a replica that made two writes.
-fn assert_fits(rt: &impl Abort, alloc: Global, member: &mut Member) -> Result<(), Fail> {
-    write_twice(rt, member)?;
+fn assert_fits(rt: &impl Abort, alloc: Global, member: &Member) -> Result<(), Fail> {
     let cases = [
         (GOOD, true, "a message that fits"),
         (Parts { from: 3, ..GOOD }, false, "a sender past the count"),
@@ -114,14 +132,16 @@ fn assert_fits(rt: &impl Abort, alloc: Global, member: &mut Member) -> Result<()
         (of_write(0, 13), false, "a stamp past the sender's"),
         (of_write(1, 13), true, "a write that isn't next"),
     ];
-    for (parts, due, text) in &cases {
-        assert!(rt; is_fit(alloc, member, parts)? == *due, "{text}");
-    }
-    Ok(())
+    assert_each(rt, alloc, member, &cases)
+}
+
+fn write_and_fit(rt: &impl Abort, alloc: Global, member: &mut Member) -> Result<(), Fail> {
+    write_twice(rt, member)?;
+    assert_fits(rt, alloc, member)
 }
 
 #[test]
 fn knows_the_messages_that_fit(rt: HostRuntime) -> Result<(), Fail> {
     let mut member = one_of_three(&rt, rt.alloc())?;
-    assert_fits(&rt, rt.alloc(), &mut member)
+    write_and_fit(&rt, rt.alloc(), &mut member)
 }

@@ -35,6 +35,11 @@ fn free(conit: u32, free: u64) -> Result<(), LoanFault> {
     Err(LoanFault::Free { conit, free })
 }
 
+// It made so many entries, the last at the moment 5.
+fn assert_entries(rt: &impl Abort, member: &Member, count: u64) {
+    assert_eq!(rt; (member.replica.count(), member.replica.last()), (count, 5));
+}
+
 // Lends some of what is at home, and more.
 fn lend_and_more(rt: &impl Abort, member: &mut Member) {
     for (conit, amount, given) in [
@@ -47,7 +52,7 @@ fn lend_and_more(rt: &impl Abort, member: &mut Member) {
     ] {
         assert_eq!(rt; member.lend(rt, 5, 1, conit, amount), given);
     }
-    assert_eq!(rt; (member.replica.count(), member.replica.last()), (3, 5));
+    assert_entries(rt, member, 3);
 }
 
 // Gives back some of what is free, and more.
@@ -63,7 +68,7 @@ fn give_back_and_more(rt: &impl Abort, member: &mut Member) {
     ] {
         assert_eq!(rt; member.give_back(rt, 5, 1, conit, amount), given);
     }
-    assert_eq!(rt; (member.replica.count(), member.replica.last()), (4, 5));
+    assert_entries(rt, member, 4);
 }
 
 #[test]

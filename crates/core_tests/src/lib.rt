@@ -14,6 +14,8 @@ mod member;
 #[cfg(test)]
 mod reading;
 #[cfg(test)]
+mod readings;
+#[cfg(test)]
 mod replica;
 #[cfg(test)]
 mod taking;

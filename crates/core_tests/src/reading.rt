@@ -101,13 +101,19 @@ fn readings(member: &Member) -> (i64, i64, u64, u64, Option<LastOne>) {
     )
 }
 
-// Replica 0 writes once, and replica 1 twice; then replica 1 hears of all.
-fn write_and_hear(rt: &impl Abort, zero: &mut Member, one: &mut Member) -> Result<(), Fail> {
+// Replica 0 writes once, and replica 1 twice.
+fn write_apart(rt: &impl Abort, zero: &mut Member, one: &mut Member) -> Result<(), Fail> {
     add(rt, zero, 5, 2)?;
     add(rt, one, -3, 1)?;
     add(rt, one, 4, 7)?;
     assert!(rt; readings(zero) == (5, 5, 2, 0, None));
     assert!(rt; readings(one) == (1, 1, 8, 0, None));
+    Ok(())
+}
+
+// Then replica 1 hears of all.
+fn write_and_hear(rt: &impl Abort, zero: &mut Member, one: &mut Member) -> Result<(), Fail> {
+    write_apart(rt, zero, one)?;
     tell(rt, 0, zero, one)?;
     let last = Some(LastOne {
         origin: 1,

@@ -44,8 +44,12 @@ fn take_twice(rt: &impl Abort, zero: &mut Member, one: &mut Member) -> Result<()
     write(rt, one, SHIFT)?;
     assert_eq!(rt; held(one), (0, 0));
     let message = sent(rt, zero, 1, 0)?;
-    assert!(rt; one.take(5, &message)?);
-    assert!(rt; one.take(5, &message)?);
+    hear_twice(rt, one, &message)
+}
+
+fn hear_twice(rt: &impl Abort, one: &mut Member, message: &Message) -> Result<(), Fail> {
+    assert!(rt; one.take(5, message)?);
+    assert!(rt; one.take(5, message)?);
     assert_both(rt, one);
     Ok(())
 }
