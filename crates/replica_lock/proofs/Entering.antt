@@ -41,26 +41,24 @@ pub goes_on-due : (setup : Setup) (part : List Entry) (entry : Entry) (core : Co
 goes_on-due setup part entry core same stands =
     subst (λ s. IsDue s part entry) (sym same) (EachAfter-last (MayFollow core.setup core.replica) part entry stands.is_part).1
 
--- the call of a client, as its entry spells it
-pub spelled : (core : Core) (part : List Entry) (handed client : ℕ) (asked : Request) (given : Reply) (replica at number : ℕ)
-    → replica ≡ core.replica
-    → at ≡ moment_at part handed
-    → number ≡ calls_in part client
-    → call_entry core.replica (moment_at part handed) client (calls_in part client) asked given ≡ call_entry replica at client number asked given
-spelled core part handed client asked given replica at number replica_is at_is number_is = cc
+-- The call of a client, as its entry spells it, by numbers that were read of the lock while it stood as before.
+module _ (before seen : LockedView) (same : before ≡ seen) (handed client : ℕ) (asked : Request) (given : Reply) (replica at number : ℕ)
+    (replica_is : replica ≡ seen.core.replica) (at_is : at ≡ moment_at (part_in seen) handed) (number_is : number ≡ calls_in (part_in seen) client) where
+  pub spelled : call_entry before.core.replica (moment_at (part_in before) handed) client (calls_in (part_in before) client) asked given
+      ≡ call_entry replica at client number asked given
+  spelled =
+      let replica_before : replica ≡ before.core.replica = replica_is ∙ ap (λ (v : LockedView). v.core.replica) (sym same) in
+      let at_before : at ≡ moment_at (part_in before) handed = at_is ∙ ap (λ (v : LockedView). moment_at (part_in v) handed) (sym same) in
+      let number_before : number ≡ calls_in (part_in before) client = number_is ∙ ap (λ (v : LockedView). calls_in (part_in v) client) (sym same) in
+      cc
 
--- the replica stands for its part with the call
-pub stands-spelled : (before : LockedView) (new : Core) (handed client : ℕ) (asked : Request) (given : Reply) (replica at number : ℕ)
-    → IsLocked before
-    → GoesOn before.core new handed (λ part. act.Call client (calls_in part client) asked given)
-    → replica ≡ before.core.replica
-    → at ≡ moment_at (part_in before) handed
-    → number ≡ calls_in (part_in before) client
-    → Stands (part_in before ++ call_entry replica at client number asked given ∷ []) new
-stands-spelled before new handed client asked given replica at number kept goes replica_is at_is number_is =
-    subst (λ (e : Entry). Stands (part_in before ++ e ∷ []) new)
-    (spelled before.core (part_in before) handed client asked given replica at number replica_is at_is number_is)
-    (goes (part_in before) kept.stands)
+  -- the replica stands for its part with the call
+  pub stands-spelled : (new : Core)
+      → IsLocked before
+      → GoesOn before.core new handed (λ part. act.Call client (calls_in part client) asked given)
+      → Stands (part_in before ++ call_entry replica at client number asked given ∷ []) new
+  stands-spelled new kept goes =
+      subst (λ (e : Entry). Stands (part_in before ++ e ∷ []) new) spelled (goes (part_in before) kept.stands)
 
 -- counts of a part are no more than its entries
 pub calls-few : (part : List Entry) (client : ℕ) → calls_in part client ≤ length part
