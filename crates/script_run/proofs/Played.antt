@@ -16,6 +16,7 @@ use Rattle.script_text.specs.Setups.{setup_of}
 use Rattle.script_text.specs.Texts.{script_of}
 use Rattle.script_text.proofs.ScriptRun.{script_is_whole}
 use Rattle.script_run.specs.Playing.{IsPlayOf, Writes, WritesText}
+use Rattle.script_run.specs.Worlds.{AreFirstLines}
 
 -- what one more line prints
 pub lines_text-push : (setup : Setup) (played : Played) (lines : List Line) (l : Line)
@@ -32,12 +33,31 @@ pub front_is : (lines : List Line) (i : ℕ) (l : Line)
     → take (i + 1) lines ≡ take i lines ++ l ∷ []
 front_is lines i l within read = take_more lines i l within ∙ ap (λ (x : Line). take i lines ++ x ∷ []) (sym read)
 
-pub whole_is : (lines : List Line) (i : ℕ) (l : Line)
+whole_is : (lines : List Line) (i : ℕ) (l : Line)
     → i < length lines
     → l ≡ get_or lines i l
     → (take i lines ++ l ∷ []) ++ drop (i + 1) lines ≡ lines
 whole_is lines i l within read =
     ap (λ (front : List Line). front ++ drop (i + 1) lines) (sym (front_is lines i l within read)) ∙ take-append-drop (i + 1) lines
+
+-- the first lines of a script and the next one are its first ones
+pub AreFirstLines-next : (setup : Setup) (lines stepped : List Line) (i : ℕ) (l : Line)
+    → IsScript lines
+    → length lines ≤ SCRIPT_LINES
+    → setup ≡ setup_of lines
+    → stepped ≡ take i lines
+    → i < length lines
+    → l ≡ get_or lines i l
+    → AreFirstLines setup (stepped ++ l ∷ [])
+AreFirstLines-next setup lines stepped i l script few setup_is first within read =
+    let whole : (stepped ++ l ∷ []) ++ drop (i + 1) lines ≡ lines =
+    ap (λ (front : List Line). (front ++ l ∷ []) ++ drop (i + 1) lines) first ∙ whole_is lines i l within read in
+    record {
+      rest = drop (i + 1) lines;
+      script = subst IsScript (sym whole) script;
+      few = subst (λ (ls : List Line). length ls ≤ SCRIPT_LINES) (sym whole) few;
+      setup_is = setup_is ∙ ap setup_of (sym whole);
+    }
 
 -- the text of a script that was read, as that of what the source had left
 pub play_of : (left : Option (List ℕ)) (bytes : List ℕ) (lines : List Line) (text : List ℕ)

@@ -1,28 +1,15 @@
-use Rattle.std.proofs.Common.{◌≡◌, ℕ, ◌+◌, ◌≤◌, List, [], ◌∷◌, ◌++◌, length, take, drop, sym, ap, ap₂, ◌∙◌, subst, append_assoc}
+use Rattle.std.proofs.Common.{◌≡◌, ℕ, ◌+◌, List, [], ◌∷◌, ◌++◌, take, sym, ap, ap₂, ◌∙◌, append_assoc}
 use Rattle.tact_base.specs.Setup.{Setup}
-use Rattle.tact_base.specs.declared.limits.TheConstants.{SCRIPT_LINES}
 use Rattle.run_model.specs.ScriptRuns.{not_played, played_by, lines_text, text_after}
 use Rattle.run_model.specs.declared.script_line.Line.{Line}
-use Rattle.script_text.specs.Scripts.{IsScript}
 use Rattle.script_text.specs.Setups.{setup_of}
-use Rattle.script_run.proofs.Played.{lines_text-push, front_is, whole_is}
+use Rattle.script_run.proofs.Played.{lines_text-push, front_is, AreFirstLines-next}
 use Rattle.script_run.proofs.playing.step_all.Goals as goal
 
 pub step-requires : goal.step-requires
-step-requires c =
-    let lines = c.args.lines.now in
-    let i = c.loop-line.line-index in
-    let l = c.line-item.result in
-    let whole : (c.loop-line.world.lines ++ l ∷ []) ++ drop (i + 1) lines ≡ lines =
-    ap (λ (front : List Line). (front ++ l ∷ []) ++ drop (i + 1) lines) c.loop-line.invariant.1 ∙ whole_is lines i l c.loop-line-test.true c.line-item.is in
-    record {
-      first = λ unspent. record {
-        rest = drop (i + 1) lines;
-        script = subst IsScript (sym whole) c.requires.script;
-        few = subst (λ (ls : List Line). length ls ≤ SCRIPT_LINES) (sym whole) c.requires.few;
-        setup_is = c.loop-line.invariant.0 ∙ ap setup_of (sym whole);
-      };
-    }
+step-requires c = record {
+  first = λ unspent. AreFirstLines-next c.loop-line.world.setup c.args.lines.now c.loop-line.world.lines c.loop-line.line-index c.line-item.result c.requires.script c.requires.few c.loop-line.invariant.0 c.loop-line.invariant.1 c.loop-line-test.true c.line-item.is;
+}
 
 pub loop-line-preserved : goal.loop-line-preserved
 loop-line-preserved c =
