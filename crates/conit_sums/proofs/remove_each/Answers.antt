@@ -8,10 +8,9 @@ pub overflow_sub-index_mut : goal.overflow_sub-index_mut
 overflow_sub-index_mut c =
     let i = c.loop-weight.weight-index in
     let conit = (get_or c.args.weights.now i no_weight).conit in
-    let held : conit < length c.loop-weight.sums.items = omega (arith, c.requires.conits i no_weight c.loop-weight-test.true) in
     omega (
       arith,
-      read_at c.loop-weight.sums.items conit c.index_mut.result.now held c.index_mut.ensures.value,
+      read_at c.loop-weight.sums.items conit c.index_mut.result.now (omega (arith, c.requires.conits i no_weight c.loop-weight-test.true)) c.index_mut.ensures.value,
       c.loop-weight.invariant.sums conit,
       c.requires.held conit,
       write_sum-next c.args.summed c.args.weights.now i no_weight c.loop-weight-test.true,
