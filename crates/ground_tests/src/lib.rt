@@ -5,11 +5,15 @@
 #[cfg(test)]
 mod budgets;
 #[cfg(test)]
+mod drawn_budgets;
+#[cfg(test)]
 mod lists;
 #[cfg(test)]
 mod message_ranges;
 #[cfg(test)]
 mod numbers;
+#[cfg(test)]
+mod opened;
 #[cfg(test)]
 mod orders;
 #[cfg(test)]

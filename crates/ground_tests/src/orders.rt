@@ -8,6 +8,7 @@ use commit_order::Ordered;
 use std::process::Abort;
 use std::test::Fail;
 use tact_base::{Op, Place, Weights, Write};
+use test_draws::{below, next};
 
 // Two writes with one stamp and one with a later stamp, all with one index, in order.
 fn batch(first: u64, last: u64, index: u64) -> Result<[Write; 3], Fail>
@@ -34,13 +35,6 @@ fn write(stamp: u64, origin: u32, index: u64) -> Result<Write, Fail>
         weights: Weights::new(&[])?,
         op: Op::Put { key: 1, value: 5 },
     })
-}
-
-// A number that looks random, from the one before.
-fn next(number: u64) -> u64 {
-    number
-        .wrapping_mul(6_364_136_223_846_793_005)
-        .wrapping_add(1_442_695_040_888_963_407)
 }
 
 // Puts the places of writes into a list of places in order.
@@ -72,12 +66,13 @@ fn batches_go_in_one_by_one(rt: HostRuntime) -> Result<(), Fail> {
     let mut point = 0;
     for index in 0..60 {
         number = next(number);
-        let first = point + 1 + (number >> 33) % 9;
-        let writes = batch(first, first + 1 + (number >> 43) % 9, index)?;
+        let first = point + 1 + u64::from(below(number, 33, 9));
+        let last = first + 1 + u64::from(below(number, 43, 9));
+        let writes = batch(first, last, index)?;
         ordered.reserve(3)?;
         ordered.insert_all(&writes);
         put(&mut places, &writes)?;
-        point += (number >> 53) % 3;
+        point += u64::from(below(number, 53, 3));
         ordered.commit_to(point);
         assert_places(&rt, &ordered, point, &places);
     }
