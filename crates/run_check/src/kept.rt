@@ -6,7 +6,7 @@ ghost use Rattle.run_check.specs.Keeping.{write_at, whole_of, IsPlaced, HasGrown
 
 use run_model::Message;
 use std::alloc::Global;
-use tact_base::{HISTORY_MAX, Items, NoMemory, SharedWrites, Write, WriteList};
+use tact_base::{HISTORY_MAX, Items, NoMemory, SharedWrites, Weight, Write, WriteList};
 
 /// A spot of a table of writes: where one write can stand.
 #[derive(Clone, Copy, Debug)]
@@ -30,7 +30,28 @@ pub(crate) struct Kept {
 fn are_same(one: &Write, other: &Write) -> bool
     ensures { IsTrue result → one.now ≡ other.now }
 {
-    one == other
+    one.stamp == other.stamp
+        && one.origin == other.origin
+        && one.index == other.index
+        && one.moment == other.moment
+        && one.op == other.op
+        && are_same_weights(one.weights.items(), other.weights.items())
+}
+
+// Whether two lists have the same weights. They are short, and compared item by item, which costs less than what compares
+// slices of any length.
+fn are_same_weights(ones: &[Weight], others: &[Weight]) -> bool
+    ensures { IsTrue result → ones.now ≡ others.now }
+{
+    if ones.len() != others.len() {
+        return false;
+    }
+    for place in 0..ones.len() {
+        if ones[place] != others[place] {
+            return false;
+        }
+    }
+    true
 }
 
 /// Puts an item at the end of the list at a place. `NoMemory` leaves the lists as they were.
