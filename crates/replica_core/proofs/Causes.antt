@@ -1,5 +1,5 @@
 -- A waiting reply that is due names its cause.
-use Rattle.std.proofs.Common.{◌≡◌, ℕ, ◌+◌, ◌<◌, ◌≤◌, ◌==◌, nat_le, nat_lt, Bool, true, false, cond, ℤ, pos, negsuc, unsigned_abs, List, [], ◌∷◌, map, sum_by, Contains, Option, None, Some, unwrap_or, refl, subst, ⊎_elim, arith}
+use Rattle.std.proofs.Common.{◌≡◌, ℕ, ◌+◌, ◌<◌, ◌≤◌, ◌==◌, nat_le, nat_lt, Bool, true, false, cond, ℤ, pos, negsuc, unsigned_abs, List, [], ◌∷◌, map, sum_by, Contains, Option, None, Some, unwrap_or, refl, subst, ⊎_elim, arith, sym}
 use Rattle.std.specs.List.{flat_map}
 use Rattle.std.proofs.lemmas.Bool.{cases_lt, leb-true, leb-false, ltb-true, ltb-false, eqb-true}
 use Rattle.std.proofs.lemmas.List.Elements.{All-contains, filter_passes}
@@ -7,6 +7,7 @@ use Rattle.std.proofs.lemmas.List.Sums.{sum_by-cons}
 use Rattle.std.proofs.lemmas.Option.{same_Some}
 use Rattle.tact_base.proofs.ElementLemmas.{Contains-first, Contains-later, Contains-from_flat_map, Contains-from_filter}
 use Rattle.tact_base.proofs.Peers.{All-peers}
+use Rattle.tact_base.proofs.SetupLemmas.{HasCounts-from_IsSetup}
 use Rattle.tact_base.specs.Setup.{Setup, peers_of}
 use Rattle.tact_base.specs.Sums.{above_zero, below_zero, weights_on}
 use Rattle.tact_base.specs.declared.conit_list.Weight.{Weight}
@@ -14,6 +15,7 @@ use Rattle.tact_base.specs.declared.fit.Fit.TheVariants as fit
 use Rattle.tact_base.specs.declared.conit_list.Need.{Need}
 use Rattle.tact_base.specs.declared.write.Op.{Op}
 use Rattle.tact_base.specs.declared.write.Write.{Write}
+use Rattle.run_model.specs.Histories.{moment_at}
 use Rattle.run_model.specs.Loans.{share}
 use Rattle.run_model.specs.Missing.{maybe_missed, missing_plus, missing_minus, greater_missing, reserved}
 use Rattle.run_model.specs.Order.{value, image}
@@ -26,6 +28,7 @@ use Rattle.run_model.specs.declared.entry.Entry.{Entry}
 use Rattle.run_promises.proofs.FirstReplies.{first_some-from}
 use Rattle.replica_core.proofs.ReadCauses.{need_names}
 use Rattle.replica_core.specs.Calling.{on_side_of, on_greater_side, CountsAgainst, WaitsForPeer, NamesCause}
+use Rattle.replica_core.specs.States.{Core, IsKept}
 
 -- a sum that isn't 0 has an item that isn't
 some_above : {X : Type 0} (amount : X → ℕ) (xs : List X)
@@ -177,3 +180,12 @@ module _ (setup : Setup) (replica : ℕ) (part : List Entry) (moment : ℕ) wher
       go (Some given) is =
           let by_need = first_some-from (need_refusal setup replica part moment) needs given is in
           need_names setup replica part moment among many (request.Read key needs) by_need.0 given by_need.2
+
+-- so a reply that is the due one names its cause
+pub cause_named : (core : Core) (part : List Entry) (handed : ℕ) (asked : Request) (given : Reply)
+    → IsKept core
+    → given ≡ reply_of core.setup core.replica part (moment_at part handed) asked
+    → NamesCause core.setup core.replica part (moment_at part handed) asked given
+cause_named core part handed asked given kept due =
+    subst (NamesCause core.setup core.replica part (moment_at part handed) asked) (sym due)
+    (reply_names_cause core.setup core.replica part (moment_at part handed) kept.places.among (HasCounts-from_IsSetup core.setup kept.setup).replicas_low asked)
