@@ -21,6 +21,6 @@ returns-clause-ok c =
     subst (λ (o : Option (List Spot)). IfSome o (λ spots. map (write_at c.spots_of.new.written.items) spots ≡ map Some c.items.result.now)) c.in-Ok-Some.field-0-is c.in-Ok-Some.ensures.ok
     ∙ ap (map Some) c.items.ensures in
     let at = filter_map (write_at c.spots_of.new.written.items) c.in-Ok-Some.spots in
-    ap (λ (own : List Write). record c.args.message { writes = at ++ own }) c.new-2.ensures
+    ap (λ (own : List Write). record c.args.message { writes = at ++ own }) (c.in_ok-message.ensures ∙ c.new-2.ensures)
     ∙ ap (λ (writes : List Write). record c.args.message { writes = writes })
     (append-nil at ∙ spots_give c.spots_of.new.written.items c.in-Ok-Some.spots c.args.message.writes found)
