@@ -26,6 +26,7 @@ pub mod TakenParts
 pub mod ToldNumbers
 pub mod Taken
 pub mod FitLemmas
+pub mod FrontCounts
 pub mod DroppedParts
 pub mod DroppedLemmas
 pub mod TrimmedStands

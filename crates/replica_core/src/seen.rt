@@ -113,6 +113,9 @@ impl Seen {
         requires { self.old.point ≤ stamp }
         ensures { self.new ≡ record self.old { point = stamp } }
     {
+        if stamp == self.ordered.point() {
+            return;
+        }
         let before = self.ordered.committed().len();
         let count = self.ordered.commit_to(stamp);
         self.image.commit(count);

@@ -3,10 +3,10 @@ ghost use Rattle.std.specs.Vec.{vec_capacity};
 ghost use Rattle.tact_base.specs.Images.{image_from, ops_of};
 ghost use Rattle.rollback_apply.specs.Image.{base_of, value_in, value_before};
 
-use crate::layers::{Layers, drop_front};
+use crate::layers::Layers;
 use std::alloc::Global;
 use std::marker::Model;
-use tact_base::{NoMemory, Op, Write};
+use tact_base::{NoMemory, Op, Write, drop_front};
 
 /// What keys hold after operations in order, of which a front is committed and never moves. The committed ones are
 /// kept as values alone, each tentative one with an undo, what its keys held before it. Contracts see how many are

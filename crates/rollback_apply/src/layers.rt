@@ -13,7 +13,7 @@ use crate::recent::Recent;
 use crate::values::{Values, apply_all, entries_for, value_of};
 use std::alloc::Global;
 use std::collections::HashMap;
-use tact_base::{NoMemory, Op};
+use tact_base::{NoMemory, Op, drop_front};
 
 /// What undoes an operation.
 #[derive(Clone, Copy, Debug)]
@@ -240,16 +240,4 @@ fn set_places(recent: &mut Recent, undo: Undo, values: KeyValues)
 {
     recent.set(undo.first, values.first);
     recent.set(undo.second, values.second);
-}
-
-/// Drops the first `count` items of a list; the memory stays. Takes no memory.
-pub fn drop_front<T: Copy>(list: &mut Vec<T>, count: usize)
-    requires { count ≤ vec_len list.old }
-    ensures items { list.new.items ≡ drop count list.old.items }
-    ensures len { vec_len list.new + count ≡ vec_len list.old }
-    ensures capacity { vec_capacity list.new ≡ vec_capacity list.old }
-{
-    let left = list.len() - count;
-    list.copy_within(count.., 0);
-    list.truncate(left);
 }

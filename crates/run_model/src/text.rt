@@ -5,11 +5,10 @@ ghost use Rattle.run_model.specs.Call.{is_waiting};
 ghost use Rattle.run_model.specs.Text.{spaced, BeginsWith, weight_token, need_token, op_tokens, request_tokens, reply_tokens, act_tokens, entry_text};
 
 use crate::tokens::{
-    all_or_nothing, put_at, put_number, put_numbers, put_part, put_row, put_signed,
-    put_signed_part, put_sums, put_token,
+    all_or_nothing, put_at, put_change, put_numbers, put_row, put_signed, put_sums, put_token,
 };
 use crate::{Act, Entry, Reply, Request};
-use tact_base::{Bytes, Need, NoMemory, Op, Weight};
+use tact_base::{Bytes, Need, NoMemory, Op, ShortText, Weight};
 
 /// Appends the line of an entry, with its line feed. `NoMemory` leaves `out` as it was.
 pub fn line_of(entry: &Entry, out: &mut Bytes) -> Result<(), NoMemory>
@@ -25,8 +24,11 @@ fn print_entry(entry: &Entry, out: &mut Bytes) -> Result<(), NoMemory>
     ensures ok { OnOk result (out.new ≡ out.old ++ entry_text entry.now ++ 10 ∷ []) }
     ensures err { OnErr result (BeginsWith out.old out.new) }
 {
-    out.append(b"e")?;
-    put_numbers(&[u64::from(entry.replica), entry.moment], out)?;
+    let mut text = ShortText::new();
+    text.put_marked(b' ', entry.moment);
+    text.put_marked(b' ', u64::from(entry.replica));
+    text.put(b'e');
+    out.append(text.bytes())?;
     print_act(&entry.act, out)?;
     out.push(b'\n')
 }
@@ -189,14 +191,8 @@ fn print_op(op: &Op, out: &mut Bytes) -> Result<(), NoMemory>
     ensures err { OnErr result (BeginsWith out.old out.new) }
 {
     match op {
-        Op::Put { key, value } => {
-            put_row(b"put", &[*key], out)?;
-            put_signed(*value, out)
-        }
-        Op::Add { key, delta } => {
-            put_row(b"add", &[*key], out)?;
-            put_signed(*delta, out)
-        }
+        Op::Put { key, value } => { put_change(b"put", *key, *value, out) }
+        Op::Add { key, delta } => { put_change(b"add", *key, *delta, out) }
         Op::Shift { from, to, amount } => put_row(b"shift", &[*from, *to, *amount], out),
     }
 }
@@ -215,9 +211,11 @@ fn print_weight(weight: &Weight, out: &mut Bytes) -> Result<(), NoMemory>
     ensures ok { OnOk result (out.new ≡ out.old ++ spaced (weight_token weight.now ∷ [])) }
     ensures err { OnErr result (BeginsWith out.old out.new) }
 {
-    put_number(u64::from(weight.conit), out)?;
-    put_signed_part(weight.nweight, out)?;
-    put_part(weight.oweight, out)
+    let mut text = ShortText::new();
+    text.put_marked(b':', weight.oweight);
+    text.put_marked_signed(b':', weight.nweight);
+    text.put_marked(b' ', u64::from(weight.conit));
+    out.append(text.bytes())
 }
 
 fn print_needs(needs: &[Need], out: &mut Bytes) -> Result<(), NoMemory>
@@ -234,8 +232,10 @@ fn print_need(need: &Need, out: &mut Bytes) -> Result<(), NoMemory>
     ensures ok { OnOk result (out.new ≡ out.old ++ spaced (need_token need.now ∷ [])) }
     ensures err { OnErr result (BeginsWith out.old out.new) }
 {
-    put_number(u64::from(need.conit), out)?;
-    put_part(need.num, out)?;
-    put_part(need.order, out)?;
-    put_part(need.stale, out)
+    let mut text = ShortText::new();
+    text.put_marked(b':', need.stale);
+    text.put_marked(b':', need.order);
+    text.put_marked(b':', need.num);
+    text.put_marked(b' ', u64::from(need.conit));
+    out.append(text.bytes())
 }

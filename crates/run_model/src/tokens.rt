@@ -1,11 +1,11 @@
 //! Tokens, appended to a text with a space before each. Where one of these calls fails, the text still
 //! begins with what it was.
 
-ghost use Rattle.std.specs.Prelude.{◌≡◌, ◌++◌, ◌∷◌, [], map, take, decimal, OnOk, OnErr};
+ghost use Rattle.std.specs.Prelude.{◌≡◌, ◌+◌, ◌*◌, ◌≤◌, ◌++◌, ◌∷◌, [], length, map, take, decimal, OnOk, OnErr};
 ghost use Rattle.std.specs.Fmt.{signed_decimal};
 ghost use Rattle.run_model.specs.Text.{spaced, BeginsWith};
 
-use tact_base::{Bytes, NoMemory, print_marked, print_number};
+use tact_base::{Bytes, NoMemory, ShortText};
 
 /// Hands on how appending to `out` ended, and takes back what was appended since `start` if it failed.
 pub fn all_or_nothing(
@@ -23,13 +23,55 @@ pub fn all_or_nothing(
     done
 }
 
+// What a row has at most to be put together before it is appended.
+const ROW_NUMBERS: usize = 4;
+
+const ROW_WORD: usize = 16;
+
 /// Appends a word and numbers, with a space before each.
 pub fn put_row(word: &[u8], numbers: &[u64], out: &mut Bytes) -> Result<(), NoMemory>
     ensures ok { OnOk result (out.new ≡ out.old ++ spaced (word.now ∷ map decimal numbers.now)) }
     ensures err { OnErr result (BeginsWith out.old out.new) }
 {
-    put_token(word, out)?;
-    put_numbers(numbers, out)
+    if word.len() > ROW_WORD || numbers.len() > ROW_NUMBERS {
+        put_token(word, out)?;
+        return put_numbers(numbers, out);
+    }
+    let mut row = ShortText::new();
+    add_numbers(&mut row, numbers);
+    row.put_word(b' ', word);
+    out.append(row.bytes())
+}
+
+// Puts numbers, with a space before each.
+fn add_numbers(row: &mut ShortText, numbers: &[u64])
+    requires { 21 * length numbers.now ≤ row.old.room }
+    ensures items { row.new.items ≡ spaced (map decimal numbers.now) ++ row.old.items }
+    ensures room { row.old.room ≤ row.new.room + 21 * length numbers.now }
+{
+    let mut left = numbers.len();
+    while left > 0 {
+        left -= 1;
+        row.put_marked(b' ', numbers[left]);
+    }
+}
+
+/// Appends a word, a key, and a number with its sign, with a space before each.
+pub(crate) fn put_change(
+    word: &[u8],
+    key: u64,
+    number: i64,
+    out: &mut Bytes,
+) -> Result<(), NoMemory>
+    requires { length word.now ≤ 16 }
+    ensures ok { OnOk result (out.new ≡ out.old ++ spaced (word.now ∷ decimal key ∷ signed_decimal number ∷ [])) }
+    ensures err { OnErr result (BeginsWith out.old out.new) }
+{
+    let mut row = ShortText::new();
+    row.put_marked_signed(b' ', number);
+    row.put_marked(b' ', key);
+    row.put_word(b' ', word);
+    out.append(row.bytes())
 }
 
 // A reply's name, what it is about, and its numbers.
@@ -82,41 +124,16 @@ pub fn put_number(number: u64, out: &mut Bytes) -> Result<(), NoMemory>
     ensures ok { OnOk result (out.new ≡ out.old ++ 32 ∷ decimal number) }
     ensures err { OnErr result (BeginsWith out.old out.new) }
 {
-    print_marked(out, b' ', number)
+    let mut text = ShortText::new();
+    text.put_marked(b' ', number);
+    out.append(text.bytes())
 }
 
 pub(crate) fn put_signed(number: i64, out: &mut Bytes) -> Result<(), NoMemory>
     ensures ok { OnOk result (out.new ≡ out.old ++ 32 ∷ signed_decimal number) }
     ensures err { OnErr result (BeginsWith out.old out.new) }
 {
-    put_marked_signed(b' ', number, out)
-}
-
-// A further number of a weight or a need, behind a colon.
-pub(crate) fn put_part(number: u64, out: &mut Bytes) -> Result<(), NoMemory>
-    ensures ok { OnOk result (out.new ≡ out.old ++ 58 ∷ decimal number) }
-    ensures err { OnErr result (BeginsWith out.old out.new) }
-{
-    print_marked(out, b':', number)
-}
-
-// The same with a sign.
-pub(crate) fn put_signed_part(number: i64, out: &mut Bytes) -> Result<(), NoMemory>
-    ensures ok { OnOk result (out.new ≡ out.old ++ 58 ∷ signed_decimal number) }
-    ensures err { OnErr result (BeginsWith out.old out.new) }
-{
-    put_marked_signed(b':', number, out)
-}
-
-// Appends a byte, and behind it a number with its sign.
-fn put_marked_signed(mark: u8, number: i64, out: &mut Bytes) -> Result<(), NoMemory>
-    ensures ok { OnOk result (out.new ≡ out.old ++ mark ∷ signed_decimal number) }
-    ensures err { OnErr result (BeginsWith out.old out.new) }
-{
-    if number < 0 {
-        out.append(&[mark, b'-'])?;
-        print_number(out, number.unsigned_abs())
-    } else {
-        print_marked(out, mark, number as u64)
-    }
+    let mut text = ShortText::new();
+    text.put_marked_signed(b' ', number);
+    out.append(text.bytes())
 }

@@ -13,6 +13,7 @@ mod numbers;
 mod roomy_list;
 mod setup;
 mod shared_list;
+mod short_text;
 mod slowest;
 mod sums;
 mod tokens;
@@ -32,10 +33,11 @@ pub use limits::{
     LINE_MAX, LIST_MAX, MESSAGE_WRITES, MOMENT_MAX, REPLICAS_MAX, REPLICAS_MIN, SCRIPT_LINES,
     STAMP_MAX, SUMMED_WRITES, VALUE_MAX, WEIGHT_MAX,
 };
-pub use numbers::{NumberFault, print_marked, print_number, print_signed, read_number};
-pub use roomy_list::RoomyList;
+pub use numbers::{NumberFault, print_number, print_signed, read_number};
+pub use roomy_list::{RoomyList, drop_front};
 pub use setup::ConfigFault;
 pub use shared_list::SharedList;
+pub use short_text::ShortText;
 pub use slowest::{Slowest, slowest_of};
 pub use sums::sum_on;
 pub use tokens::{TokenFault, whole_number, whole_signed};

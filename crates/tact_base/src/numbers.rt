@@ -3,7 +3,7 @@ ghost use Rattle.std.specs.Fmt.{signed_decimal};
 ghost use Rattle.tact_base.specs.Numbers.{ReadsNumber};
 
 use crate::{Bytes, NoMemory};
-use itoa::{Buffer, write_digits};
+use itoa::Buffer;
 
 /// Why no number was read.
 #[derive(Clone, Copy, Debug, PartialEq, Eq)]
@@ -70,18 +70,4 @@ pub fn print_signed(out: &mut Bytes, value: i64) -> Result<(), NoMemory>
     let mut buffer = Buffer::new();
     let text = buffer.format(value);
     out.append(text.as_bytes())
-}
-
-// Room for a byte and the digits of the greatest u64.
-const MARKED_LEN: usize = 21;
-
-/// Appends a byte, and behind it the decimal text of `value`. `NoMemory` leaves `out` as it was.
-pub fn print_marked(out: &mut Bytes, mark: u8, value: u64) -> Result<(), NoMemory>
-    ensures ok { OnOk result (out.new ≡ out.old ++ mark ∷ decimal value) }
-    ensures err { OnErr result (out.new ≡ out.old) }
-{
-    let mut text = [0; MARKED_LEN];
-    let start = write_digits(value, &mut text, MARKED_LEN) - 1;
-    text[start] = mark;
-    out.append(&text[start..])
 }

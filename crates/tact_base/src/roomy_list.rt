@@ -1,5 +1,6 @@
-ghost use Rattle.std.specs.Prelude.{◌≡◌, ◌+◌, ◌<◌, ◌≤◌, [], ◌∷◌, ◌++◌, OnOk, OnErr, IsOk, length, insert, drop};
+ghost use Rattle.std.specs.Prelude.{◌≡◌, ◌+◌, ◌<◌, ◌≤◌, [], ◌∷◌, ◌++◌, OnOk, OnErr, IsOk, length, vec_len, insert, drop};
 ghost use Rattle.std.specs.Borrow.{sem};
+ghost use Rattle.std.specs.Vec.{vec_capacity};
 ghost use Rattle.tact_base.specs.RoomyLends.{lends_items};
 
 use crate::NoMemory;
@@ -88,15 +89,6 @@ impl<T: Drop> RoomyList<T> {
             unreachable!();
         }
     }
-
-    /// Drops the first `count` items. Takes no memory.
-    pub fn drop_front(&mut self, count: usize)
-        requires { count ≤ length self.old.items }
-        ensures items { self.new.items ≡ drop count self.old.items }
-        ensures room { self.old.room ≤ self.new.room }
-    {
-        drop(self.items.drain(..count));
-    }
 }
 
 impl<T: Copy> RoomyList<T> {
@@ -110,4 +102,25 @@ impl<T: Copy> RoomyList<T> {
             unreachable!();
         }
     }
+
+    /// Drops the first `count` items. Takes no memory.
+    pub fn drop_front(&mut self, count: usize)
+        requires { count ≤ length self.old.items }
+        ensures items { self.new.items ≡ drop count self.old.items }
+        ensures room { self.old.room ≤ self.new.room }
+    {
+        drop_front(&mut self.items, count);
+    }
+}
+
+/// Drops the first `count` items of a list; the memory stays. Takes no memory.
+pub fn drop_front<T: Copy>(list: &mut Vec<T>, count: usize)
+    requires { count ≤ vec_len list.old }
+    ensures items { list.new.items ≡ drop count list.old.items }
+    ensures len { vec_len list.new + count ≡ vec_len list.old }
+    ensures capacity { vec_capacity list.new ≡ vec_capacity list.old }
+{
+    let left = list.len() - count;
+    list.copy_within(count.., 0);
+    list.truncate(left);
 }

@@ -1,5 +1,5 @@
 //! A message that a replica takes.
-ghost use Rattle.std.specs.Prelude.{◌≡◌, ◌≢◌, ◌==◌, ◌+◌, ◌-◌, ◌*◌, ◌<◌, ◌≤◌, max, true, false, ℕ, List, ◌++◌, All, map, take, drop, filter, length, slice_index, slice_index_or, slice_set, OnOk, OnErr, IfErr, if◌then◌else◌};
+ghost use Rattle.std.specs.Prelude.{◌≡◌, ◌≢◌, ◌==◌, ◌+◌, ◌-◌, ◌*◌, ◌<◌, ◌≤◌, max, true, false, ℕ, List, ◌++◌, All, map, take, drop, length, slice_index, slice_index_or, slice_set, OnOk, OnErr, IfErr, if◌then◌else◌};
 ghost use Rattle.std.specs.List.{flat_map, range_with_len};
 ghost use Rattle.std.specs.List.Sorted.{IsStrictlySortedBy};
 ghost use Rattle.tact_base.specs.WriteOrder.{write_cmp};
@@ -222,16 +222,22 @@ fn told_of(message: &Message, start: usize, origin: u32) -> &[Write]
     requires placed { take (length (told_writes message.now origin)) (drop start message.now.writes) ≡ told_writes message.now origin }
     ensures { result.now ≡ told_writes message.now origin }
 {
-    let writes = message.writes.items();
-    let end = start + count_of(writes, origin);
-    &writes[start..end]
+    let rest = &message.writes.items()[start..];
+    &rest[..count_in_front(rest, origin)]
 }
 
-// How many of the writes are of the origin.
-fn count_of(writes: &[Write], origin: u32) -> usize
-    ensures { result ≡ length (filter (λ write. write.origin == origin) writes.now) }
+// How many writes in front are of the origin.
+fn count_in_front(writes: &[Write], origin: u32) -> usize
+    ensures within { result ≤ length writes.now }
+    ensures front { (k : ℕ) → k < result → (slice_index writes.now k).origin ≡ origin }
+    ensures behind { result < length writes.now → (slice_index writes.now result).origin ≢ origin }
 {
-    writes.iter().filter(|write| write.origin == origin).count()
+    for (place, write) in writes.iter().enumerate() {
+        if write.origin != origin {
+            return place;
+        }
+    }
+    writes.len()
 }
 
 // How many writes of each origin the sender has.
