@@ -8,7 +8,7 @@ ghost use Rattle.split_budget.specs.OwnWrites.{no_writes, IsOther, missed_by, ha
 use crate::missed::{Missed, Row};
 use std::alloc::Global;
 use std::marker::Model;
-use tact_base::{Few, NoMemory, RoomyList, Weight};
+use tact_base::{Few, NoMemory, RoomyQueue, Weight};
 
 /// The own writes of a replica that some peer may miss, and of each peer the sums of what it may miss.
 /// Contracts see the writes; the sums are kept beside them.
@@ -17,7 +17,7 @@ pub(crate) struct OwnWrites {
     replica: u32,
     conits: u32,
     given_up: u64,
-    writes: RoomyList<Row>,
+    writes: RoomyQueue<Row>,
     known: Vec<u64>,
     missed: Vec<Missed>,
 }
@@ -53,7 +53,7 @@ impl OwnWrites {
             replica,
             conits,
             given_up: 0,
-            writes: RoomyList::new(alloc),
+            writes: RoomyQueue::new(alloc),
             known: vec![in alloc; 0; replicas as usize]?,
             missed: nothing_missed(alloc, replicas, conits)?,
         })

@@ -11,6 +11,7 @@ mod laws;
 mod limits;
 mod numbers;
 mod roomy_list;
+mod roomy_queue;
 mod setup;
 mod shared_list;
 mod short_text;
@@ -35,6 +36,7 @@ pub use limits::{
 };
 pub use numbers::{NumberFault, print_number, print_signed, read_number};
 pub use roomy_list::{RoomyList, drop_front};
+pub use roomy_queue::RoomyQueue;
 pub use setup::ConfigFault;
 pub use shared_list::SharedList;
 pub use short_text::ShortText;

@@ -121,6 +121,11 @@ pub fn drop_front<T: Copy>(list: &mut Vec<T>, count: usize)
     ensures capacity { vec_capacity list.new ≡ vec_capacity list.old }
 {
     let left = list.len() - count;
-    list.copy_within(count.., 0);
+    if count < left {
+        list.copy_within(count.., 0);
+    } else {
+        let (front, rest) = list.split_at_mut(count);
+        front[..left].copy_from_slice(rest);
+    }
     list.truncate(left);
 }
