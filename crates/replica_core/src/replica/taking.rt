@@ -1,5 +1,5 @@
 //! A message that a replica takes.
-ghost use Rattle.std.specs.Prelude.{◌≡◌, ◌≢◌, ◌==◌, ◌+◌, ◌-◌, ◌*◌, ◌<◌, ◌≤◌, max, true, false, ℕ, List, ◌++◌, All, map, take, drop, length, slice_index, slice_index_or, slice_set, OnOk, OnErr, IfErr, if◌then◌else◌};
+ghost use Rattle.std.specs.Prelude.{◌≡◌, ◌≢◌, ◌==◌, ◌+◌, ◌-◌, ◌*◌, ◌<◌, ◌≤◌, max, true, false, ℕ, List, ◌++◌, All, map, take, drop, length, slice_get, slice_index, slice_index_or, slice_set, OnOk, OnErr, IfErr, IfSome, if◌then◌else◌};
 ghost use Rattle.std.specs.List.{flat_map, range_with_len};
 ghost use Rattle.std.specs.List.Sorted.{IsStrictlySortedBy};
 ghost use Rattle.tact_base.specs.WriteOrder.{write_cmp};
@@ -229,8 +229,8 @@ fn told_of(message: &Message, start: usize, origin: u32) -> &[Write]
 // How many writes in front are of the origin.
 fn count_in_front(writes: &[Write], origin: u32) -> usize
     ensures within { result ≤ length writes.now }
-    ensures front { (k : ℕ) → k < result → (slice_index writes.now k).origin ≡ origin }
-    ensures behind { result < length writes.now → (slice_index writes.now result).origin ≢ origin }
+    ensures front { All (λ write. write.origin ≡ origin) (take result writes.now) }
+    ensures behind { IfSome (slice_get writes.now result) (λ write. write.origin ≢ origin) }
 {
     for (place, write) in writes.iter().enumerate() {
         if write.origin != origin {
