@@ -40,7 +40,7 @@ use Rattle.run_promises.proofs.LoansAgree.{LoansAgree}
 use Rattle.run_promises.proofs.SharesWrites.{first_some-none}
 use Rattle.run_promises.proofs.NumErrors.{num_error-within}
 use Rattle.tact_base.proofs.Peers.{All-kept, All-peers}
-use Rattle.run_promises.proofs.Quiet.{quiet-num_error, quiet-order_error, quiet-unseen_by}
+use Rattle.run_promises.proofs.IdleEntries.{idle-num_error, idle-order_error, idle-unseen_by}
 
 -- whether a reply is a value
 abbrev is_value : Reply → Bool
@@ -223,9 +223,9 @@ module _ (setup : Setup) (history : List Entry) (entry : Entry) (sound : Sound s
       → IsMet setup history reader entry.moment need
       → IsMet setup (history ++ entry ∷ []) reader entry.moment need
   IsMet-after need met = record {
-    num = rw (quiet-num_error setup history entry accepts takes reader need.conit) met.num;
-    order = rw (quiet-order_error setup history entry accepts takes reader need.conit) met.order;
-    stale = λ misses. met.stale (subst (Any (λ (w : Write). w.moment < wanted_moment entry.moment need)) (quiet-unseen_by setup history entry accepts takes reader) misses);
+    num = rw (idle-num_error setup history entry accepts takes reader need.conit) met.num;
+    order = rw (idle-order_error setup history entry accepts takes reader need.conit) met.order;
+    stale = λ misses. met.stale (subst (Any (λ (w : Write). w.moment < wanted_moment entry.moment need)) (idle-unseen_by setup history entry accepts takes reader) misses);
   }
 
   meets : (key : ℕ) (needs : List Need) (answer : ℤ) (sums : List ℤ)

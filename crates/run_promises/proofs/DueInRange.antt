@@ -22,7 +22,7 @@ use Rattle.run_model.specs.declared.entry.Message.{Message}
 use Rattle.run_model.proofs.PrefixLemmas.{IsPrefix-take, IsPrefix-filter, IsPrefix-length}
 use Rattle.run_model.proofs.PartLemmas.{sent_by}
 use Rattle.run_model.proofs.SoundMessages.{joined-within}
-use Rattle.run_model.proofs.Placed.{front_is_placed, stretch_has_places}
+use Rattle.run_model.proofs.WritesByOrigin.{front_is_placed, stretch_has_places}
 use Rattle.run_model.proofs.EntriesInRange.{loan_of-most, lent_by-most, returned_by-most}
 use Rattle.run_promises.proofs.PartSound.{PartSound}
 use Rattle.run_promises.proofs.PartViews.{PartSound-log, PartSound-cover}
