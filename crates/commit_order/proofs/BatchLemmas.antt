@@ -49,7 +49,8 @@ with_write-ahead : (write : Write) (held rest : List Write)
     → with_write write (held ++ rest) ≡ with_write write held ++ rest
 with_write-ahead write [] rest before = with_write_first write rest before
 with_write-ahead write (first ∷ held) rest before =
-    elim (comes_before write first) as (λ is. (if is then write ∷ first ∷ (held ++ rest) else first ∷ with_write write (held ++ rest)) ≡ (if is then write ∷ first ∷ held else first ∷ with_write write held) ++ rest) [
+    elim (comes_before write first) as (λ is. (if is then write ∷ first ∷ (held ++ rest) else first ∷ with_write write (held ++ rest))
+    ≡ (if is then write ∷ first ∷ held else first ∷ with_write write held) ++ rest) [
       | true ↦ refl
       | false ↦ ap (λ (l : List Write). first ∷ l) (with_write-ahead write held rest before)
     ]

@@ -123,7 +123,8 @@ in_order_sorted : (writes : List Write)
 in_order_sorted [] sorted = refl
 in_order_sorted (write ∷ writes) sorted =
     ap (with_write write) (in_order_sorted writes (sorted_tail write_cmp write writes sorted))
-    ∙ with_write_first write writes (All-weaker (λ later. write_cmp write later ≡ Less) (λ later. comes_before write later ≡ true) (λ later less. before-from_Less write later less) writes (All-after_first write_cmp write writes sorted))
+    ∙ with_write_first write writes (All-weaker (λ later. write_cmp write later ≡ Less) (λ later. comes_before write later ≡ true)
+    (λ later less. before-from_Less write later less) writes (All-after_first write_cmp write writes sorted))
 
 -- of those held the ones that come before a write are a front
 before_place : (write : Write) (held : List Write)
@@ -228,7 +229,8 @@ in_order-with_writes writes (first ∷ held) sorted new held_sorted =
     λ k d within. All-head (λ other. write_cmp other (get_or writes k d) ≢ Equal) first held (new k d within) in
     let fewer : AreNew writes held = λ k d within. All-tail (λ other. write_cmp other (get_or writes k d) ≢ Equal) first held (new k d within) in
     sym (with_writes-swap writes first held sorted apart
-    (All-weaker (λ later. write_cmp first later ≡ Less) (λ later. comes_before first later ≡ true) (λ later less. before-from_Less first later less) held (All-after_first write_cmp first held held_sorted)))
+    (All-weaker (λ later. write_cmp first later ≡ Less) (λ later. comes_before first later ≡ true) (λ later less. before-from_Less first later less) held
+    (All-after_first write_cmp first held held_sorted)))
     ∙ ap (with_write first) (in_order-with_writes writes held sorted fewer (sorted_tail write_cmp first held held_sorted))
 
 -- what is committed comes before a write past the point
@@ -242,7 +244,8 @@ committed-before point write (first ∷ held) past = go (nat_le first.stamp poin
         → nat_le first.stamp point ≡ early
         → comes_before first write ≡ before
         → length (committed_to point held) ≤ length (filter (λ other. comes_before other write) held)
-        → length (if early then first ∷ committed_to point held else committed_to point held) ≤ length (if before then first ∷ filter (λ other. comes_before other write) held else filter (λ other. comes_before other write) held)
+        → length (if early then first ∷ committed_to point held else committed_to point held)
+        ≤ length (if before then first ∷ filter (λ other. comes_before other write) held else filter (λ other. comes_before other write) held)
     go true true early before rest = omega (arith, rest)
     go true false early before rest = absurd (omega (arith, leb-true first.stamp point early, stamp-le_not_before write first before, past))
     go false true early before rest = omega (arith, rest)

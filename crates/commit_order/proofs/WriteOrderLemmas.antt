@@ -166,7 +166,8 @@ module _ (point : ℕ) (writes : List Write) (sorted : IsSorted write_cmp writes
   pub committed_to-drop : committed_to point (drop k writes) ≡ drop k (committed_to point writes)
   committed_to-drop =
       let p : Write → Bool = λ write. nat_le write.stamp point in
-      let late = All-weaker (λ (write : Write). point < write.stamp) (λ (write : Write). p write ≡ false) (λ write h. lt-leb write.stamp point h) (tentative_past point writes) (All-tentative_past point writes) in
+      let late = All-weaker (λ (write : Write). point < write.stamp) (λ (write : Write). p write ≡ false) (λ write h. lt-leb write.stamp point h)
+      (tentative_past point writes) (All-tentative_past point writes) in
       let early = All-drop (λ (write : Write). p write ≡ true) k (committed_to point writes) (filter_passes p writes) in
       ap (filter p) left ∙ filter-append p front (tentative_past point writes)
       ∙ rw (filter_all p front early, filter_none p (tentative_past point writes) late) (append-nil front)

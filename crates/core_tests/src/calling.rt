@@ -131,8 +131,8 @@ fn held_writes_spend_what_is_reserved(rt: HostRuntime) -> Result<(), Fail> {
     spend_all(&rt, &mut member)
 }
 
-// A negative weight is missed: what is reserved beside it is of either sign. There is room for the first write, and none
-// for the second.
+// A negative weight is missed: what is reserved beside it is of either sign. There is room for the first write, and
+// none for the second.
 fn reserve_beside_a_write(rt: &impl Abort, member: &mut Member) -> Result<(), Fail> {
     member.reserve(1)?;
     let table = [

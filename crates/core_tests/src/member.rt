@@ -10,8 +10,8 @@ use std::process::Abort;
 use std::test::Fail;
 use tact_base::{CLIENTS, NoMemory, Numbers};
 
-/// One replica of a group, with the counts of replicas and of conits of its setup. Members and messages are boxed, since
-/// a box is let go in one step.
+/// One replica of a group, with the counts of replicas and of conits of its setup. Members and messages are boxed,
+/// since a box is let go in one step.
 #[derive(Drop)]
 pub(crate) struct Member {
     alloc: Global,
@@ -45,8 +45,8 @@ impl Member {
         Ok(Box::new(alloc, member)?)
     }
 
-    /// The one with this number of two, on one conit, each of which allows 10, and of which replica 0 and replica 1 lend
-    /// the other so much.
+    /// The one with this number of two, on one conit, each of which allows 10, and of which replica 0 and replica 1
+    /// lend the other so much.
     pub(crate) fn of_two(
         rt: &impl Abort,
         alloc: Global,

@@ -8,7 +8,9 @@ use Rattle.link_faults.specs.declared.plan.LinkPlan.{LinkPlan}
 use Rattle.link_faults.specs.declared.plan.Fate.{Fate}
 use Rattle.link_faults.specs.declared.plan.Fate.TheVariants.{Lost, LostFull, Doubled, Queued}
 use Rattle.link_faults.specs.Plans.{names, fate_of, items_added}
-use Rattle.link_faults.specs.Inboxes.{AddUp, Event, put, next, InboxState, after_event, after_fate, after_next, after_put, counts_of, empty_inbox, fate_due, inbox_after, is_turned, items_put, joined, next_number}
+use Rattle.link_faults.specs.Inboxes.{AddUp, Event, put, next, InboxState, after_event, after_fate, after_next}
+use Rattle.link_faults.specs.Inboxes.{after_put, counts_of, empty_inbox, fate_due, inbox_after, is_turned, items_put}
+use Rattle.link_faults.specs.Inboxes.{joined, next_number}
 
 -- what each step of a fold keeps
 pub fold_keeps : {A B : Type 0} (P : B → Type 0) (f : B → A → B)
@@ -24,7 +26,9 @@ room_due : (plan : LinkPlan) (number waiting : ℕ)
     → waiting ≤ INBOX_MAX
     → waiting + items_added (fate_of plan number waiting) ≤ INBOX_MAX
 room_due plan number waiting within =
-    elim (names plan.lose number) as (λ lost. waiting + items_added (if lost then Lost else if nat_le INBOX_MAX waiting then LostFull else if names plan.double number && nat_le (waiting + 2) INBOX_MAX then Doubled else Queued) ≤ INBOX_MAX) [
+    elim (names plan.lose number) as (λ lost. waiting + items_added (if lost then Lost else if nat_le INBOX_MAX waiting then LostFull
+    else if names plan.double number && nat_le (waiting + 2) INBOX_MAX then Doubled else Queued)
+    ≤ INBOX_MAX) [
       | true ↦ omega arith
       | false ↦ by (nat_le INBOX_MAX waiting) (names plan.double number) (nat_le (waiting + 2) INBOX_MAX) refl refl
     ]

@@ -171,7 +171,8 @@ struct Ended {
     fourth: Stored,
 }
 
-// How many calls a client makes before its steps: what it reserves, and where that is granted a held write and a release.
+// How many calls a client makes before its steps: what it reserves, and where that is granted a held write and a
+// release.
 fn calls_before(granted: bool) -> u64
     ensures { result ≤ 3 }
 {

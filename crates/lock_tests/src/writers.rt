@@ -30,7 +30,7 @@ fn write_often<R: Wait + Abort>(
     indices
 }
 
-// Writes, and gives the index of the write.
+/// Writes, and gives the index of the write.
 pub fn write<R: Wait + Abort>(rt: &R, node: &Node<'_, FreeGate>, session: &mut Session) -> u64
     requires { IsSessionOf node.now session.old }
     ensures { IsSessionOf node.now session.new }
@@ -41,7 +41,7 @@ pub fn write<R: Wait + Abort>(rt: &R, node: &Node<'_, FreeGate>, session: &mut S
     }
 }
 
-// A session of a client that has none.
+/// A session of a client that has none.
 pub fn session(
     rt: &impl Abort,
     node: &Node<'_, FreeGate>,

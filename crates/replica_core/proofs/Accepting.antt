@@ -96,7 +96,8 @@ module _ (part : List Entry) (core : Core) (stands : Stands part core) (places :
         ap (with_write write) stands.writes.seen
         ∙ sym (in_order-one_more (log_of core.replica part) (log_of core.replica further) core.replica write core.setup.replicas places.among
         (log_of-same core.replica further ∙ own-push_some part entry write accepts ∙ ap (λ log. log ++ write ∷ []) (sym (log_of-same core.replica part)))
-        (λ origin other. log_of-other core.replica further origin other ∙ ap (λ (k : OriginState). k.log) (origin_state-push_none part entry origin refl) ∙ sym (log_of-other core.replica part origin other))
+        (λ origin other. log_of-other core.replica further origin other ∙ ap (λ (k : OriginState). k.log) (origin_state-push_none part entry origin refl)
+        ∙ sym (log_of-other core.replica part origin other))
         apart)
 
     -- where what is reserved then is what the definitions say of the part with the call
@@ -131,7 +132,8 @@ module _ (part : List Entry) (core : Core) (stands : Stands part core) (places :
               bases = stands.writes.bases;
               logs = fill_by_all (log_of core.replica further) after.writes.logs core.setup.replicas [] placed.logs_sized logs_are;
               covers = λ origin within other.
-                  cover_at-part part core stands.writes origin within ∙ cover_of-other core.replica part _ origin other ∙ sym (ap (λ (k : OriginState). k.cover) (origin_state-push_none part entry origin refl));
+                  cover_at-part part core stands.writes origin within ∙ cover_of-other core.replica part _ origin other
+                  ∙ sym (ap (λ (k : OriginState). k.cover) (origin_state-push_none part entry origin refl));
               own = cover_at-part part core stands.writes core.replica places.among;
               known = λ peer origin peer_in origin_in. stands.writes.known peer origin peer_in origin_in ∙ sym (known-push_none part entry peer origin refl);
               seen = seen_is;

@@ -1,5 +1,7 @@
 -- A write that goes to the end of its origin's log goes to its place among all writes in order.
-use Rattle.std.proofs.Common.{◌≡◌, ℕ, zero, suc, ◌+◌, ◌*◌, ◌<◌, ◌≤◌, List, [], ◌∷◌, ◌++◌, length, get_or, set, flat_map, All, inl, inr, ◌⊎◌, refl, sym, ap, ap₂, ◌∙◌, subst, ⊎_elim, arith, get_or-set_same, get_or-set_other}
+use Rattle.std.proofs.Common.{◌≡◌, ℕ, zero, suc, ◌+◌, ◌*◌, ◌<◌, ◌≤◌, List, [], ◌∷◌, ◌++◌, length, get_or, set, flat_map}
+use Rattle.std.proofs.Common.{All, inl, inr, ◌⊎◌, refl, sym, ap, ap₂, ◌∙◌, subst, ⊎_elim, arith, get_or-set_same}
+use Rattle.std.proofs.Common.{get_or-set_other}
 use Rattle.std.specs.List.{range_with_len}
 use Rattle.std.proofs.lemmas.Bool.{cases_eq}
 use Rattle.std.proofs.lemmas.List.{append_assoc, append-nil, length-append, length_push, length-set, set-set, set-get_or}
@@ -76,7 +78,8 @@ abbrev pub ArePlaced : ℕ → List (List Write) → List Write → Type 0
 ArePlaced replicas logs seen = All (λ (write : Write). (write.origin < replicas) × (write.index < length (get_or logs write.origin []))) seen
 
 -- The next write of its origin.
-module _ (replicas : ℕ) (logs : List (List Write)) (seen : List Write) (write : Write) (sized : length logs ≡ replicas) (among : write.origin < replicas) (next : write.index ≡ length (get_or logs write.origin []))
+module _ (replicas : ℕ) (logs : List (List Write)) (seen : List Write) (write : Write) (sized : length logs ≡ replicas) (among : write.origin < replicas)
+    (next : write.index ≡ length (get_or logs write.origin []))
     (ordered : seen ≡ in_order (joined replicas logs)) (placed : ArePlaced replicas logs seen) where
   abbrev more : List (List Write)
   more = set logs write.origin (get_or logs write.origin [] ++ write ∷ [])
@@ -106,7 +109,8 @@ module _ (replicas : ℕ) (logs : List (List Write)) (seen : List Write) (write 
 
   longer : (origin : ℕ) → length (get_or logs origin []) ≤ length (get_or more origin [])
   longer origin = ⊎_elim
-      (λ (same : origin ≡ write.origin). omega (arith, ap (λ o. length (get_or logs o [])) same, ap (λ o. length (get_or more o [])) same, ap length log_here, length_push (get_or logs write.origin []) write))
+      (λ (same : origin ≡ write.origin). omega (arith, ap (λ o. length (get_or logs o [])) same, ap (λ o. length (get_or more o [])) same, ap length log_here,
+      length_push (get_or logs write.origin []) write))
       (λ (other : origin ≡ write.origin → ⊥). omega (arith, ap length (log_elsewhere origin other)))
       (cases_eq origin write.origin)
 
@@ -114,7 +118,8 @@ module _ (replicas : ℕ) (logs : List (List Write)) (seen : List Write) (write 
   admitted_placed =
       let P = λ (held : Write). (held.origin < replicas) × (held.index < length (get_or more held.origin [])) in
       let others : All P seen =
-      All-weaker (λ (held : Write). (held.origin < replicas) × (held.index < length (get_or logs held.origin []))) P (λ held stands. (stands.0, omega (arith, stands.1, longer held.origin))) seen placed in
+      All-weaker (λ (held : Write). (held.origin < replicas) × (held.index < length (get_or logs held.origin []))) P
+          (λ held stands. (stands.0, omega (arith, stands.1, longer held.origin))) seen placed in
       All-permutation P (write ∷ seen) (with_write write seen) (IsPermutation-with_write write seen)
       (All-cons P write seen (among, omega (arith, next, ap length log_here, length_push (get_or logs write.origin []) write)) others)
 
@@ -251,6 +256,7 @@ bases-grown replicas bases logs at writes inside held origin within =
     let grown = set logs at (log ++ writes) in
     ⊎_elim
     (λ (same : origin ≡ at).
-    omega (arith, held origin within, ap (λ o. length (get_or logs o [])) same, ap (λ o. length (get_or grown o [])) same, ap length (get_or-set_same logs at (log ++ writes) [] inside), length-append log writes))
+    omega (arith, held origin within, ap (λ o. length (get_or logs o [])) same, ap (λ o. length (get_or grown o [])) same, ap length
+    (get_or-set_same logs at (log ++ writes) [] inside), length-append log writes))
     (λ (other : origin ≡ at → ⊥). omega (arith, held origin within, ap length (get_or-set_other logs at origin (log ++ writes) [] other)))
     (cases_eq origin at)

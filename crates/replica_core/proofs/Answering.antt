@@ -1,5 +1,7 @@
 -- What a replica answers to each request, and what it then stands for.
-use Rattle.std.proofs.Common.{◌≡◌, ℕ, ◌+◌, ◌-◌, ◌<◌, ◌≤◌, nat_lt, max, Bool, true, false, cond, List, [], ◌∷◌, length, get_or, set, unsigned_abs, All, Option, None, Some, unwrap_or, refl, sym, ap, ◌∙◌, subst, arith}
+use Rattle.std.proofs.Common.{◌≡◌, ℕ, ◌+◌, ◌-◌, ◌<◌, ◌≤◌, nat_lt, max, Bool, true, false, cond, List, [], ◌∷◌, length}
+use Rattle.std.proofs.Common.{get_or, set, unsigned_abs, All, Option, None, Some, unwrap_or, refl, sym, ap, ◌∙◌, subst}
+use Rattle.std.proofs.Common.{arith}
 use Rattle.std.proofs.lemmas.Bool.{lt-ltb, le-ltb}
 use Rattle.std.proofs.lemmas.List.Elements.{All-weaker}
 use Rattle.tact_base.specs.Setup.{peers_of}
@@ -85,13 +87,15 @@ module _ (core : Core) (kept : IsKept core) (handed client : ℕ) where
         })
 
     pub write_accepted : first_some (refusal_of core.budgets) weights ≡ None
-        → Answers core (entered (accepted core client (next_write core handed weights op) None) handed) handed client (request.Write weights op) (reply.Done (length (get_or core.writes.logs core.replica [])) (core.writes.clock + 1))
+        → Answers core (entered (accepted core client (next_write core handed weights op) None) handed) handed client (request.Write weights op)
+        (reply.Done (length (get_or core.writes.logs core.replica [])) (core.writes.clock + 1))
     write_accepted none part stands =
         let due : accepts_as part core stands kept.places ≡ reply_of core.setup core.replica part (moment_at part handed) (request.Write weights op) =
         accepts_as-part part core stands kept.places ∙ sym (ap (λ (first : Option Reply). unwrap_or first (done core.replica part)) (sym (refusals part stands) ∙ none)) in (
           due,
           Stands-accepted part core stands kept.places handed client (request.Write weights op) may due weights op refl None
-              (reserved-same core.setup core.replica part (entry part core stands kept.places handed client (request.Write weights op) may _ due) core.budgets stands.budgets refl (λ conit. refl) (λ conit. refl)),
+              (reserved-same core.setup core.replica part (entry part core stands kept.places handed client (request.Write weights op) may _ due) core.budgets
+              stands.budgets refl (λ conit. refl) (λ conit. refl)),
         )
 
   -- Of an amount on a conit that is asked for.
@@ -180,15 +184,18 @@ module _ (core : Core) (kept : IsKept core) (handed client : ℕ) where
     held_refused below = refused (request.Held weight op) may (reply.NotHeld weight.conit held_there size)
         (λ part stands.
         ap (λ (n : ℕ). reply.NotHeld weight.conit n size) (stands.budgets.reserved weight.conit may.in_range.0.conit)
-        ∙ sym (ap (λ (yes : Bool). cond yes (reply.NotHeld weight.conit (reserved part weight.conit) size) (done core.replica part)) (less weight.conit size sized part stands may.in_range.0.conit below)))
+        ∙ sym (ap (λ (yes : Bool). cond yes (reply.NotHeld weight.conit (reserved part weight.conit) size) (done core.replica part))
+        (less weight.conit size sized part stands may.in_range.0.conit below)))
         (λ part stands. record { accepts = λ replica moment. refl; grants = λ conit. refl; uses = λ conit. refl })
 
     pub held_accepted : size ≤ held_there
-        → Answers core (entered (accepted core client (next_write core handed (weight ∷ []) op) (Some weight)) handed) handed client (request.Held weight op) (reply.Done (length (get_or core.writes.logs core.replica [])) (core.writes.clock + 1))
+        → Answers core (entered (accepted core client (next_write core handed (weight ∷ []) op) (Some weight)) handed) handed client (request.Held weight op)
+        (reply.Done (length (get_or core.writes.logs core.replica [])) (core.writes.clock + 1))
     held_accepted covered part stands =
         let due : accepts_as part core stands kept.places ≡ reply_of core.setup core.replica part (moment_at part handed) (request.Held weight op) =
         accepts_as-part part core stands kept.places
-        ∙ sym (ap (λ (yes : Bool). cond yes (reply.NotHeld weight.conit (reserved part weight.conit) size) (done core.replica part)) (enough weight.conit size sized part stands may.in_range.0.conit covered)) in (
+        ∙ sym (ap (λ (yes : Bool). cond yes (reply.NotHeld weight.conit (reserved part weight.conit) size) (done core.replica part))
+        (enough weight.conit size sized part stands may.in_range.0.conit covered)) in (
           due,
           Stands-accepted part core stands kept.places handed client (request.Held weight op) may due (weight ∷ []) op refl (Some weight)
               (reserved-less part core stands kept.places handed client (request.Held weight op) may _ due weight.conit size may.in_range.0.conit sized (λ at. refl) (λ at. refl)),

@@ -48,7 +48,8 @@ flat_map_of_map : (writes : List Write)
 flat_map_of_map [] = refl
 flat_map_of_map (write ∷ writes) = ap (λ (rest : List Weight). write.weights ++ rest) (flat_map_of_map writes)
 
-module _ (setup : Setup) (replica : ℕ) (part : List Entry) (budgets : BudgetState) (stand : BudgetsStand setup replica part budgets) (is_setup : budgets.setup ≡ setup) (is_replica : budgets.replica ≡ replica) where
+module _ (setup : Setup) (replica : ℕ) (part : List Entry) (budgets : BudgetState) (stand : BudgetsStand setup replica part budgets) (is_setup : budgets.setup ≡ setup)
+    (is_replica : budgets.replica ≡ replica) where
   -- Of a peer on a conit.
   module _ (peer conit : ℕ) (peer_in : peer < setup.replicas) (other : peer ≡ replica → ⊥) where
     pub share-part : conit < setup.conits → share budgets peer conit ≡ model.share setup replica part peer conit

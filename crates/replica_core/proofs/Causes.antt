@@ -1,5 +1,7 @@
 -- A waiting reply that is due names its cause.
-use Rattle.std.proofs.Common.{◌≡◌, ℕ, ◌+◌, ◌<◌, ◌≤◌, ◌==◌, nat_le, nat_lt, Bool, true, false, cond, ℤ, pos, negsuc, unsigned_abs, List, [], ◌∷◌, map, sum_by, Contains, Option, None, Some, unwrap_or, refl, subst, ⊎_elim, arith, sym}
+use Rattle.std.proofs.Common.{◌≡◌, ℕ, ◌+◌, ◌<◌, ◌≤◌, ◌==◌, nat_le, nat_lt, Bool, true, false, cond, ℤ, pos, negsuc}
+use Rattle.std.proofs.Common.{unsigned_abs, List, [], ◌∷◌, map, sum_by, Contains, Option, None, Some, unwrap_or, refl}
+use Rattle.std.proofs.Common.{subst, ⊎_elim, arith, sym}
 use Rattle.std.specs.List.{flat_map}
 use Rattle.std.proofs.lemmas.Bool.{cases_lt, leb-true, leb-false, ltb-true, ltb-false, eqb-true}
 use Rattle.std.proofs.lemmas.List.Elements.{All-contains, filter_passes}
@@ -83,7 +85,8 @@ module _ (setup : Setup) (replica : ℕ) (part : List Entry) (moment : ℕ) wher
     fit_names : (heavy holds short : Bool)
         → nat_lt there (held + amount) ≡ holds
         → nat_lt there (missing + held + amount) ≡ short
-        → refused_as conit (cond heavy (fit.TooHeavy peer amount there) (cond holds (fit.WaitHeld peer held amount there) (cond short (fit.WaitShare peer missing held amount there) fit.Fits))) ≡ Some given
+        → refused_as conit (cond heavy (fit.TooHeavy peer amount there)
+        (cond holds (fit.WaitHeld peer held amount there) (cond short (fit.WaitShare peer missing held amount there) fit.Fits))) ≡ Some given
         → NamesCause setup replica part moment asked given
     fit_names true holds short is_held is_short is = subst (NamesCause setup replica part moment asked) (same_Some _ given is) tt
     fit_names false true short is_held is_short is = subst (NamesCause setup replica part moment asked) (same_Some _ given is) tt
@@ -120,7 +123,8 @@ module _ (setup : Setup) (replica : ℕ) (part : List Entry) (moment : ℕ) wher
       let by_weight = first_some-from (weight_refusal setup replica part) weights given is in
       let weight : Weight = by_weight.0 in
       let size = unsigned_abs weight.nweight in
-      let by_peer = first_some-from (λ peer. refusal setup replica part weight.conit peer size (missing_of_sign replica part peer weight.conit weight.nweight)) (peers_of setup replica) given by_weight.2 in
+      let by_peer = first_some-from (λ peer. refusal setup replica part weight.conit peer size (missing_of_sign replica part peer weight.conit weight.nweight))
+      (peers_of setup replica) given by_weight.2 in
       let peer : ℕ = by_peer.0 in
       refusal_names (request.Write weights op) peer weight.conit size (missing_of_sign replica part peer weight.conit weight.nweight) given
       (λ above. waits_for (request.Write weights op) (on_side_of weight.nweight) peer weight.conit by_peer.1

@@ -1,5 +1,8 @@
 -- What is given up after a part that can be: committed writes that each replica is known to have, and no fewer after one more entry.
-use Rattle.std.proofs.Common.{◌≡◌, ℕ, zero, suc, ◌+◌, ◌<◌, ◌≤◌, ◌==◌, nat_lt, not, cond, Bool, true, List, [], ◌∷◌, ◌++◌, map, take, drop, filter, reverse, length, get_or, flat_map, All, Option, None, Some, is_none, refl, sym, ap, ◌∙◌, subst, ⊎_elim, le_of_eq, le_trans, lt_of_lt_of_le, one-add, arith}
+use Rattle.std.proofs.Common.{◌≡◌, ℕ, zero, suc, ◌+◌, ◌<◌, ◌≤◌, ◌==◌, nat_lt, not, cond, Bool, true, List, [], ◌∷◌}
+use Rattle.std.proofs.Common.{◌++◌, map, take, drop, filter, reverse, length, get_or, flat_map, All, Option, None, Some}
+use Rattle.std.proofs.Common.{is_none, refl, sym, ap, ◌∙◌, subst, ⊎_elim, le_of_eq, le_trans, lt_of_lt_of_le, one-add}
+use Rattle.std.proofs.Common.{arith}
 use Rattle.std.specs.List.{prefix_len}
 use Rattle.std.proofs.lemmas.Bool.{cases_eq, eqb-true, ne_eqb, ltb-true, lt-ltb}
 use Rattle.std.proofs.lemmas.List.{reverse-append, reverse-reverse, take-append-le, take-append-drop, length-take-le, length-map, get_or-map, get_or-take}
@@ -263,7 +266,8 @@ module _ (setup : Setup) (replica : ℕ) (part : List Entry) (is_part : IsPart s
 pub dropped-taken : (setup : Setup) (replica : ℕ) (part : List Entry) (entry : Entry) (is_part : IsPart setup replica (part ++ entry ∷ [])) (message : Message)
     → taken_by entry ≡ Some message
     → dropped setup replica (part ++ entry ∷ [])
-    ≡ dropped setup replica part + prefix_len (λ write. nat_lt write.index (known_all setup replica (part ++ entry ∷ []) write.origin)) (drop (dropped setup replica part) (committed setup replica (part ++ entry ∷ [])))
+    ≡ dropped setup replica part + prefix_len (λ write. nat_lt write.index (known_all setup replica (part ++ entry ∷ []) write.origin))
+    (drop (dropped setup replica part) (committed setup replica (part ++ entry ∷ [])))
 dropped-taken setup replica part entry is_part message some =
     let further = part ++ entry ∷ [] in
     let test = λ (write : Write). nat_lt write.index (known_all setup replica further write.origin) in

@@ -40,7 +40,8 @@ abbrev pub entry_of : ℕ → List Entry → ℕ → Act → Entry
 entry_of replica part handed done = record { replica = replica; moment = moment_at part handed; act = done }
 
 -- A replica that stands for a part and isn't full, and an act that is in range and due there.
-module _ (part : List Entry) (core : Core) (stands : Stands part core) (free : is_full core ≡ false) (among : core.replica < core.setup.replicas) (handed : ℕ) (handed_in : handed ≤ MOMENT_MAX) (done : Act) where
+module _ (part : List Entry) (core : Core) (stands : Stands part core) (free : is_full core ≡ false) (among : core.replica < core.setup.replicas) (handed : ℕ)
+    (handed_in : handed ≤ MOMENT_MAX) (done : Act) where
   abbrev entry : Entry
   entry = entry_of core.replica part handed done
 
@@ -75,7 +76,8 @@ module _ (part : List Entry) (core : Core) (stands : Stands part core) (free : i
 module _ (setup : Setup) (replica : ℕ) (part : List Entry) (entry : Entry) (accepts : accepted_in entry ≡ None) (takes : taken_by entry ≡ None) where
   pub log_of-without_write : (origin : ℕ)
       → log_of replica (part ++ entry ∷ []) origin ≡ log_of replica part origin
-  log_of-without_write origin = ap₂ (λ (own_log : List Write) (kept : OriginState). cond (origin == replica) own_log kept.log) (own-push_none part entry accepts) (origin_state-push_none part entry origin takes)
+  log_of-without_write origin =
+      ap₂ (λ (own_log : List Write) (kept : OriginState). cond (origin == replica) own_log kept.log) (own-push_none part entry accepts) (origin_state-push_none part entry origin takes)
 
   pub seen-without_write : seen setup replica (part ++ entry ∷ []) ≡ seen setup replica part
   seen-without_write =

@@ -92,7 +92,8 @@ module _ (seen : List Write) (sorted : IsSorted write_cmp seen) (point : ℕ) wh
         }
 
 -- Writes in order before and after more are put in, none of them among what is committed: up to a place nothing moves.
-module _ (seen more : List Write) (sorted : IsSorted write_cmp seen) (sorted_more : IsSorted write_cmp more) (point place : ℕ) (same : committed_to point more ≡ committed_to point seen) (stays : take place more ≡ take place seen) where
+module _ (seen more : List Write) (sorted : IsSorted write_cmp seen) (sorted_more : IsSorted write_cmp more) (point place : ℕ)
+    (same : committed_to point more ≡ committed_to point seen) (stays : take place more ≡ take place seen) where
   pub late-stays : length (committed_to point seen) ≤ place
       → (let front = place - length (committed_to point seen) in
       take front (tentative_past point seen) ≡ take front (tentative_past point more))
@@ -103,7 +104,8 @@ module _ (seen more : List Write) (sorted : IsSorted write_cmp seen) (sorted_mor
       let of_seen : take front (tentative_past point seen) ≡ drop count (take place seen) =
       ap (take front) (late-rest seen sorted point) ∙ sym (drop-take count front seen) ∙ ap (λ (n : ℕ). drop count (take n seen)) (sym whole) in
       let of_more : take front (tentative_past point more) ≡ drop count (take place more) =
-      ap (take front) (late-rest more sorted_more point ∙ ap (λ (ws : List Write). drop (length ws) more) same) ∙ sym (drop-take count front more) ∙ ap (λ (n : ℕ). drop count (take n more)) (sym whole) in
+      ap (take front) (late-rest more sorted_more point ∙ ap (λ (ws : List Write). drop (length ws) more) same) ∙ sym (drop-take count front more)
+      ∙ ap (λ (n : ℕ). drop count (take n more)) (sym whole) in
       of_seen ∙ ap (drop count) (sym stays) ∙ sym of_more
 
   pub HasImage-admitted : (image after : ImageState)

@@ -72,10 +72,12 @@ IsFree-told core owner conit number own owner_in other conit_in told = (
   told,
   λ part stands.
       told
-      ∙ free-part core.setup core.replica part core.budgets stands.budgets own.setup own.replica owner conit owner_in other (PartSound-part core.setup core.replica part stands.is_part).in_order conit_in,
+      ∙ free-part core.setup core.replica part core.budgets stands.budgets own.setup own.replica owner conit owner_in other
+      (PartSound-part core.setup core.replica part stands.is_part).in_order conit_in,
 )
 
-module _ (part : List Entry) (core : Core) (stands : Stands part core) (not_full : is_full core ≡ false) (places : HasPlaces core) (own : HasBudgets core) (handed : ℕ) (handed_in : handed ≤ MOMENT_MAX)
+module _ (part : List Entry) (core : Core) (stands : Stands part core) (not_full : is_full core ≡ false) (places : HasPlaces core) (own : HasBudgets core) (handed : ℕ)
+    (handed_in : handed ≤ MOMENT_MAX)
     (peer conit amount : ℕ) (peer_in : peer < core.setup.replicas) (other : peer ≢ core.replica) (conit_in : conit < core.setup.conits) (amount_in : amount ≤ AMOUNT_MAX) where
   abbrev kept : BudgetState
   kept = core.budgets

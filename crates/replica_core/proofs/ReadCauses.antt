@@ -1,5 +1,7 @@
 -- What a waiting reply to a read names is its cause.
-use Rattle.std.proofs.Common.{◌≡◌, ℕ, zero, suc, ◌+◌, ◌-◌, ◌*◌, ◌<◌, ◌≤◌, ◌==◌, not, ◌&&◌, nat_lt, Bool, true, false, cond, List, [], ◌∷◌, length, get_or, sum, find, Contains, Option, None, Some, refl, sym, ap, ◌∙◌, subst, ⊎_elim, arith, zero-add}
+use Rattle.std.proofs.Common.{◌≡◌, ℕ, zero, suc, ◌+◌, ◌-◌, ◌*◌, ◌<◌, ◌≤◌, ◌==◌, not, ◌&&◌, nat_lt, Bool, true, false}
+use Rattle.std.proofs.Common.{cond, List, [], ◌∷◌, length, get_or, sum, find, Contains, Option, None, Some, refl, sym}
+use Rattle.std.proofs.Common.{ap, ◌∙◌, subst, ⊎_elim, arith, zero-add}
 use Rattle.std.specs.List.{enumerate_from}
 use Rattle.std.specs.Option.{option_map}
 use Rattle.std.proofs.lemmas.Bool.{cases_eq, cases_lt, eq-eqb, ne_eqb, eqb-true, ltb-true, eqb-false, and_parts}
@@ -116,7 +118,8 @@ module _ (setup : Setup) (replica : ℕ) (part : List Entry) (moment : ℕ) (amo
     lent_names passed =
         let named = first_over_part outs need.num in
         let size : length outs ≡ setup.replicas = length-map-range_with_len holds 0 setup.replicas in
-        let own : get_or outs replica 0 ≡ 0 = get_or-map_range holds setup.replicas replica 0 among ∙ ap (λ yes. cond yes 0 (out setup replica part replica need.conit)) (eq-eqb replica replica refl) in
+        let own : get_or outs replica 0 ≡ 0 = get_or-map_range holds setup.replicas replica 0 among
+        ∙ ap (λ yes. cond yes 0 (out setup replica part replica need.conit)) (eq-eqb replica replica refl) in
         let inside = first_over_part-within outs need.num (omega (arith, size, many)) (replica, omega (arith, size, among), own) passed in
         let within : named < setup.replicas = omega (arith, inside, size) in
         let is : get_or outs named 0 ≡ holds named = get_or-map_range holds setup.replicas named 0 within in

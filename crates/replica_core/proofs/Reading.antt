@@ -1,5 +1,7 @@
 -- What a read waits for, and what it is told, is what the definitions say of each part that the replica stands for.
-use Rattle.std.proofs.Common.{◌≡◌, ℕ, zero, suc, ◌+◌, ◌<◌, ◌≤◌, ◌==◌, not, ◌&&◌, nat_lt, Bool, cond, List, [], ◌∷◌, map, sum, find, All, Option, None, Some, unwrap_or, refl, sym, ap, ap₂, ◌∙◌, ⊎_elim, inl, inr, ◌⊎◌, arith}
+use Rattle.std.proofs.Common.{◌≡◌, ℕ, zero, suc, ◌+◌, ◌<◌, ◌≤◌, ◌==◌, not, ◌&&◌, nat_lt, Bool, cond, List, [], ◌∷◌, map}
+use Rattle.std.proofs.Common.{sum, find, All, Option, None, Some, unwrap_or, refl, sym, ap, ap₂, ◌∙◌, ⊎_elim, inl, inr}
+use Rattle.std.proofs.Common.{◌⊎◌, arith}
 use Rattle.std.specs.List.{range_with_len, enumerate_from, position_or_len}
 use Rattle.std.specs.Option.{option_map}
 use Rattle.std.proofs.lemmas.Bool.{cases_eq, eq-eqb, ne_eqb}

@@ -45,7 +45,8 @@ all_fit budgets weights none =
     All-weaker (λ (weight : Weight). refusal_of budgets weight ≡ None) (λ (weight : Weight). weight_answer budgets weight ≡ fit.Fits)
     (λ weight none. refused_as-none weight.conit (weight_answer budgets weight) none) weights (first_some-none (refusal_of budgets) weights none)
 
-module _ (setup : Setup) (replica : ℕ) (part : List Entry) (budgets : BudgetState) (stand : BudgetsStand setup replica part budgets) (is_setup : budgets.setup ≡ setup) (is_replica : budgets.replica ≡ replica) (numbered : IsNumbered replica part) where
+module _ (setup : Setup) (replica : ℕ) (part : List Entry) (budgets : BudgetState) (stand : BudgetsStand setup replica part budgets) (is_setup : budgets.setup ≡ setup)
+    (is_replica : budgets.replica ≡ replica) (numbered : IsNumbered replica part) where
   -- An amount on a conit, where each peer may miss so much beside it.
   amount_refusal : (conit amount : ℕ) (kept defined : ℕ → ℕ)
       → conit < setup.conits
@@ -59,7 +60,8 @@ module _ (setup : Setup) (replica : ℕ) (part : List Entry) (budgets : BudgetSt
       ∙ first_some-agree one other (peers_of setup replica)
       (All-peers setup replica (λ peer. one peer ≡ other peer)
       (λ peer peer_in differs.
-      ap (λ (share : ℕ). refused_as conit (fit_of peer share (get_or budgets.reserved conit 0) (kept peer) amount)) (share-part setup replica part budgets stand is_setup is_replica peer conit peer_in differs within)
+      ap (λ (share : ℕ). refused_as conit (fit_of peer share (get_or budgets.reserved conit 0) (kept peer) amount))
+      (share-part setup replica part budgets stand is_setup is_replica peer conit peer_in differs within)
       ∙ ap₂ (λ (held missing : ℕ). refused_as conit (fit_of peer (share setup replica part peer conit) held missing amount)) (stand.reserved conit within) (same peer peer_in differs)))
 
   -- a weight, by its sign

@@ -1,5 +1,7 @@
 -- What is kept of all that is seen, as writes are put in and committed: their sums, and the readers of these.
-use Rattle.std.proofs.Common.{◌≡◌, ℕ, ◌+◌, ◌-◌, ◌<◌, ◌≤◌, pos, ◌-ℤ◌, nat_le, List, [], ◌∷◌, ◌++◌, All, length, get_or, take, drop, sum_by, IsPermutation, slice_get, None, Some, refl, sym, ap, ap₂, ◌∙◌, subst, arith}
+use Rattle.std.proofs.Common.{◌≡◌, ℕ, ◌+◌, ◌-◌, ◌<◌, ◌≤◌, pos, ◌-ℤ◌, nat_le, List, [], ◌∷◌, ◌++◌, All, length, get_or}
+use Rattle.std.proofs.Common.{take, drop, sum_by, IsPermutation, slice_get, None, Some, refl, sym, ap, ap₂, ◌∙◌, subst}
+use Rattle.std.proofs.Common.{arith}
 use Rattle.std.specs.List.Sorted.{IsSorted}
 use Rattle.std.specs.Option.{option_or}
 use Rattle.std.proofs.lemmas.List.{append-nil, append_assoc, get_or-append-add, length-append, take-append-drop, take-append-le, take_more, map-append}

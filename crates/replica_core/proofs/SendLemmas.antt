@@ -57,7 +57,8 @@ module _ (part : List Entry) (core : Core) (stands : Stands part core) (among : 
   stands_cover moment origin within = ⊎_elim
       (λ (same : origin ≡ core.replica).
       ap (λ yes. cond yes (own_cover core moment) (cover_at core origin)) (eq-eqb origin core.replica same)
-      ∙ ap₂ (λ (n k : ℕ). let c : Cover = record { count = n; stamp = k; moment = moment } in c) (ap length (log_at-part part core stands.writes core.replica among ∙ log_of-same core.replica part)) stands.writes.clock
+      ∙ ap₂ (λ (n k : ℕ). let c : Cover = record { count = n; stamp = k; moment = moment } in c)
+      (ap length (log_at-part part core stands.writes core.replica among ∙ log_of-same core.replica part)) stands.writes.clock
       ∙ sym (cover_of-same core.replica part moment) ∙ ap (cover_of core.replica part moment) (sym same))
       (λ (other : origin ≡ core.replica → ⊥).
       ap (λ yes. cond yes (own_cover core moment) (cover_at core origin)) (ne_eqb origin core.replica other)
@@ -81,7 +82,8 @@ module _ (part : List Entry) (core : Core) (stands : Stands part core) (among : 
       → writes_told core (firsts to given) ≡ writes_for core.setup core.replica part to given
   stands_writes to given to_in =
       ap (take MESSAGE_WRITES)
-      (flat_map_agree (λ origin. drop (get_or (firsts to given) origin 0) (log_at core origin)) (λ origin. drop (first_for core.replica part to given origin) (log_of core.replica part origin)) (origins_of core)
+      (flat_map_agree (λ origin. drop (get_or (firsts to given) origin 0) (log_at core origin))
+      (λ origin. drop (first_for core.replica part to given origin) (log_of core.replica part origin)) (origins_of core)
       (All-range (λ origin. drop (get_or (firsts to given) origin 0) (log_at core origin) ≡ drop (first_for core.replica part to given origin) (log_of core.replica part origin)) 0 core.setup.replicas
       (λ origin low high.
       let within : origin < core.setup.replicas = omega (arith, high) in

@@ -1,5 +1,7 @@
 -- What a message does to a replica's budgets and covers.
-use Rattle.std.proofs.Common.{◌≡◌, ℕ, ◌+◌, ◌-◌, ◌<◌, ◌≤◌, ◌==◌, nat_le, max, true, false, if◌then◌else◌, List, ◌∷◌, length, get_or, slice_index, set, drop, map, refl, sym, ap, ◌∙◌, le_trans, ⊎_elim, arith, get_or-set_same, get_or-set_other}
+use Rattle.std.proofs.Common.{◌≡◌, ℕ, ◌+◌, ◌-◌, ◌<◌, ◌≤◌, ◌==◌, nat_le, max, true, false, if◌then◌else◌, List, ◌∷◌}
+use Rattle.std.proofs.Common.{length, get_or, slice_index, set, drop, map, refl, sym, ap, ◌∙◌, le_trans, ⊎_elim, arith}
+use Rattle.std.proofs.Common.{get_or-set_same, get_or-set_other}
 use Rattle.std.proofs.lemmas.Bool.{cases_eq, eq-eqb, ne_eqb}
 use Rattle.std.proofs.lemmas.List.{length-set}
 use Rattle.tact_base.proofs.CoversLemmas.{least_of-le, least_stamp-le, least_stamp-ge, later_cover-stamp}
@@ -43,7 +45,8 @@ raised_by-ge message peer before told =
     ]
 
 -- Budgets that noted what a message tells of its sender.
-module _ (setup : Setup) (replica : ℕ) (old new : BudgetState) (message : Message) (is_setup : old.setup ≡ setup) (is_replica : old.replica ≡ replica) (from_in : message.from < setup.replicas) (other : message.from ≡ replica → ⊥) (kept : KeepsBudgets new)
+module _ (setup : Setup) (replica : ℕ) (old new : BudgetState) (message : Message) (is_setup : old.setup ≡ setup) (is_replica : old.replica ≡ replica)
+    (from_in : message.from < setup.replicas) (other : message.from ≡ replica → ⊥) (kept : KeepsBudgets new)
     (acked : new ≡ record (with_known old message.from (told_have message old.replica)) { lent_known = new.lent_known; returned_known = new.returned_known; room = new.room })
     (lent : AreToldBy old.setup message message.lent old.lent_known new.lent_known) (returned : AreToldBy old.setup message message.returned old.returned_known new.returned_known) where
   abbrev count : ℕ

@@ -46,7 +46,9 @@ module _ (setup : Setup) (history : List Entry) (run : IsRun setup history) (cle
       → Contains (all_drawn clerks) (tick, entry)
   present tick entry is =
       let here = Contains-drawn_by history tick entry is in
-      let below : entry.replica < setup.replicas = All-contains (λ (entry : Entry). entry.replica < setup.replicas) history entry (replicas_in_run setup history run) (in_history history tick entry is) in
+      let below : entry.replica < setup.replicas =
+      All-contains (λ (entry : Entry). entry.replica < setup.replicas) history entry
+      (replicas_in_run setup history run) (in_history history tick entry is) in
       let found = from_map (λ (clerk : ClerkView). clerk.replica) clerks entry.replica (all entry.replica below) in
       let pairs_are : found.0.pairs ≡ drawn_by history found.0.replica = All-contains (λ (clerk : ClerkView). clerk.pairs ≡ drawn_by history clerk.replica) clerks found.0 drawn found.1 in
       Contains-flat_map (λ (clerk : ClerkView). clerk.pairs) clerks found.0 (tick, entry) found.1

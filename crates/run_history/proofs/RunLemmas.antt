@@ -86,5 +86,6 @@ pub run_is_short : (setup : Setup) (history : List Entry) → IsRun setup histor
 unfolding below
 run_is_short setup history run =
     let whole : below setup.replicas history ≡ history = filter_all (λ (entry : Entry). nat_lt entry.replica setup.replicas) history
-    (All-weaker (λ (entry : Entry). entry.replica < setup.replicas) (λ (entry : Entry). nat_lt entry.replica setup.replicas ≡ true) (λ entry within. grind (arith, nat_tests)) history (replicas_in_run setup history run)) in
+    (All-weaker (λ (entry : Entry). entry.replica < setup.replicas) (λ (entry : Entry). nat_lt entry.replica setup.replicas ≡ true)
+    (λ entry within. grind (arith, nat_tests)) history (replicas_in_run setup history run)) in
     rw (sym (ap length whole)) (below-short history HISTORY_MAX setup.replicas (parts_are_short setup history run))

@@ -1,5 +1,7 @@
 -- What a replica drew of a history, entry by entry, and the merge of parts by tick.
-use Rattle.std.proofs.Common.{◌≡◌, ℕ, ◌+◌, ◌<◌, ◌==◌, Bool, true, false, cond, if◌then◌else◌, List, [], ◌∷◌, ◌++◌, Contains, filter, length, map, get_or, slice_get, Some, refl, sym, ap, ◌∙◌, eq-eqb, ne_eqb, arith}
+use Rattle.std.proofs.Common.{◌≡◌, ℕ, ◌+◌, ◌<◌, ◌==◌, Bool, true, false, cond, if◌then◌else◌, List, [], ◌∷◌, ◌++◌}
+use Rattle.std.proofs.Common.{Contains, filter, length, map, get_or, slice_get, Some, refl, sym, ap, ◌∙◌, eq-eqb}
+use Rattle.std.proofs.Common.{ne_eqb, arith}
 use Rattle.std.specs.List.{enumerate_from}
 use Rattle.std.proofs.lemmas.List.{append-nil}
 use Rattle.std.proofs.lemmas.List.Elements.{filter-append}
@@ -26,7 +28,9 @@ module _ {A : Type 0} where
     where
       go : (is : Bool)
           → map (λ (pair : ℕ × A). pair.1) (filter (λ (pair : ℕ × A). p pair.1) (enumerate_from (n + 1) xs)) ≡ filter p xs
-          → map (λ (pair : ℕ × A). pair.1) (if is then (n, x) ∷ filter (λ (pair : ℕ × A). p pair.1) (enumerate_from (n + 1) xs) else filter (λ (pair : ℕ × A). p pair.1) (enumerate_from (n + 1) xs)) ≡ (if is then x ∷ filter p xs else filter p xs)
+          → map (λ (pair : ℕ × A). pair.1) (if is then (n, x) ∷ filter (λ (pair : ℕ × A). p pair.1) (enumerate_from (n + 1) xs)
+          else filter (λ (pair : ℕ × A). p pair.1) (enumerate_from (n + 1) xs))
+          ≡ (if is then x ∷ filter p xs else filter p xs)
       go true rest = ap (λ l. x ∷ l) rest
       go false rest = rest
 

@@ -93,7 +93,8 @@ AcceptsNext-done replica part index stamp some =
 AcceptsNext-write : (setup : Setup) (replica : ℕ) (part : List Entry) (weights : List Weight)
     → AcceptsNext replica part (unwrap_or (first_some (weight_refusal setup replica part) weights) (done replica part))
 AcceptsNext-write setup replica part weights =
-    go (first_some (weight_refusal setup replica part) weights) (first_some-each (weight_refusal setup replica part) (λ given. done_as given ≡ None) (weight_refusal-accepts_none setup replica part) weights)
+    go (first_some (weight_refusal setup replica part) weights)
+    (first_some-each (weight_refusal setup replica part) (λ given. done_as given ≡ None) (weight_refusal-accepts_none setup replica part) weights)
   where
     go : (first : Option Reply)
         → ((given : Reply) → first ≡ Some given → done_as given ≡ None)
@@ -121,7 +122,8 @@ accepted_as-next replica part at asked given write next some = go (done_as given
     go (Some numbers) next some =
         let is : record { origin = replica; index = numbers.0; stamp = numbers.1; moment = at; weights = asked.0; op = asked.1 } ≡ write = same_Some _ write some in
         let both = next numbers.0 numbers.1 refl in
-        record { origin = sym (ap (λ (w : Write). w.origin) is); index = sym (ap (λ (w : Write). w.index) is) ∙ both.0; stamp = sym (ap (λ (w : Write). w.stamp) is) ∙ both.1; moment = sym (ap (λ (w : Write). w.moment) is) }
+        record { origin = sym (ap (λ (w : Write). w.origin) is); index = sym (ap (λ (w : Write). w.index) is) ∙ both.0; stamp = sym (ap (λ (w : Write). w.stamp) is)
+            ∙ both.1; moment = sym (ap (λ (w : Write). w.moment) is) }
 
 called_is_next : (setup : Setup) (replica : ℕ) (part : List Entry) (at : ℕ) (asked : Request) (given : Reply) (write : Write)
     → given ≡ reply_of setup replica part at asked
@@ -131,7 +133,8 @@ called_is_next setup replica part at (request.Write weights op) given write is s
     accepted_as-next replica part at (weights, op) given write (subst (AcceptsNext replica part) (sym is) (AcceptsNext-write setup replica part weights)) some
 called_is_next setup replica part at (request.Held weight op) given write is some =
     accepted_as-next replica part at (weight ∷ [], op) given write
-    (subst (AcceptsNext replica part) (sym is) (AcceptsNext-held replica part (nat_lt (reserved part weight.conit) (unsigned_abs weight.nweight)) weight.conit (reserved part weight.conit) (unsigned_abs weight.nweight))) some
+    (subst (AcceptsNext replica part) (sym is)
+    (AcceptsNext-held replica part (nat_lt (reserved part weight.conit) (unsigned_abs weight.nweight)) weight.conit (reserved part weight.conit) (unsigned_abs weight.nweight))) some
 called_is_next setup replica part at (request.Reserve conit amount) given write is some = cc
 called_is_next setup replica part at (request.Release conit amount) given write is some = cc
 called_is_next setup replica part at (request.Read key needs) given write is some = cc

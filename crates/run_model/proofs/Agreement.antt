@@ -68,7 +68,8 @@ module _ (setup : Setup) (history : List Entry) (run : IsRun setup history) (fro
       let same : get_or (own (part_of history origin)) at d ≡ get_or rest place d = ap (λ writes. get_or writes at d) is ∙ get_or-append-add log rest place d in
       let index : (get_or rest place d).index ≡ at = sym (ap (λ (write : Write). write.index) same) ∙ ((Sound-run setup history run).own origin).indices at d fits in
       let past : (cover_of replica part 0 origin).count ≤ (get_or rest place d).index = omega (arith, index, Sound-count setup front sound replica origin 0) in
-      let later = subst (λ (write : Write). (cover_of replica part 0 origin).count ≤ write.index → ((cover_of replica part 0 origin).stamp < write.stamp) × ((cover_of replica part 0 origin).moment ≤ write.moment)) same
+      let later = subst (λ (write : Write). (cover_of replica part 0 origin).count ≤ write.index → ((cover_of replica part 0 origin).stamp < write.stamp)
+      × ((cover_of replica part 0 origin).moment ≤ write.moment)) same
       ((cover-vouches origin).later at d fits) in
       lt_of_le_of_lt (point-le setup replica part origin within) (later past).0
 

@@ -1,5 +1,6 @@
 -- A field that is read stands where it was read, and a field that stands there is read.
-use Rattle.std.proofs.Common.{◌≡◌, ℕ, ◌+◌, ◌^◌, ◌<◌, ◌≤◌, ℤ, Bool, true, false, cond, ltb, nat_le, List, [], ◌∷◌, ◌++◌, length, get_or, take, drop, Result, Ok, Err, refl, sym, ap, subst, ◌∙◌, arith, inl, inr}
+use Rattle.std.proofs.Common.{◌≡◌, ℕ, ◌+◌, ◌^◌, ◌<◌, ◌≤◌, ℤ, Bool, true, false, cond, ltb, nat_le, List, [], ◌∷◌, ◌++◌}
+use Rattle.std.proofs.Common.{length, get_or, take, drop, Result, Ok, Err, refl, sym, ap, subst, ◌∙◌, arith, inl, inr}
 use Rattle.std.specs.Prelude.{unsigned_abs}
 use Rattle.std.specs.Int.{w64, from_be_bytes, cast_signed, cast_unsigned}
 use Rattle.std.proofs.lemmas.Bool.{cases_lt, ltb-false, le-ltb}
@@ -266,7 +267,8 @@ signed_taken size bytes place number next fits e =
     let back : cast_unsigned w64 number ≡ from_be_bytes w64 field = ap (cast_unsigned w64) (sym t.1) ∙ of_z-to_z w64 (from_be_bytes w64 field) (below_wide field fine) in
     let text : field ≡ number_bytes (cast_unsigned w64 number) = sym spells ∙ ap number_bytes (sym back) in
     let long = length-number_bytes (cast_unsigned w64 number) in
-    (record { stands = stands_eight (number_bytes (cast_unsigned w64 number)) bytes place long text; after = omega (arith, t.3, long) }, size_is_within size number t.2, subst (FitsSigned w64) t.1 (sfits_to_z (Fits-of_lt (below_wide field fine))))
+    (record { stands = stands_eight (number_bytes (cast_unsigned w64 number)) bytes place long text; after = omega (arith, t.3, long) }, size_is_within size number t.2,
+    subst (FitsSigned w64) t.1 (sfits_to_z (Fits-of_lt (below_wide field fine))))
 
 pub signed_again : (size : ℕ) (bytes : List ℕ) (place : ℕ) (number : ℤ)
     → place ≤ length bytes

@@ -61,14 +61,18 @@ clock-push-within most part entry below accepts takes =
         → All (λ (write : Write). write.stamp ≤ most) (own part)
         → All (λ (write : Write). write.stamp ≤ most) (own (part ++ entry ∷ []))
     owns None none all = subst (All (λ (write : Write). write.stamp ≤ most)) (sym (own-push_none part entry none)) all
-    owns (Some write) some all = subst (All (λ (write : Write). write.stamp ≤ most)) (sym (own-push_some part entry write some)) (All-push (λ (write : Write). write.stamp ≤ most) (own part) write all (accepts write some))
+    owns (Some write) some all =
+        subst (All (λ (write : Write). write.stamp ≤ most)) (sym (own-push_some part entry write some))
+        (All-push (λ (write : Write). write.stamp ≤ most) (own part) write all (accepts write some))
 
     tolds : (taken : Option Message)
         → taken_by entry ≡ taken
         → All (λ (message : Message). (origin : ℕ) → (told_cover message origin).stamp ≤ most) (taken_in part)
         → All (λ (message : Message). (origin : ℕ) → (told_cover message origin).stamp ≤ most) (taken_in (part ++ entry ∷ []))
     tolds None none all = subst (All (λ (message : Message). (origin : ℕ) → (told_cover message origin).stamp ≤ most)) (sym (taken_in-push_none part entry none)) all
-    tolds (Some message) some all = subst (All (λ (message : Message). (origin : ℕ) → (told_cover message origin).stamp ≤ most)) (sym (taken_in-push_some part entry message some)) (All-push (λ (message : Message). (origin : ℕ) → (told_cover message origin).stamp ≤ most) (taken_in part) message all (takes message some))
+    tolds (Some message) some all =
+        subst (All (λ (message : Message). (origin : ℕ) → (told_cover message origin).stamp ≤ most)) (sym (taken_in-push_some part entry message some))
+        (All-push (λ (message : Message). (origin : ℕ) → (told_cover message origin).stamp ≤ most) (taken_in part) message all (takes message some))
 
 clock-step : (setup : Setup) (history : List Entry) (entry : Entry)
     → Sound setup history

@@ -67,7 +67,8 @@ module _ (part : List Entry) (entry : Entry) where
   pub clock-le-push : clock part ≤ clock (part ++ entry ∷ [])
   clock-le-push =
       let own_more = ap greatest own_stamps-push ∙ greatest-append (own_stamps part) (map (λ (write : Write). write.stamp) (cons_option (accepted_in entry) [])) in
-      let taken_more = ap greatest taken_stamps-push ∙ greatest-append (taken_stamps part) (map (λ (cover : Cover). cover.stamp) (flat_map (λ (message : Message). message.covers) (cons_option (taken_by entry) []))) in
+      let taken_more = ap greatest taken_stamps-push
+      ∙ greatest-append (taken_stamps part) (map (λ (cover : Cover). cover.stamp) (flat_map (λ (message : Message). message.covers) (cons_option (taken_by entry) []))) in
       omega (arith, own_more, taken_more)
 
   -- an entry that accepts and takes nothing leaves it as it was
@@ -75,7 +76,8 @@ module _ (part : List Entry) (entry : Entry) where
       → taken_by entry ≡ None
       → clock (part ++ entry ∷ []) ≡ clock part
   clock-push_none no_write no_message =
-      ap₂ (λ writes messages. max (greatest (map (λ (write : Write). write.stamp) writes)) (greatest (map (λ (cover : Cover). cover.stamp) (flat_map (λ (message : Message). message.covers) messages))))
+      ap₂ (λ writes messages. max (greatest (map (λ (write : Write). write.stamp) writes))
+          (greatest (map (λ (cover : Cover). cover.stamp) (flat_map (λ (message : Message). message.covers) messages))))
       (own-push_none part entry no_write) (taken_in-push_none part entry no_message)
 
   -- a taken message tells nothing above it
@@ -114,7 +116,8 @@ module _ (part : List Entry) (entry : Entry) where
       ap (λ (ws : List Write). greatest (map (λ (w : Write). w.stamp) ws)) (own-push_none part entry none) in
       let told : greatest (taken_stamps (part ++ entry ∷ [])) ≡ max (greatest (taken_stamps part)) (greatest (map stamp message.covers)) =
       ap (λ (ms : List Message). greatest (map stamp (flat_map covers ms))) (taken_in-push_some part entry message some)
-      ∙ ap (λ (cs : List Cover). greatest (map stamp cs)) (flat_map-append covers (taken_in part) (message ∷ []) ∙ ap (λ (cs : List Cover). flat_map covers (taken_in part) ++ cs) (append-nil message.covers))
+      ∙ ap (λ (cs : List Cover). greatest (map stamp cs))
+      (flat_map-append covers (taken_in part) (message ∷ []) ∙ ap (λ (cs : List Cover). flat_map covers (taken_in part) ++ cs) (append-nil message.covers))
       ∙ ap greatest (map-append stamp (flat_map covers (taken_in part)) message.covers)
       ∙ greatest-append (taken_stamps part) (map stamp message.covers) in
       omega (arith, writes, told)

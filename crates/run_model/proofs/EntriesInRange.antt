@@ -74,7 +74,8 @@ pub sent_in_range : (setup : Setup) (history : List Entry)
 sent_in_range setup history run replica =
     let P = λ (entry : Entry). (message : Message) → sent_by entry ≡ Some message → IsMessageInRange setup message in
     All-filter_map (IsMessageInRange setup) sent_by (part_of history replica)
-    (All-weaker (IsEntryInRange setup) P (λ entry within message some. sent_act setup entry.replica entry.act message within.act some) (part_of history replica) (part_in_range setup history run replica))
+    (All-weaker (IsEntryInRange setup) P (λ entry within message some. sent_act setup entry.replica entry.act message within.act some) (part_of history replica)
+    (part_in_range setup history run replica))
 
 -- what a write asks for
 pub record IsAskedInRange (setup : Setup) (write : Write) : Type 0 where
@@ -101,7 +102,8 @@ called_is_asked : (setup : Setup) (replica at : ℕ) (asked : Request) (given : 
     → accepted_as replica at (asked_write asked) (done_as given) ≡ Some write
     → IsAskedInRange setup write
 called_is_asked setup replica at (request.Write weights op) given write within some = accepted_as-asked setup replica at (weights, op) (done_as given) write within.0 within.1 some
-called_is_asked setup replica at (request.Held weight op) given write within some = accepted_as-asked setup replica at (weight ∷ [], op) (done_as given) write (one_weight setup weight within.0) within.1 some
+called_is_asked setup replica at (request.Held weight op) given write within some =
+    accepted_as-asked setup replica at (weight ∷ [], op) (done_as given) write (one_weight setup weight within.0) within.1 some
 called_is_asked setup replica at (request.Reserve conit amount) given write within some = cc
 called_is_asked setup replica at (request.Release conit amount) given write within some = cc
 called_is_asked setup replica at (request.Read key needs) given write within some = cc

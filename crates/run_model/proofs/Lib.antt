@@ -24,7 +24,7 @@ pub mod SoundRuns
 pub mod Agreement
 pub mod WorkedRun
 pub mod OriginWrites
-pub mod Placed
+pub mod WritesByOrigin
 pub mod StandByOrigin
 pub mod WeightsInRange
 pub mod EntriesInRange

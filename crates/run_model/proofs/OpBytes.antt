@@ -8,7 +8,9 @@ use Rattle.tact_base.specs.declared.write.Op.TheVariants.{Put, Add, Shift}
 use Rattle.run_model.specs.Ranges.{IsOpInRange}
 use Rattle.run_model.specs.Bytes.{◌>>=◌, StandsAt, byte_at, number_at, signed_at, put_at, add_at, shift_at, op_at, number_bytes, signed_bytes, op_bytes}
 use Rattle.run_model.proofs.Readers.{Reader, SpelledAs}
-use Rattle.run_model.proofs.ByteLemmas.{AreBytes, Spelled, stands_first, stands_second, stands_within, spelled_then, bind_ok, ok_is, byte_taken, byte_again, number_taken, number_again, signed_taken, signed_again}
+use Rattle.run_model.proofs.ByteLemmas.{AreBytes, Spelled, stands_first, stands_second, stands_within, spelled_then}
+use Rattle.run_model.proofs.ByteLemmas.{bind_ok, ok_is, byte_taken, byte_again, number_taken, number_again}
+use Rattle.run_model.proofs.ByteLemmas.{signed_taken, signed_again}
 
 put_taken : (bytes : List ℕ) (place : ℕ) (op : Op) (next : ℕ)
     → AreBytes bytes
@@ -52,7 +54,8 @@ shift_taken : (bytes : List ℕ) (place : ℕ) (op : Op) (next : ℕ)
     → (from to amount : ℕ) × (op ≡ Shift from to amount) × IsOpInRange op × Spelled bytes place (number_bytes from ++ (number_bytes to ++ number_bytes amount)) next
 unfolding shift_at
 shift_taken bytes place op next fits e =
-    let a = bind_ok (number_at 0 (suc KEY_MAX) bytes place) (λ from. number_at 0 (suc KEY_MAX) bytes from.1 >>= λ to. number_at 0 (suc VALUE_MAX) bytes to.1 >>= λ amount. Ok (Shift from.0 to.0 amount.0, amount.1)) (op, next) e in
+    let a = bind_ok (number_at 0 (suc KEY_MAX) bytes place)
+    (λ from. number_at 0 (suc KEY_MAX) bytes from.1 >>= λ to. number_at 0 (suc VALUE_MAX) bytes to.1 >>= λ amount. Ok (Shift from.0 to.0 amount.0, amount.1)) (op, next) e in
     let b = bind_ok (number_at 0 (suc KEY_MAX) bytes a.0.1) (λ to. number_at 0 (suc VALUE_MAX) bytes to.1 >>= λ amount. Ok (Shift a.0.0 to.0 amount.0, amount.1)) (op, next) a.2 in
     let d = bind_ok (number_at 0 (suc VALUE_MAX) bytes b.0.1) (λ amount. Ok (Shift a.0.0 b.0.0 amount.0, amount.1)) (op, next) b.2 in
     let t0 = number_taken 0 (suc KEY_MAX) bytes place a.0.0 a.0.1 fits a.1 in

@@ -8,7 +8,9 @@ use Rattle.std.proofs.lemmas.Bool.Decides.{nat_tests}
 use Rattle.std.proofs.lemmas.List.{length-append}
 use Rattle.run_model.specs.declared.fields.FieldFault.{FieldFault}
 use Rattle.run_model.specs.Bytes.{◌>>=◌, Field, StandsAt, field_at, is_from_to, is_other, byte_at, other_at, number_at, signed_at, any_number_at, any_signed_at, number_bytes, signed_bytes}
-use Rattle.run_model.proofs.ByteLemmas.{AreBytes, Spelled, stands_first, stands_second, stands_within, spelled_then, bind_ok, field_taken, field_again, ok_is, done, same_read, no_read, byte_taken, byte_again, number_taken, number_again, signed_taken, signed_again}
+use Rattle.run_model.proofs.ByteLemmas.{AreBytes, Spelled, stands_first, stands_second, stands_within, spelled_then}
+use Rattle.run_model.proofs.ByteLemmas.{bind_ok, field_taken, field_again, ok_is, done, same_read, no_read, byte_taken}
+use Rattle.run_model.proofs.ByteLemmas.{byte_again, number_taken, number_again, signed_taken, signed_again}
 
 -- What is read stands there, spelled; and what stands there, spelled, is read.
 pub record Reader {A : Type 0} (Spells : A → List ℕ → Type 0) (read : List ℕ → ℕ → Field A) : Type 0 where

@@ -61,9 +61,11 @@ abbrev pub told_by : ℕ
     → List ℕ
     → List ℕ
     → Message
-told_by from to number haves covers firsts writes lent returned = record { from = from; to = to; number = number; haves = haves; covers = covers; firsts = firsts; writes = writes; lent = lent; returned = returned }
+told_by from to number haves covers firsts writes lent returned =
+    record { from = from; to = to; number = number; haves = haves; covers = covers; firsts = firsts; writes = writes; lent = lent; returned = returned }
 
-pub same_message : (from from' to number number' : ℕ) (haves haves' : List ℕ) (covers covers' : List Cover) (firsts firsts' : List ℕ) (writes writes' : List Write) (lent lent' returned returned' : List ℕ)
+pub same_message : (from from' to number number' : ℕ) (haves haves' : List ℕ) (covers covers' : List Cover) (firsts firsts' : List ℕ) (writes writes' : List Write)
+    (lent lent' returned returned' : List ℕ)
     → from ≡ from'
     → number ≡ number'
     → haves ≡ haves'

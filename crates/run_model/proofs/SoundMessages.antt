@@ -1,5 +1,6 @@
 -- What a sent message tells is so, and stays so.
-use Rattle.std.proofs.Common.{◌≡◌, ◌≢◌, ℕ, ◌<◌, ◌≤◌, ◌==◌, min, max, Bool, true, false, cond, slice_index, List, [], length, take, drop, filter, flat_map, All, refl, sym, ap, ap₂, ◌∙◌, subst, ⊎_elim, arith}
+use Rattle.std.proofs.Common.{◌≡◌, ◌≢◌, ℕ, ◌<◌, ◌≤◌, ◌==◌, min, max, Bool, true, false, cond, slice_index, List, []}
+use Rattle.std.proofs.Common.{length, take, drop, filter, flat_map, All, refl, sym, ap, ap₂, ◌∙◌, subst, ⊎_elim, arith}
 use Rattle.std.specs.List.{range_with_len}
 use Rattle.std.proofs.lemmas.Bool.{cases_eq, cases_lt, eq-eqb, ne_eqb}
 use Rattle.std.proofs.lemmas.List.Elements.{All-weaker, All-take, All-drop}
@@ -42,7 +43,8 @@ pub IsSoundMessage-grows : (history further : List Entry) (sender : ℕ) (messag
     → IsSoundMessage further sender message
 IsSoundMessage-grows history further sender message grows sound = record {
   from = sound.from;
-  told = λ origin. IsSoundTold-grows message origin (have sender (part_of history sender) origin) (have sender (part_of further sender) origin) (part_of history origin) (part_of further origin) ((grows sender).have origin) (grows origin) (sound.told origin);
+  told = λ origin. IsSoundTold-grows message origin (have sender (part_of history sender) origin) (have sender (part_of further sender) origin) (part_of history origin)
+  (part_of further origin) ((grows sender).have origin) (grows origin) (sound.told origin);
   stamps = sound.stamps;
 }
 
@@ -53,7 +55,8 @@ module _ (writes_of : ℕ → List Write) (each : (origin : ℕ) → All (λ (wr
       → filter (λ (write : Write). write.origin == origin) (writes_of other) ≡ []
   of_other other differ =
       filter_none (λ (write : Write). write.origin == origin) (writes_of other)
-      (All-weaker (λ (write : Write). write.origin ≡ other) (λ (write : Write). (write.origin == origin) ≡ false) (λ write is. ne_eqb write.origin origin (λ same. differ (sym is ∙ same))) (writes_of other) (each other))
+      (All-weaker (λ (write : Write). write.origin ≡ other) (λ (write : Write). (write.origin == origin) ≡ false)
+      (λ write is. ne_eqb write.origin origin (λ same. differ (sym is ∙ same))) (writes_of other) (each other))
 
   of_same : filter (λ (write : Write). write.origin == origin) (writes_of origin) ≡ writes_of origin
   of_same =
@@ -141,7 +144,8 @@ module _ (setup : Setup) (history : List Entry) (sound : Sound setup history) (r
         let has : told_have message origin ≡ have replica part origin = get_or-map_range (have replica part) setup.replicas origin 0 within in
         let first : told_first message origin ≡ first_for replica part to given origin = get_or-map_range (first_for replica part to given) setup.replicas origin 0 within in
         let cover : told_cover message origin ≡ cover_of replica part at origin = get_or-map_range (cover_of replica part at) setup.replicas origin no_cover within in
-        let log : IsPrefix (log_of replica part origin) (own later) = IsPrefix-trans (log_of replica part origin) (own (part_of history origin)) (own later) (Sound-log setup history sound replica origin) prefix in
+        let log : IsPrefix (log_of replica part origin) (own later) =
+        IsPrefix-trans (log_of replica part origin) (own (part_of history origin)) (own later) (Sound-log setup history sound replica origin) prefix in
         let front : IsPrefix (told_writes message origin) (drop (first_for replica part to given origin) (own later)) =
         IsPrefix-trans (told_writes message origin) (onward origin) (drop (first_for replica part to given origin) (own later)) (told_writes-within origin within)
         (IsPrefix-drop (first_for replica part to given origin) (log_of replica part origin) (own later) log) in
@@ -164,7 +168,8 @@ module _ (setup : Setup) (history : List Entry) (sound : Sound setup history) (r
         record {
           have = omega (arith, has);
           first = omega (arith, first);
-          writes = IsPrefix-trans (told_writes message origin) [] (drop (told_first message origin) (own later)) (told_writes-past origin past) (IsPrefix-nil (drop (told_first message origin) (own later)));
+          writes = IsPrefix-trans (told_writes message origin) [] (drop (told_first message origin) (own later)) (told_writes-past origin past)
+          (IsPrefix-nil (drop (told_first message origin) (own later)));
           cover = subst (Vouches later) (sym cover) (Vouches-empty origin later in_order);
           count = omega (arith, has, ap (λ (c : Cover). c.count) cover);
         }
@@ -182,7 +187,8 @@ module _ (setup : Setup) (history : List Entry) (sound : Sound setup history) (r
     from = refl;
     told = λ origin. ⊎_elim
         (λ (inside : origin < setup.replicas).
-        told_within origin (have replica (part_of further replica) origin) (part_of further origin) inside ((grows replica).have origin) (own-prefix origin (part_of history origin) (part_of further origin) (grows origin)) (vouches origin))
+        told_within origin (have replica (part_of further replica) origin) (part_of further origin) inside ((grows replica).have origin)
+        (own-prefix origin (part_of history origin) (part_of further origin) (grows origin)) (vouches origin))
         (λ (past : setup.replicas ≤ origin). told_past origin (have replica (part_of further replica) origin) (part_of further origin) past (in_order origin))
         (cases_lt origin setup.replicas);
     stamps = sent_stamps within;
@@ -195,5 +201,6 @@ module _ (setup : Setup) (history : List Entry) (sound : Sound setup history) (r
           let is : own_cover (part_of further replica) at ≡ own_cover part at = ap₂ (λ writes stamp. record { count = length writes; stamp = stamp; moment = at }) same_own same_clock in
           rw (same, cover_of-same replica part at) (subst (Vouches (part_of further replica)) is own_one))
           (λ (other : origin ≡ replica → ⊥).
-          rw (cover_of-other replica part at origin other) (Vouches-grows origin (part_of history origin) (part_of further origin) (origin_state part origin).cover (grows origin) (sound.kept replica origin).cover))
+          rw (cover_of-other replica part at origin other)
+          (Vouches-grows origin (part_of history origin) (part_of further origin) (origin_state part origin).cover (grows origin) (sound.kept replica origin).cover))
           (cases_eq origin replica)

@@ -68,7 +68,8 @@ Grows-onward setup front rest = from_right (λ rest. IsRun setup (front ++ rest)
     let before : IsRun setup (front ++ rest) = IsRun-prefix setup (front ++ rest) ((front ++ rest) ++ entry ∷ []) (IsPrefix-append (front ++ rest) (entry ∷ [])) whole in
     let lawful : IsLawful setup (front ++ rest) entry = EachAfter-last (IsLawful setup) (front ++ rest) entry whole in
     subst (λ history. Grows replica (part_of front replica) (part_of history replica)) (append_assoc front rest (entry ∷ []))
-    (Grows-trans replica (part_of front replica) (part_of (front ++ rest) replica) (part_of ((front ++ rest) ++ entry ∷ []) replica) (grows before replica) (Grows-history setup (front ++ rest) entry lawful.due replica)))
+    (Grows-trans replica (part_of front replica) (part_of (front ++ rest) replica) (part_of ((front ++ rest) ++ entry ∷ []) replica) (grows before replica)
+    (Grows-history setup (front ++ rest) entry lawful.due replica)))
     rest
 
 pub Grows-run : (setup : Setup) (front history : List Entry)

@@ -15,7 +15,10 @@ use Rattle.run_model.specs.declared.entry.Act.{Act}
 use Rattle.run_model.specs.declared.entry.Act.TheVariants as act
 use Rattle.run_model.specs.declared.entry.Entry.{Entry}
 use Rattle.run_model.specs.declared.entry.Message.{Message}
-use Rattle.run_model.proofs.PartLemmas.{sent_by, taken_by, part_of-push_same, part_of-push_cases, own-push_none, sent_in-push_none, sent_in-push_some, origin_state-push_none, origin_state-push_some, last_moment-push, known-push_none, known-push_from, known-push_other}
+use Rattle.run_model.proofs.PartLemmas.{sent_by, taken_by, part_of-push_same, part_of-push_cases, own-push_none}
+use Rattle.run_model.proofs.PartLemmas.{sent_in-push_none, sent_in-push_some, origin_state-push_none}
+use Rattle.run_model.proofs.PartLemmas.{origin_state-push_some, last_moment-push, known-push_none, known-push_from}
+use Rattle.run_model.proofs.PartLemmas.{known-push_other}
 use Rattle.run_model.proofs.ClockLemmas.{clock-le-push, clock-push_none, told-le-clock}
 use Rattle.run_model.proofs.Growth.{Grows, Grows-history}
 use Rattle.run_model.proofs.Sound.{IsNumbered, IsSoundKeeping, IsSoundTold, IsSoundMessage, HaveTheirPlaces, Sound}
@@ -92,7 +95,8 @@ module _ (setup : Setup) (history : List Entry) (entry : Entry) (sound : Sound s
   kept_before : (origin : ℕ)
       → IsSoundKeeping (clock (part ++ entry ∷ [])) (origin_state part origin) (part_of further origin)
   kept_before origin =
-      IsSoundKeeping-grows (clock part) (clock (part ++ entry ∷ [])) (origin_state part origin) origin (part_of history origin) (part_of further origin) (clock-le-push part entry) (grows origin) (sound.kept entry.replica origin)
+      IsSoundKeeping-grows (clock part) (clock (part ++ entry ∷ [])) (origin_state part origin) origin (part_of history origin) (part_of further origin)
+      (clock-le-push part entry) (grows origin) (sound.kept entry.replica origin)
 
   kept_here : (origin : ℕ) (taken : Option Message)
       → taken_by entry ≡ taken
@@ -116,7 +120,8 @@ module _ (setup : Setup) (history : List Entry) (entry : Entry) (sound : Sound s
       → IsSoundKeeping (clock (part_of further replica)) (origin_state (part_of further replica) origin) (part_of further origin)
   kept_step replica origin =
       part_of-push_cases history entry (λ r after. IsSoundKeeping (clock after) (origin_state after origin) (part_of further origin)) (kept_here origin (taken_by entry) refl)
-      (λ r. IsSoundKeeping-grows (clock (part_of history r)) (clock (part_of history r)) (origin_state (part_of history r) origin) origin (part_of history origin) (part_of further origin) (omega arith) (grows origin) (sound.kept r origin))
+      (λ r. IsSoundKeeping-grows (clock (part_of history r)) (clock (part_of history r)) (origin_state (part_of history r) origin) origin (part_of history origin)
+      (part_of further origin) (omega arith) (grows origin) (sound.kept r origin))
       replica
 
   -- what the entry's replica knows of a peer
@@ -146,7 +151,8 @@ module _ (setup : Setup) (history : List Entry) (entry : Entry) (sound : Sound s
   sent_before : (replica : ℕ)
       → All (IsSoundMessage further replica) (sent_in (part_of history replica))
   sent_before replica =
-      All-weaker (IsSoundMessage history replica) (IsSoundMessage further replica) (λ message. IsSoundMessage-grows history further replica message grows) (sent_in (part_of history replica)) (sound.sent replica)
+      All-weaker (IsSoundMessage history replica) (IsSoundMessage further replica) (λ message. IsSoundMessage-grows history further replica message grows)
+      (sent_in (part_of history replica)) (sound.sent replica)
 
   sent_here : (sent : Option Message)
       → sent_by entry ≡ sent

@@ -84,7 +84,8 @@ weight_reader conits least =
 
 pub weights_reader : (conits : ℕ) → Reader (SpelledAs (AreWeightsOf conits) weights_bytes) (weights_at conits)
 unfolding weights_at
-weights_reader conits = conit_list_reader (λ (weight : Weight). weight.conit) weight_in_limits weight_bytes conits (record { conit = 0; nweight = pos 0; oweight = 0 }) (weight_at conits) (weight_reader conits)
+weights_reader conits =
+    conit_list_reader (λ (weight : Weight). weight.conit) weight_in_limits weight_bytes conits (record { conit = 0; nweight = pos 0; oweight = 0 }) (weight_at conits) (weight_reader conits)
 
 -- ---- needs
 
@@ -93,7 +94,8 @@ IsNeed conits = IsSpelledItem (λ (need : Need). need.conit) need_in_limits need
 
 abbrev NeedFields : ℕ → ℕ → Need → List ℕ → Type 0
 NeedFields conits least =
-    Then (IsByte least conits) (λ conit. Then (IsNumber 0 (suc AMOUNT_MAX)) (λ num. Then (IsNumber 0 (suc AMOUNT_MAX)) (λ order. Made (IsNumber 0 (suc MOMENT_MAX)) (λ stale. record { conit = conit; num = num; order = order; stale = stale }))))
+    Then (IsByte least conits) (λ conit. Then (IsNumber 0 (suc AMOUNT_MAX))
+        (λ num. Then (IsNumber 0 (suc AMOUNT_MAX)) (λ order. Made (IsNumber 0 (suc MOMENT_MAX)) (λ stale. record { conit = conit; num = num; order = order; stale = stale }))))
 
 pub need_reader : (conits least : ℕ) → Reader (IsNeed conits least) (need_at conits least)
 unfolding need_at

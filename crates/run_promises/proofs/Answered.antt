@@ -1,5 +1,7 @@
 -- In a run each answered access keeps its three bounds.
-use Rattle.std.proofs.Common.{◌≡◌, ℕ, ◌<◌, ◌≤◌, ◌==◌, Bool, true, false, not, ◌&&◌, cond, nat_le, nat_lt, ℤ, List, [], ◌∷◌, ◌++◌, length, get_or, map, sum, All, Option, None, Some, unwrap_or, refl, sym, ap, ap₂, ◌∙◌, subst, le_trans, zero-add, arith}
+use Rattle.std.proofs.Common.{◌≡◌, ℕ, ◌<◌, ◌≤◌, ◌==◌, Bool, true, false, not, ◌&&◌, cond, nat_le, nat_lt, ℤ, List, []}
+use Rattle.std.proofs.Common.{◌∷◌, ◌++◌, length, get_or, map, sum, All, Option, None, Some, unwrap_or, refl, sym, ap}
+use Rattle.std.proofs.Common.{ap₂, ◌∙◌, subst, le_trans, zero-add, arith}
 use Rattle.std.specs.List.{range_with_len, enumerate_from, find}
 use Rattle.std.specs.Option.{option_map}
 use Rattle.std.specs.Prelude.{Any}
@@ -40,7 +42,7 @@ use Rattle.run_promises.proofs.LoansAgree.{LoansAgree}
 use Rattle.run_promises.proofs.SharesWrites.{first_some-none}
 use Rattle.run_promises.proofs.NumErrors.{num_error-within}
 use Rattle.tact_base.proofs.Peers.{All-kept, All-peers}
-use Rattle.run_promises.proofs.Quiet.{quiet-num_error, quiet-order_error, quiet-unseen_by}
+use Rattle.run_promises.proofs.IdleEntries.{idle-num_error, idle-order_error, idle-unseen_by}
 
 -- whether a reply is a value
 abbrev is_value : Reply → Bool
@@ -73,7 +75,8 @@ unhindered need outs tentative slow late none = go (nat_lt need.num (sum outs)) 
         → nat_lt need.num (sum outs) ≡ much
         → (disordered : Bool)
         → nat_lt need.order tentative ≡ disordered
-        → cond much (Some (too_much_lent (first_over_part outs need.num) (get_or outs (first_over_part outs need.num) 0) (sum outs))) (cond disordered (Some (unordered slow tentative)) (option_map stale late)) ≡ None
+        → cond much (Some (too_much_lent (first_over_part outs need.num) (get_or outs (first_over_part outs need.num) 0) (sum outs)))
+        (cond disordered (Some (unordered slow tentative)) (option_map stale late)) ≡ None
         → IsUnhindered need outs tentative late
     go true is other is_other none = cc
     go false is true is_other none = cc
@@ -169,7 +172,8 @@ module _ (setup : Setup) (history : List Entry) (sound : Sound setup history) (a
       record {
         num = le_trans (num_error-within setup history sound agree within replica need.conit replica_in in_range.conit) free.lent;
         order = free.order;
-        stale = none_from_all (λ (w : Write). wanted ≤ w.moment) (λ (w : Write). w.moment < wanted) (unseen_by setup history replica) (λ w after before. absurd (omega (arith, after, before))) (unseen_is_late free.seen);
+        stale = none_from_all (λ (w : Write). wanted ≤ w.moment) (λ (w : Write). w.moment < wanted) (unseen_by setup history replica)
+        (λ w after before. absurd (omega (arith, after, before))) (unseen_is_late free.seen);
       }
     where
       unmapped : (hindered : Option Hindrance)
@@ -183,7 +187,8 @@ need_refusal-no_value : (setup : Setup) (replica : ℕ) (part : List Entry) (mom
     → need_refusal setup replica part moment need ≡ Some given
     → is_value given ≡ false
 need_refusal-no_value setup replica part moment need given some =
-    go (hindrance need (outs_of setup replica part need.conit) (order_sum (tentative setup replica part) need.conit) (slowest (covers_of setup replica part moment)) (first_late (covers_of setup replica part moment) replica (wanted_moment moment need))) some
+    go (hindrance need (outs_of setup replica part need.conit) (order_sum (tentative setup replica part) need.conit) (slowest (covers_of setup replica part moment))
+    (first_late (covers_of setup replica part moment) replica (wanted_moment moment need))) some
   where
     go : (hindered : Option Hindrance)
         → option_map (waiting_by need moment) hindered ≡ Some given
@@ -223,9 +228,9 @@ module _ (setup : Setup) (history : List Entry) (entry : Entry) (sound : Sound s
       → IsMet setup history reader entry.moment need
       → IsMet setup (history ++ entry ∷ []) reader entry.moment need
   IsMet-after need met = record {
-    num = rw (quiet-num_error setup history entry accepts takes reader need.conit) met.num;
-    order = rw (quiet-order_error setup history entry accepts takes reader need.conit) met.order;
-    stale = λ misses. met.stale (subst (Any (λ (w : Write). w.moment < wanted_moment entry.moment need)) (quiet-unseen_by setup history entry accepts takes reader) misses);
+    num = rw (idle-num_error setup history entry accepts takes reader need.conit) met.num;
+    order = rw (idle-order_error setup history entry accepts takes reader need.conit) met.order;
+    stale = λ misses. met.stale (subst (Any (λ (w : Write). w.moment < wanted_moment entry.moment need)) (idle-unseen_by setup history entry accepts takes reader) misses);
   }
 
   meets : (key : ℕ) (needs : List Need) (answer : ℤ) (sums : List ℤ)
@@ -247,7 +252,8 @@ MeetsNeeds-due : (setup : Setup) (history : List Entry) (replica moment : ℕ) (
     → IsLawful setup history (record { replica = replica; moment = moment; act = done })
     → MeetsNeeds setup (history ++ record { replica = replica; moment = moment; act = done } ∷ []) replica moment done
 MeetsNeeds-due setup history replica moment (act.Call client number (request.Read key needs) (reply.Value answer sums)) sound agree within lawful =
-    meets setup history (record { replica = replica; moment = moment; act = act.Call client number (request.Read key needs) (reply.Value answer sums) }) sound agree within lawful refl refl key needs answer sums lawful.due.in_range.act.1 lawful.due.act.1
+    meets setup history (record { replica = replica; moment = moment; act = act.Call client number (request.Read key needs) (reply.Value answer sums) }) sound agree
+        within lawful refl refl key needs answer sums lawful.due.in_range.act.1 lawful.due.act.1
 MeetsNeeds-due setup history replica moment other sound agree within lawful = tt
 
 pub IsAnswered-from : (setup : Setup) (history : List Entry)

@@ -1,5 +1,7 @@
 -- The message that is due after a part that can be is in range.
-use Rattle.std.proofs.Common.{◌≡◌, ◌≢◌, ℕ, ◌-◌, ◌*◌, ◌<◌, ◌≤◌, ◌==◌, nat_lt, Bool, true, false, cond, List, [], ◌∷◌, length, take, drop, map, filter, flat_map, sum_by, slice_index, max, min, All, refl, sym, ap, ◌∙◌, subst, arith}
+use Rattle.std.proofs.Common.{◌≡◌, ◌≢◌, ℕ, ◌-◌, ◌*◌, ◌<◌, ◌≤◌, ◌==◌, nat_lt, Bool, true, false, cond, List, [], ◌∷◌}
+use Rattle.std.proofs.Common.{length, take, drop, map, filter, flat_map, sum_by, slice_index, max, min, All, refl, sym}
+use Rattle.std.proofs.Common.{ap, ◌∙◌, subst, arith}
 use Rattle.std.specs.List.{range_with_len}
 use Rattle.std.proofs.lemmas.Bool.{eq-eqb, lt-ltb, ltb-true}
 use Rattle.std.proofs.lemmas.List.{length-take, length-drop}
@@ -22,7 +24,7 @@ use Rattle.run_model.specs.declared.entry.Message.{Message}
 use Rattle.run_model.proofs.PrefixLemmas.{IsPrefix-take, IsPrefix-filter, IsPrefix-length}
 use Rattle.run_model.proofs.PartLemmas.{sent_by}
 use Rattle.run_model.proofs.SoundMessages.{joined-within}
-use Rattle.run_model.proofs.Placed.{front_is_placed, stretch_has_places}
+use Rattle.run_model.proofs.WritesByOrigin.{front_is_placed, stretch_has_places}
 use Rattle.run_model.proofs.EntriesInRange.{loan_of-most, lent_by-most, returned_by-most}
 use Rattle.run_promises.proofs.PartSound.{PartSound}
 use Rattle.run_promises.proofs.PartViews.{PartSound-log, PartSound-cover}

@@ -1,5 +1,7 @@
 -- Reads whose needs allow all there can be, and writes whose budgets are whole: neither is made to wait.
-use Rattle.std.proofs.Common.{◌≡◌, ℕ, ◌<◌, ◌≤◌, ◌==◌, Bool, true, false, not, ◌&&◌, cond, nat_lt, ℤ, pos, negsuc, unsigned_abs, List, [], ◌∷◌, get_or, map, filter, sum, sum_by, All, Option, None, unwrap_or, refl, sym, ap, ◌∙◌, arith}
+use Rattle.std.proofs.Common.{◌≡◌, ℕ, ◌<◌, ◌≤◌, ◌==◌, Bool, true, false, not, ◌&&◌, cond, nat_lt, ℤ, pos, negsuc}
+use Rattle.std.proofs.Common.{unsigned_abs, List, [], ◌∷◌, get_or, map, filter, sum, sum_by, All, Option, None}
+use Rattle.std.proofs.Common.{unwrap_or, refl, sym, ap, ◌∙◌, arith}
 use Rattle.std.specs.List.{cons_option, filter_map, slice_get, find, enumerate_from}
 use Rattle.std.specs.Option.{option_map}
 use Rattle.std.proofs.lemmas.Bool.{le-ltb}

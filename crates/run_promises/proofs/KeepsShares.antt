@@ -1,5 +1,6 @@
 -- What a peer may miss of a replica's writes, and what is reserved, stays within the replica's share of the peer's bound.
-use Rattle.std.proofs.Common.{◌≡◌, ℕ, ◌+◌, ◌-◌, ◌<◌, ◌≤◌, ◌==◌, ◌&&◌, nat_lt, Bool, true, false, cond, List, [], ◌∷◌, ◌++◌, sum_by, Option, None, Some, unwrap_or, unsigned_abs, refl, sym, ap, subst, arith}
+use Rattle.std.proofs.Common.{◌≡◌, ℕ, ◌+◌, ◌-◌, ◌<◌, ◌≤◌, ◌==◌, ◌&&◌, nat_lt, Bool, true, false, cond, List, [], ◌∷◌}
+use Rattle.std.proofs.Common.{◌++◌, sum_by, Option, None, Some, unwrap_or, unsigned_abs, refl, sym, ap, subst, arith}
 use Rattle.std.specs.List.{cons_option}
 use Rattle.std.proofs.lemmas.Bool.{ltb-false, eqb-true, and_parts}
 use Rattle.std.proofs.lemmas.List.Sums.{sum_by_push}
@@ -107,8 +108,10 @@ module _ (setup : Setup) (replica : ℕ) (part : List Entry) (conit : ℕ) (used
     -- there is room for what an act grants, uses and gives back, and for the write that it accepts
     record HasRoom (grants uses gives : ℕ) (new : List Write) : Type 0 where
       covered : returned part peer conit + gives ≤ lent_known setup replica part peer conit
-      plus : missing_plus replica part peer conit + plus_sum new conit + (granted_sum part conit + grants - (used_sum part conit + uses)) ≤ lent_known setup replica part peer conit - (returned part peer conit + gives)
-      minus : missing_minus replica part peer conit + minus_sum new conit + (granted_sum part conit + grants - (used_sum part conit + uses)) ≤ lent_known setup replica part peer conit - (returned part peer conit + gives)
+      plus : missing_plus replica part peer conit + plus_sum new conit + (granted_sum part conit + grants - (used_sum part conit + uses))
+          ≤ lent_known setup replica part peer conit - (returned part peer conit + gives)
+      minus : missing_minus replica part peer conit + minus_sum new conit + (granted_sum part conit + grants - (used_sum part conit + uses))
+          ≤ lent_known setup replica part peer conit - (returned part peer conit + gives)
 
     -- nothing changes
     HasRoom-none : HasRoom 0 0 0 []
@@ -132,7 +135,8 @@ module _ (setup : Setup) (replica : ℕ) (part : List Entry) (conit : ℕ) (used
         let minus = missing_minus_fits setup replica part peer peer_in other conit (λ _. true) weights good.listed none within.minus in
         record { covered = omega (arith, within.covered); plus = omega (arith, plus, above); minus = omega (arith, minus, below) }
     HasRoom-write moment weights op good (Some given) some =
-        subst (λ (numbers : Option (ℕ × ℕ)). HasRoom 0 0 0 (cons_option (accepted_as replica moment (Some (weights, op)) numbers) [])) (sym (weights_refuse setup replica part weights given some).accepts) HasRoom-none
+        subst (λ (numbers : Option (ℕ × ℕ)). HasRoom 0 0 0 (cons_option (accepted_as replica moment (Some (weights, op)) numbers) []))
+        (sym (weights_refuse setup replica part weights given some).accepts) HasRoom-none
 
     -- a held write takes its size out of what is reserved
     HasRoom-held : (moment : ℕ) (weight : Weight) (op : Op) (less : Bool)
@@ -227,7 +231,8 @@ module _ (setup : Setup) (part : List Entry) (entry : Entry) (due : IsDue setup 
       → IsWithinShare setup entry.replica (part ++ entry ∷ []) peer conit
   IsWithinShare-push peer conit peer_in other =
       let room = HasRoom-acted setup entry.replica part conit (keeps.used conit) peer peer_in other (keeps.each peer conit peer_in other) entry.moment entry.act due.act due.in_range.act in
-      let returned_more : returned (part ++ entry ∷ []) peer conit ≡ returned part peer conit + returned_by_act peer conit entry.act = sum_by_push (λ (e : Entry). returned_by_act peer conit e.act) part entry in
+      let returned_more : returned (part ++ entry ∷ []) peer conit ≡ returned part peer conit + returned_by_act peer conit entry.act =
+      sum_by_push (λ (e : Entry). returned_by_act peer conit e.act) part entry in
       let lent_more = lent_known-le-push part entry setup entry.replica peer conit in
       let plus_more = missing-le-push part entry (λ (weight : Weight). above_zero weight.nweight) entry.replica peer conit in
       let minus_more = missing-le-push part entry (λ (weight : Weight). below_zero weight.nweight) entry.replica peer conit in

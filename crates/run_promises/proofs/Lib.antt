@@ -10,7 +10,7 @@ pub mod Fitting
 pub mod PartSound
 pub mod PartViews
 pub mod DueInRange
-pub mod Quiet
+pub mod IdleEntries
 pub mod NumErrors
 pub mod Answered
 pub mod Kept

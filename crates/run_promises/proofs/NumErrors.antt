@@ -1,5 +1,7 @@
 -- How far a replica's value is off is at most what the others may have accepted unseen, and that is within what it has out.
-use Rattle.std.proofs.Common.{◌≡◌, ℕ, ◌+◌, ◌<◌, ◌≤◌, ◌==◌, true, false, cond, nat_le, unsigned_abs, ℤ, pos, ◌+ℤ◌, ◌-ℤ◌, List, [], ◌∷◌, ◌++◌, length, get_or, filter, flat_map, sum, sum_by, All, refl, sym, ap, ap₂, ◌∙◌, subst, ⊎_elim, arith}
+use Rattle.std.proofs.Common.{◌≡◌, ℕ, ◌+◌, ◌<◌, ◌≤◌, ◌==◌, true, false, cond, nat_le, unsigned_abs, ℤ, pos, ◌+ℤ◌, ◌-ℤ◌}
+use Rattle.std.proofs.Common.{List, [], ◌∷◌, ◌++◌, length, get_or, filter, flat_map, sum, sum_by, All, refl, sym, ap}
+use Rattle.std.proofs.Common.{ap₂, ◌∙◌, subst, ⊎_elim, arith}
 use Rattle.std.proofs.lemmas.Bool.{cases_eq, ne_eqb, lt-leb, le-leb}
 use Rattle.std.proofs.lemmas.Int.{ints}
 use Rattle.std.proofs.lemmas.List.{length-append, get_or-append-add}
@@ -48,7 +50,8 @@ module _ (whole front rest : ℕ → List Write) (goes_on : (i : ℕ) → whole 
       let of_one : net_sum (whole x) conit ≡ net_sum (front x) conit +ℤ net_sum (rest x) conit = ap (λ ws. net_sum ws conit) (goes_on x) ∙ net_sum-append (front x) (rest x) conit in
       let here = All-head (λ i. unsigned_abs (net_sum (rest i) conit) ≤ most i) x xs all in
       let later = net_sum-differs xs (All-tail (λ i. unsigned_abs (net_sum (rest i) conit) ≤ most i) x xs all) in
-      combine (net_sum (whole x ++ flat_map whole xs) conit) (net_sum (whole x) conit) (net_sum (flat_map whole xs) conit) (net_sum (front x ++ flat_map front xs) conit) (net_sum (front x) conit) (net_sum (flat_map front xs) conit) (net_sum (rest x) conit)
+      combine (net_sum (whole x ++ flat_map whole xs) conit) (net_sum (whole x) conit) (net_sum (flat_map whole xs) conit) (net_sum (front x ++ flat_map front xs) conit)
+      (net_sum (front x) conit) (net_sum (flat_map front xs) conit) (net_sum (rest x) conit)
       (most x) (sum_by most xs) (sum_by most (x ∷ xs)) of_whole of_front of_one here later (sum_by-cons most x xs)
     where
       combine : (w wx ws f fx fs r : ℤ) (m s t : ℕ)
@@ -115,7 +118,8 @@ module _ (setup : Setup) (history : List Entry) (sound : Sound setup history) wh
         let size : unsigned_abs (net_sum (unseen history origin replica) conit) ≡ 0 = ap unsigned_abs none in
         omega (arith, size))
         (λ (other : origin ≡ replica → ⊥).
-        let at : out_at origin ≡ out setup replica (part_of history replica) origin conit = ap (λ yes. cond yes 0 (out setup replica (part_of history replica) origin conit)) (ne_eqb origin replica other) in
+        let at : out_at origin ≡ out setup replica (part_of history replica) origin conit =
+        ap (λ yes. cond yes 0 (out setup replica (part_of history replica) origin conit)) (ne_eqb origin replica other) in
         let bound = within origin replica conit origin_in replica_in (λ turned. other (sym turned)) conit_in in
         let lent : share setup origin (part_of history origin) replica conit ≤ out setup replica (part_of history replica) origin conit =
         omega (arith, agree.lent origin replica conit, agree.returned replica origin conit) in

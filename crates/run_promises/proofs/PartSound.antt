@@ -153,7 +153,8 @@ module _ (setup : Setup) (part : List Entry) (entry : Entry) (sound : PartSound 
       log_more reaches = record {
         origins = All-append IsOfOrigin kept.log (drop held told) log_before.origins
             (All-drop IsOfOrigin held told
-            (All-weaker (λ (write : Write). (write.origin == origin) ≡ true) IsOfOrigin (λ write is. eqb-true write.origin origin is) told (filter_passes (λ (write : Write). write.origin == origin) message.writes)));
+            (All-weaker (λ (write : Write). (write.origin == origin) ≡ true) IsOfOrigin (λ write is. eqb-true write.origin origin is) told
+            (filter_passes (λ (write : Write). write.origin == origin) message.writes)));
         indices = λ place d inside. ⊎_elim
             (λ (early : place < length kept.log). rw (get_or_append_left kept.log (drop held told) d place early) (log_before.indices place d early))
             (λ (late : length kept.log ≤ place).
@@ -173,7 +174,8 @@ module _ (setup : Setup) (part : List Entry) (entry : Entry) (sound : PartSound 
         few = ⊎_elim
             (λ (nothing : length told < held). omega (arith, log_before.few, length-append kept.log (drop held told), length-drop held told, nothing))
             (λ (some : held ≤ length told).
-            omega (arith, length-append kept.log (drop held told), length-drop held told, some, reaches, (in_range.told origin within).told, (in_range.told origin within).first, (in_range.told origin within).have))
+            omega (arith, length-append kept.log (drop held told), length-drop held told, some, reaches, (in_range.told origin within).told,
+            (in_range.told origin within).first, (in_range.told origin within).have))
             (cases_lt (length told) held);
       }
         where
@@ -197,7 +199,8 @@ module _ (setup : Setup) (part : List Entry) (entry : Entry) (sound : PartSound 
       log_after_take : IsSoundLog setup (clock longer) origin (log_after kept.log (told_first message origin) told)
       log_after_take = log_after-cases (IsSoundLog setup (clock longer) origin) kept.log (told_first message origin) told log_more log_before
 
-      cover_after_take : IsSoundCover (clock longer) (length (log_after kept.log (told_first message origin) told)) (cover_after (length (log_after kept.log (told_first message origin) told)) kept.cover (told_cover message origin))
+      cover_after_take : IsSoundCover (clock longer) (length (log_after kept.log (told_first message origin) told))
+          (cover_after (length (log_after kept.log (told_first message origin) told)) kept.cover (told_cover message origin))
       cover_after_take =
           let has = length (log_after kept.log (told_first message origin) told) in
           let before = sound.covers origin within other in

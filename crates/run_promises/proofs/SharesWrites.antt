@@ -166,10 +166,12 @@ module _ (setup : Setup) (replica : ℕ) (part : List Entry) where
     below_zero_fits conit before (negsuc n) fit = omega (arith, fit)
 
     -- the weights of a write that isn't refused leave what the peer may miss within the share
-    module _ (conit : ℕ) (in_limits : Weight → Bool) (weights : List Weight) (good : IsConitList (λ (weight : Weight). weight.conit) in_limits weights) (none : first_some (weight_refusal setup replica part) weights ≡ None) where
+    module _ (conit : ℕ) (in_limits : Weight → Bool) (weights : List Weight) (good : IsConitList (λ (weight : Weight). weight.conit) in_limits weights)
+        (none : first_some (weight_refusal setup replica part) weights ≡ None) where
       weights_fit : (side : ℤ → ℕ) (missing : ℕ)
           → missing + reserved part conit ≤ share setup replica part peer conit
-          → ((z : ℤ) → missing_of_sign replica part peer conit z + reserved part conit + unsigned_abs z ≤ share setup replica part peer conit → missing + side z + reserved part conit ≤ share setup replica part peer conit)
+          → ((z : ℤ) → missing_of_sign replica part peer conit z + reserved part conit + unsigned_abs z ≤ share setup replica part peer conit
+          → missing + side z + reserved part conit ≤ share setup replica part peer conit)
           → missing + sum_by (λ (weight : Weight). side weight.nweight) (on_conit conit weights) + reserved part conit ≤ share setup replica part peer conit
       weights_fit side missing before fit =
           let Q = λ (n : ℕ). missing + n + reserved part conit ≤ share setup replica part peer conit in

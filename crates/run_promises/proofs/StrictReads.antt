@@ -21,7 +21,7 @@ use Rattle.run_model.specs.declared.entry.Act.TheVariants as act
 use Rattle.run_model.specs.declared.entry.Entry.{Entry}
 use Rattle.run_promises.specs.Conclusions.{IsStrict, IsTruth, TellsTruth}
 use Rattle.run_promises.proofs.Answered.{answered-unrefused}
-use Rattle.run_promises.proofs.Quiet.{quiet-seen}
+use Rattle.run_promises.proofs.IdleEntries.{idle-seen}
 
 -- numbers that are no distance apart
 no_distance : (one other : ℤ)
@@ -62,7 +62,7 @@ module _ (setup : Setup) (history : List Entry) (replica moment client number ke
       → IsTruth setup further replica moment need.conit (value setup replica (part_of history replica) need.conit)
   strict need met allows =
       let same : value setup replica (part_of further replica) need.conit ≡ value setup replica (part_of history replica) need.conit =
-      ap (λ (writes : List Write). net_sum writes need.conit) (quiet-seen setup history entry refl refl replica) in
+      ap (λ (writes : List Write). net_sum writes need.conit) (idle-seen setup history entry refl refl replica) in
       let now : moment - need.stale ≡ moment = omega (arith, allows.stale) in
       record {
         value = sym same ∙ no_distance (reference setup further need.conit) (value setup replica (part_of further replica) need.conit) (omega (arith, met.num, allows.num));

@@ -29,7 +29,8 @@ IsWithin-from setup history sound shares replica peer conit replica_in peer_in o
     let writes = own (part_of history replica) in
     let told = known (part_of history replica) peer replica in
     let has = have peer (part_of history peer) replica in
-    let among = λ (f : Weight → ℕ). weights_on-filter-le f conit (λ (w : Write). nat_le has w.index) (λ (w : Write). nat_le told w.index) (λ w. from_later told has w.index (sound.known replica peer replica)) writes in
+    let among = λ (f : Weight → ℕ). weights_on-filter-le f conit (λ (w : Write). nat_le has w.index) (λ (w : Write). nat_le told w.index)
+    (λ w. from_later told has w.index (sound.known replica peer replica)) writes in
     let share = (shares replica).each peer conit peer_in other in
     record {
       plus = omega (arith, share.plus, among (λ (w : Weight). above_zero w.nweight));

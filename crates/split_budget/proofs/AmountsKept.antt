@@ -90,7 +90,8 @@ module _ (s : BudgetState) (keeps : KeepsBudgets s) where
         given_up = λ other is. omega (arith, keeps.given_up other is, grows other);
         peers = λ other conit is within.
             let kept = keeps.peers other conit is within in
-            let less = λ (part : ℤ → ℕ). part_on-known part conit (get_or s.known other 0 - s.given_up) (get_or (set s.known peer newest) other 0 - s.given_up) s.weights (omega (arith, grows other)) in
+            let less = λ (part : ℤ → ℕ). part_on-known part conit (get_or s.known other 0 - s.given_up) (get_or (set s.known peer newest) other 0 - s.given_up) s.weights
+            (omega (arith, grows other)) in
             record {
               plus = omega (arith, kept.plus, less above_zero);
               minus = omega (arith, kept.minus, less below_zero);

@@ -101,7 +101,8 @@ module _ (s : BudgetState) (keeps : KeepsBudgets s) (owner conit told : ℕ) (is
   }
 
 -- More is lent to a holder, of what is at home.
-module _ (s : BudgetState) (keeps : KeepsBudgets s) (holder conit amount : ℕ) (is_holder : IsPeer s holder) (conit_in : conit < s.setup.conits) (at_home : amount ≤ home s conit) (limit : lent_to s holder conit + amount ≤ LENT_MAX) where
+module _ (s : BudgetState) (keeps : KeepsBudgets s) (holder conit amount : ℕ) (is_holder : IsPeer s holder) (conit_in : conit < s.setup.conits)
+    (at_home : amount ≤ home s conit) (limit : lent_to s holder conit + amount ≤ LENT_MAX) where
   abbrev place : ℕ
   place = place_of s.setup holder conit
 
@@ -203,7 +204,8 @@ module _ (s : BudgetState) (keeps : KeepsBudgets s) (owner conit amount : ℕ) (
         returned_known = kept.returned_known;
         lent = kept.lent;
       })
-      (get_or-set_cases s.returned (place_of s.setup owner conit) (returned_to s owner conit + amount) (place_of s.setup peer at) (rw keeps.returned (place_in s.setup owner conit is_owner.0 conit_in)))
+      (get_or-set_cases s.returned (place_of s.setup owner conit) (returned_to s owner conit + amount) (place_of s.setup peer at)
+      (rw keeps.returned (place_in s.setup owner conit is_owner.0 conit_in)))
 
   pub KeepsBudgets-given : KeepsBudgets with_given
   KeepsBudgets-given =

@@ -1,5 +1,7 @@
 -- What is committed and what is tentative of writes in order: a front and what follows it, and one front for all replicas.
-use Rattle.std.proofs.Common.{◌≡◌, ℕ, ◌+◌, length, not, ◌<◌, ◌≤◌, Bool, true, false, if◌then◌else◌, List, [], ◌∷◌, ◌++◌, filter, All, IsSorted, nat_le, nat_lt, refl, sym, ap, ap₂, ◌∙◌, ⊎_elim, le-leb, leb-true, ltb-true, arith}
+use Rattle.std.proofs.Common.{◌≡◌, ℕ, ◌+◌, length, not, ◌<◌, ◌≤◌, Bool, true, false, if◌then◌else◌, List, [], ◌∷◌, ◌++◌}
+use Rattle.std.proofs.Common.{filter, All, IsSorted, nat_le, nat_lt, refl, sym, ap, ap₂, ◌∙◌, ⊎_elim, le-leb, leb-true}
+use Rattle.std.proofs.Common.{ltb-true, arith}
 use Rattle.std.proofs.lemmas.Bool.{cases_lt, lt-leb, le-ltb, lt-ltb}
 use Rattle.std.proofs.lemmas.List.Elements.{All-cons, All-weaker, All-filter, filter_passes}
 use Rattle.std.proofs.lemmas.List.Filters.{length-filter_both}

@@ -1,5 +1,7 @@
 -- What holds of a list that isn't refused.
-use Rattle.std.proofs.Common.{◌≡◌, ℕ, ◌<◌, ◌≤◌, zero, suc, [], ◌∷◌, ◌==◌, add-one, add_comm, inl, inr, Bool, true, false, not, cond, nat_lt, ltb, List, ◌+◌, ◌-◌, length, length-drop, get_or, drop, nat_le, ◌&&◌, Option, Some, None, refl, arith, sym}
+use Rattle.std.proofs.Common.{◌≡◌, ℕ, ◌<◌, ◌≤◌, zero, suc, [], ◌∷◌, ◌==◌, add-one, add_comm, inl, inr, Bool, true}
+use Rattle.std.proofs.Common.{false, not, cond, nat_lt, ltb, List, ◌+◌, ◌-◌, length, length-drop, get_or, drop, nat_le}
+use Rattle.std.proofs.Common.{◌&&◌, Option, Some, None, refl, arith, sym}
 use Rattle.std.specs.List.{All, AllPairs, filter, position, position_or_len, zip}
 use Rattle.std.specs.Option.{option_map, option_or}
 use Rattle.std.proofs.lemmas.List.Sums.{fails_before_first}
@@ -52,7 +54,8 @@ module _ {T : Type 0} (conit : T → ℕ) (in_limits : T → Bool) (items : List
   -- each within its limits
   pub IsConitList-limits : All (λ item. in_limits item ≡ true) items
   IsConitList-limits k d within =
-      let rest = (if_none (ltb 4 (length items)) TooMany (option_or (option_map Unordered (first_unordered conit in_limits items)) (option_map Range (first_out_of_limits conit in_limits items))) good).1 in
+      let rest = (if_none (ltb 4 (length items)) TooMany
+      (option_or (option_map Unordered (first_unordered conit in_limits items)) (option_map Range (first_out_of_limits conit in_limits items))) good).1 in
       let none = map_none Range (first_out_of_limits conit in_limits items) (or_none (option_map Unordered (first_unordered conit in_limits items)) _ rest).1 in
       not_not (in_limits (get_or items k d)) (position-None (λ item. not (in_limits item)) items none k d within)
     where
@@ -65,7 +68,8 @@ module _ {T : Type 0} (conit : T → ℕ) (in_limits : T → Bool) (items : List
       → k + 1 < length items
       → conit (get_or items k d) < conit (get_or items (k + 1) d)
   IsConitList-rising k d within =
-      let rest = (if_none (ltb 4 (length items)) TooMany (option_or (option_map Unordered (first_unordered conit in_limits items)) (option_map Range (first_out_of_limits conit in_limits items))) good).1 in
+      let rest = (if_none (ltb 4 (length items)) TooMany
+      (option_or (option_map Unordered (first_unordered conit in_limits items)) (option_map Range (first_out_of_limits conit in_limits items))) good).1 in
       let none = map_none suc _ (map_none Unordered (first_unordered conit in_limits items) (or_none (option_map Unordered (first_unordered conit in_limits items)) _ rest).0) in
       let long : length (drop 1 items) ≡ length items - 1 = length-drop 1 items in
       let pairs : k < length (zip items (drop 1 items)) = rw (length-zip items (drop 1 items), long) (omega arith) in

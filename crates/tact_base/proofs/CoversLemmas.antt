@@ -1,5 +1,7 @@
 -- A cover after a told one, the least stamp over covers, and the least replica that has it.
-use Rattle.std.proofs.Common.{◌≡◌, ℕ, ◌<◌, ◌≤◌, min, suc, ltb, ◌==◌, Bool, true, false, cond, nat_le, List, [], ◌∷◌, length, get_or, set, map, fold, All, refl, ap, ⊎_elim, get_or-set_same, get_or-set_other, arith}
+use Rattle.std.proofs.Common.{◌≡◌, ℕ, ◌<◌, ◌≤◌, min, suc, ltb, ◌==◌, Bool, true, false, cond, nat_le, List, [], ◌∷◌}
+use Rattle.std.proofs.Common.{length, get_or, set, map, fold, All, refl, ap, ⊎_elim, get_or-set_same, get_or-set_other}
+use Rattle.std.proofs.Common.{arith}
 use Rattle.std.specs.List.{IsFirstBest}
 use Rattle.std.proofs.lemmas.List.{get_or-map, length-map, length-set}
 use Rattle.std.proofs.lemmas.List.Elements.{All-nil, All-cons}

@@ -1,5 +1,7 @@
 -- What a list contains, by its first element, and what its filters contain.
-use Rattle.std.proofs.Common.{◌≡◌, ◌≢◌, ℕ, ◌<◌, ◌≤◌, ◌++◌, length, flat_map, swap, IsPermutation, suc, zero, ◌⊎◌, Bool, true, false, if◌then◌else◌, List, [], ◌∷◌, get_or, filter, All, AllPairs, Contains, refl, sym, ap, ◌∙◌, inl, inr, ⊎_elim, arith}
+use Rattle.std.proofs.Common.{◌≡◌, ◌≢◌, ℕ, ◌<◌, ◌≤◌, ◌++◌, length, flat_map, swap, IsPermutation, suc, zero, ◌⊎◌, Bool}
+use Rattle.std.proofs.Common.{true, false, if◌then◌else◌, List, [], ◌∷◌, get_or, filter, All, AllPairs, Contains, refl}
+use Rattle.std.proofs.Common.{sym, ap, ◌∙◌, inl, inr, ⊎_elim, arith}
 use Rattle.std.proofs.lemmas.Bool.{cases_eq, cases_lt, false≢true}
 use Rattle.std.proofs.lemmas.List.Edits.{swapped_from_swap, length-swap}
 use Rattle.std.proofs.lemmas.List.Kept.{AllPairs-cons}

@@ -1,5 +1,7 @@
 -- General facts about lists: induction from the right, parts of joined lists, and filters and joins over ranges.
-use Rattle.std.proofs.Common.{◌≡◌, ℕ, zero, suc, ◌+◌, ◌-◌, ◌<◌, ◌≤◌, ◌≢◌, Bool, true, false, List, [], ◌∷◌, ◌++◌, length, get_or, take, map, fold, filter, flat_map, sum_by, All, Option, Some, None, refl, ap, ◌∙◌, subst, ⊎_elim, zero-add, arith}
+use Rattle.std.proofs.Common.{◌≡◌, ℕ, zero, suc, ◌+◌, ◌-◌, ◌<◌, ◌≤◌, ◌≢◌, Bool, true, false, List, [], ◌∷◌, ◌++◌}
+use Rattle.std.proofs.Common.{length, get_or, take, map, fold, filter, flat_map, sum_by, All, Option, Some, None, refl}
+use Rattle.std.proofs.Common.{ap, ◌∙◌, subst, ⊎_elim, zero-add, arith}
 use Rattle.std.specs.List.{range_with_len, filter_map, cons_option}
 use Rattle.std.proofs.lemmas.Bool.{cases_eq}
 use Rattle.std.proofs.lemmas.List.{append_assoc, append-nil, length-append, get_or_append_left, get_or-append-add, get_or-map, get_or_past, length-map, length-take}

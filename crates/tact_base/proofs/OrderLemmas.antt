@@ -1,7 +1,11 @@
 -- The writes in order: the same writes, sorted, and one list whatever order they came in.
-use Rattle.std.proofs.Common.{◌≡◌, ◌≢◌, ℕ, ◌++◌, flat_map, ap, Less, suc, zero, Bool, true, false, if◌then◌else◌, List, [], ◌∷◌, length, All, AllPairs, Contains, IsPermutation, IsSorted, refl, sym, ap₂, ◌∙◌, ⊎_elim, suc-add, arith}
+use Rattle.std.proofs.Common.{◌≡◌, ◌≢◌, ℕ, ◌++◌, flat_map, ap, Less, suc, zero, Bool, true, false, if◌then◌else◌, List}
+use Rattle.std.proofs.Common.{[], ◌∷◌, length, All, AllPairs, Contains, IsPermutation, IsSorted, refl, sym, ap₂, ◌∙◌}
+use Rattle.std.proofs.Common.{⊎_elim, suc-add, arith}
 use Rattle.std.proofs.lemmas.List.Elements.{All-nil, All-cons, All-head, All-tail, All-weaker, All-contains, recursion_from_All}
-use Rattle.std.proofs.lemmas.List.Sorted.{IsPermutation-refl, IsPermutation-sym, IsPermutation-cons, IsPermutation-trans, IsPermutation-middle, All-permutation, Contains-permutation, length_permutation, sorted_far}
+use Rattle.std.proofs.lemmas.List.Sorted.{IsPermutation-refl, IsPermutation-sym, IsPermutation-cons}
+use Rattle.std.proofs.lemmas.List.Sorted.{IsPermutation-trans, IsPermutation-middle, All-permutation}
+use Rattle.std.proofs.lemmas.List.Sorted.{Contains-permutation, length_permutation, sorted_far}
 use Rattle.std.specs.List.Sorted.{IsStrictlySortedBy}
 use Rattle.std.proofs.lemmas.Bool.{false≢true}
 use Rattle.tact_base.specs.WriteOrder.{write_cmp, comes_before, with_write, in_order}

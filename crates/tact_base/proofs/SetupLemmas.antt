@@ -1,5 +1,7 @@
 -- What a setup without a fault is, and its first owner and conit at fault.
-use Rattle.std.proofs.Common.{◌≡◌, ℕ, ◌+◌, ◌*◌, ◌/◌, ◌%◌, ◌<◌, ◌≤◌, suc, zero, Bool, true, false, cond, List, [], ◌∷◌, ◌++◌, length, take, drop, get_or, sum, Option, Some, None, is_some, refl, sym, ap, ◌∙◌, arith}
+use Rattle.std.proofs.Common.{◌≡◌, ℕ, ◌+◌, ◌*◌, ◌/◌, ◌%◌, ◌<◌, ◌≤◌, suc, zero, Bool, true, false, cond, List, [], ◌∷◌}
+use Rattle.std.proofs.Common.{◌++◌, length, take, drop, get_or, sum, Option, Some, None, is_some, refl, sym, ap, ◌∙◌}
+use Rattle.std.proofs.Common.{arith}
 use Rattle.std.specs.List.{slice_get, slice_range, filter_map, flat_map, cons_option}
 use Rattle.std.proofs.lemmas.Bool.{and_parts, leb-true, eqb-true, ltb-false, cond-true, cond-false}
 use Rattle.std.proofs.lemmas.List.{at_drop_more, at_drop_all, take_all, take_more, flat_map_more, length-take, length-drop}
@@ -146,8 +148,10 @@ pub first_of-drop_all : (s : Setup) (place : ℕ)
 first_of-drop_all s place p = at_drop_all (first_of s) (owners_and_conits s) place (rw (length-owners_and_conits s) p)
 
 pub row_of-at_place : (s : Setup) (place : ℕ)
-    → row_of s (place / s.conits, place % s.conits) ≡ row_fault (place / s.conits) (place % s.conits) (get_or s.alphas place 0) (slice_range s.loans (place * s.replicas) (place * s.replicas + s.replicas))
-row_of-at_place s place = ap (λ at. row_fault (place / s.conits) (place % s.conits) (get_or s.alphas at 0) (slice_range s.loans (at * s.replicas) (at * s.replicas + s.replicas))) (div-add-mod' place s.conits)
+    → row_of s (place / s.conits, place % s.conits)
+    ≡ row_fault (place / s.conits) (place % s.conits) (get_or s.alphas place 0) (slice_range s.loans (place * s.replicas) (place * s.replicas + s.replicas))
+row_of-at_place s place =
+    ap (λ at. row_fault (place / s.conits) (place % s.conits) (get_or s.alphas at 0) (slice_range s.loans (at * s.replicas) (at * s.replicas + s.replicas))) (div-add-mod' place s.conits)
 
 pub owner_in_row : (s : Setup)
     → HasCounts s

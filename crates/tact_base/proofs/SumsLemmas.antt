@@ -73,7 +73,8 @@ pub sum_on_conit-le : (amount : Weight → ℕ) (most : ℕ)
     → sum_by amount (on_conit conit weights) ≤ most
 sum_on_conit-le amount most small conit weights good =
     let limits = All-filter (λ weight. weight.conit == conit) (λ weight. weight_in_limits weight ≡ true) weights (IsConitList-limits _ _ weights good) in
-    let each : All (λ weight. amount weight ≤ most) (on_conit conit weights) = All-weaker (λ weight. weight_in_limits weight ≡ true) (λ weight. amount weight ≤ most) small (on_conit conit weights) limits in
+    let each : All (λ weight. amount weight ≤ most) (on_conit conit weights) =
+    All-weaker (λ weight. weight_in_limits weight ≡ true) (λ weight. amount weight ≤ most) small (on_conit conit weights) limits in
     let few : length (on_conit conit weights) ≤ 1 = IsConitList-once (λ weight. weight.conit) weight_in_limits weights good conit in
     let sum = sum_by-le amount most (on_conit conit weights) each in
     let product : length (on_conit conit weights) * most ≤ 1 * most = mul-le-mul_right most few in

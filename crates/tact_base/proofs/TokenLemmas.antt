@@ -1,5 +1,7 @@
 -- Tokens that are read as numbers.
-use Rattle.std.proofs.Common.{◌≡◌, ℕ, ◌+◌, ◌-◌, ◌*◌, ◌^◌, ◌<◌, ◌≤◌, suc, Bool, true, false, ltb, ◌&&◌, List, [], ◌∷◌, length, drop, take, take_while, fold, Some, Result, Ok, Err, MatchResult, refl, sym, ap, ◌∙◌, ⊎_elim, arith}
+use Rattle.std.proofs.Common.{◌≡◌, ℕ, ◌+◌, ◌-◌, ◌*◌, ◌^◌, ◌<◌, ◌≤◌, suc, Bool, true, false, ltb, ◌&&◌, List, [], ◌∷◌}
+use Rattle.std.proofs.Common.{length, drop, take, take_while, fold, Some, Result, Ok, Err, MatchResult, refl, sym, ap}
+use Rattle.std.proofs.Common.{◌∙◌, ⊎_elim, arith}
 use Rattle.std.specs.List.{prefix_len, list_all}
 use Rattle.std.specs.Char.{is_ascii_digit}
 use Rattle.std.proofs.lemmas.Bool.{cases_lt, false≢true, le-leb, lt-leb, lt-ltb, ltb-true}

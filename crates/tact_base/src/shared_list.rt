@@ -23,7 +23,8 @@ impl<T> Model for SharedList<T> {
 }
 
 impl<T: Drop> SharedList<T> {
-    /// The list of these items, with what its clones share in memory of `alloc`. `NoMemory` is its only error.
+    /// The list of these items, with what its clones share in memory of `alloc`. `NoMemory` is its only error; the list
+    /// that was given is dropped then.
     pub fn new(alloc: Global, list: Items<T>) -> Result<Self, NoMemory>
         ensures { IfOk result (λ shared. shared ≡ list) }
     {

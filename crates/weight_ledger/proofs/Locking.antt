@@ -1,5 +1,6 @@
 -- The steps of the lock keep the rule.
-use Rattle.std.proofs.Common.{◌≡◌, ◌≢◌, ℕ, ◌+◌, ◌==◌, ◌<◌, ◌≤◌, List, [], ◌∷◌, ◌++◌, length, get_or, take, drop, set, sym, refl, ap, subst, ◌∙◌, ⊎_elim, arith, length-append, Option, Some, get_or-set_same}
+use Rattle.std.proofs.Common.{◌≡◌, ◌≢◌, ℕ, ◌+◌, ◌==◌, ◌<◌, ◌≤◌, List, [], ◌∷◌, ◌++◌, length, get_or, take, drop, set}
+use Rattle.std.proofs.Common.{sym, refl, ap, subst, ◌∙◌, ⊎_elim, arith, length-append, Option, Some, get_or-set_same}
 use Rattle.std.proofs.Math.ListN.{length-set}
 use Rattle.std.proofs.lemmas.List.{set-get_or, length-drop}
 use mathlib.Core.Option.{Option as Maybe, none, some}

@@ -31,7 +31,8 @@ loop-more-preserved-then-comes_before c =
     subst (λ n. IsMergedAt writes items whole n (more + 1)) (sym one_left) (subst (λ n. IsMergedAt writes items whole c.loop-more.left n) (sym one_more) kept.merged) in
     let is_last : last ≡ get_or items left c.index-items-left.result = c.index-items-left-then-comes_before.is ∙ get_or_default items left last c.index-items-left.result within in
     let earlier : comes_before write last ≡ true = ap (comes_before write) is_last ∙ (sym c.comes_before.ensures ∙ c.if-comes_before.true) in
-    let moved = held_moves writes items whole write c.requires.sorted left more last (omega (arith, kept.more)) (omega (arith, kept.places, kept.left, kept.more)) c.index-writes-more.is c.index-items-left-then-comes_before.is earlier before in
+    let moved = held_moves writes items whole write c.requires.sorted left more last (omega (arith, kept.more)) (omega (arith, kept.places, kept.left, kept.more))
+    c.index-writes-more.is c.index-items-left-then-comes_before.is earlier before in
     record {
       left = omega (arith, kept.left);
       more = kept.more;

@@ -12,7 +12,8 @@ returns-in_err-number-clause-err c =
     let p = err_from_is_err_and c.from_residual.result c.from_residual.ensures.1 in
     let items = c.loop-item.items in
     let same : length c.args.items.now ≡ length items = omega arith in
-    rw (p.1, p.2, same) (ends (λ least. number_at 0 c.args.bound) (λ number. 0) (take c.loop-item.item-index items) (length items) c.loop-item.item-index 0 c.args.bytes.now c.loop-item.place c.in_err-number.field-0.0
+    rw (p.1, p.2, same) (ends (λ least. number_at 0 c.args.bound) (λ number. 0) (take c.loop-item.item-index items) (length items) c.loop-item.item-index 0
+    c.args.bytes.now c.loop-item.place c.in_err-number.field-0.0
     (numbers_at c.args.bound (length items) c.args.bytes.now c.args.start) (omega arith) (sym c.in_err-number.ensures.exact) c.loop-item.invariant.read)
 
 pub loop-item-preserved : goal.loop-item-preserved

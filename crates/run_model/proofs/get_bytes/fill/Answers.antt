@@ -14,7 +14,8 @@ returns-in_err-read-clause-err g c =
     let item = g.T.Listed.item_at c.args.conits in
     let total = list_at item g.T.Listed.after (length items) 0 c.args.bytes.now c.args.start in
     let same : length c.args.items.now ≡ length items = omega arith in
-    rw (p.1, p.2, same) (ends item g.T.Listed.after (take c.loop-item.item-index items) (length items) c.loop-item.item-index c.loop-item.least c.args.bytes.now c.loop-item.place c.in_err-read.field-0.0 total
+    rw (p.1, p.2, same) (ends item g.T.Listed.after (take c.loop-item.item-index items) (length items) c.loop-item.item-index c.loop-item.least c.args.bytes.now
+    c.loop-item.place c.in_err-read.field-0.0 total
     (omega arith) (sym c.in_err-read.ensures.exact) c.loop-item.invariant.read)
 
 pub loop-item-preserved : goal.loop-item-preserved
@@ -39,5 +40,6 @@ returns-clause-ok g c =
     let total = list_at item g.T.Listed.after (length items) 0 c.args.bytes.now c.args.start in
     let all : take c.loop-item.item-index items ≡ items = take_all c.loop-item.item-index items (omega arith) in
     let same : length c.args.items.now ≡ length items = omega arith in
-    let read = is_done item g.T.Listed.after (take c.loop-item.item-index items) (length items) c.loop-item.item-index c.loop-item.least c.args.bytes.now c.loop-item.place total (omega arith) c.loop-item.invariant.read in
+    let read = is_done item g.T.Listed.after (take c.loop-item.item-index items) (length items) c.loop-item.item-index c.loop-item.least c.args.bytes.now
+    c.loop-item.place total (omega arith) c.loop-item.invariant.read in
     rw same (rw all at read)

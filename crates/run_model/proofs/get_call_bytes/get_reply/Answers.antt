@@ -5,7 +5,8 @@ use Rattle.run_model.proofs.get_call_bytes.get_reply.Goals as goal
 
 pub returns-in_err-reply-clause-only : goal.returns-in_err-reply-clause-only
 returns-in_err-reply-clause-only c = λ reply small wide stands.
-    absurd (no_fault reply_reader c.args.bytes.now c.args.place.now (λ i. omega (arith, c.type_inv.bytes i)) c.in_err-reply.field-0.0 c.requires c.in_err-reply.ensures.exact reply (small, wide) stands)
+    absurd (no_fault reply_reader c.args.bytes.now c.args.place.now (λ i. omega (arith, c.type_inv.bytes i)) c.in_err-reply.field-0.0 c.requires
+    c.in_err-reply.ensures.exact reply (small, wide) stands)
 
 pub returns-clause-found : goal.returns-clause-found
 returns-clause-found c =
@@ -14,4 +15,5 @@ returns-clause-found c =
 
 pub returns-clause-only : goal.returns-clause-only
 returns-clause-only c = λ reply small wide stands.
-    only reply_reader c.args.bytes.now c.args.place.now (λ i. omega (arith, c.type_inv.bytes i)) c.in_ok-reply.reply c.in_ok-reply.next c.requires c.in_ok-reply.ensures.exact reply (small, wide) stands
+    only reply_reader c.args.bytes.now c.args.place.now (λ i. omega (arith, c.type_inv.bytes i)) c.in_ok-reply.reply c.in_ok-reply.next c.requires
+    c.in_ok-reply.ensures.exact reply (small, wide) stands

@@ -6,9 +6,11 @@ use Rattle.run_model.proofs.header.print_bounds.Goals as goal
 pub loop-place-preserved : goal.loop-place-preserved
 loop-place-preserved c =
     let s = c.args.config.now in
-    flat_map_next_row s (bound_line s) c.replicas-replicas.result c.conits-conits.result c.replicas-replicas.ensures.count c.conits-conits.ensures.count c.args.out.now c.loop-place.out c.loop-place.place c.loop-place.invariant _ (omega arith) c.in_ok-print_bound.ensures.ok
+    flat_map_next_row s (bound_line s) c.replicas-replicas.result c.conits-conits.result c.replicas-replicas.ensures.count c.conits-conits.ensures.count c.args.out.now
+    c.loop-place.out c.loop-place.place c.loop-place.invariant _ (omega arith) c.in_ok-print_bound.ensures.ok
 
 pub returns-clause-ok : goal.returns-clause-ok
 returns-clause-ok c =
     let s = c.args.config.now in
-    flat_map_all_rows s (bound_line s) c.replicas-replicas.result c.conits-conits.result c.replicas-replicas.ensures.count c.conits-conits.ensures.count c.args.out.now c.loop-place.out c.loop-place.place c.loop-place.invariant (omega arith)
+    flat_map_all_rows s (bound_line s) c.replicas-replicas.result c.conits-conits.result c.replicas-replicas.ensures.count c.conits-conits.ensures.count c.args.out.now
+    c.loop-place.out c.loop-place.place c.loop-place.invariant (omega arith)

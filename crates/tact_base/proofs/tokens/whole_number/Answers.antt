@@ -21,4 +21,5 @@ pub returns-in_default-2 : goal.returns-in_default-2
 returns-in_default-2 c =
     let token = c.args.token.now in
     let number = sym c.if-not-is_number.ensures in
-    sym (whole_number-above token c.args.most number (read_whole token c.args.most number (Err c.in_default.field-0) c.read_number.new.place (omega arith) (rw c.in_default.is at c.read_number.ensures)))
+    sym (whole_number-above token c.args.most number
+    (read_whole token c.args.most number (Err c.in_default.field-0) c.read_number.new.place (omega arith) (rw c.in_default.is at c.read_number.ensures)))

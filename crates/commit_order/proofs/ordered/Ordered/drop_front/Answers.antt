@@ -24,14 +24,16 @@ pub overflow_add-self : goal.overflow_add-self
 overflow_add-self c =
     let inside = c.self.inside in
     let kept = c.self.invariant in
-    let most = all_committed inside.gone.items inside.writes.items inside.dropped inside.front inside.committed inside.point c.args.k kept (few_is _ c.args.self.now c.args.k c.self.view_is c.requires) in
+    let most = all_committed inside.gone.items inside.writes.items inside.dropped inside.front inside.committed inside.point c.args.k kept
+    (few_is _ c.args.self.now c.args.k c.self.view_is c.requires) in
     omega (arith, most, kept.committed, kept.counted, committed-few inside.point inside.writes.items)
 
 pub overflow_sub-items : goal.overflow_sub-items
 overflow_sub-items c =
     let inside = c.self.inside in
     let kept = c.self.invariant in
-    let most = all_committed inside.gone.items inside.writes.items inside.dropped inside.front inside.committed inside.point c.args.k kept (few_is _ c.args.self.now c.args.k c.self.view_is c.requires) in
+    let most = all_committed inside.gone.items inside.writes.items inside.dropped inside.front inside.committed inside.point c.args.k kept
+    (few_is _ c.args.self.now c.args.k c.self.view_is c.requires) in
     omega (arith, most, kept.committed, committed-few inside.point inside.writes.items, ap length c.items.ensures)
 
 -- what is kept then

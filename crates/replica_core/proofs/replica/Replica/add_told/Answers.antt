@@ -19,7 +19,8 @@ use Rattle.replica_core.proofs.AddingNext.{StandsIn, stands_there}
 use Rattle.replica_core.proofs.replica.Replica.add_told.Goals as goal
 
 -- Of a message in range, the told writes of one origin.
-module _ (setup : Setup) (message : Message) (in_range : IsMessageInRange setup message) (at start : ℕ) (at_in : at < setup.replicas) (start_is : start ≡ length (flat_map (told_writes message) (range_with_len 0 at))) where
+module _ (setup : Setup) (message : Message) (in_range : IsMessageInRange setup message) (at start : ℕ) (at_in : at < setup.replicas)
+    (start_is : start ≡ length (flat_map (told_writes message) (range_with_len 0 at))) where
   abbrev front : List Write
   front = flat_map (told_writes message) (range_with_len 0 at)
 
@@ -46,7 +47,9 @@ module _ (setup : Setup) (message : Message) (in_range : IsMessageInRange setup 
       record {
         origins = from_one-origins at message.writes;
         indices = range.indices;
-        on_conits = All-filter (λ (write : Write). write.origin == at) P message.writes (All-weaker (IsWriteInRange setup) P (λ write in_range. All-weaker (IsWeightInRange setup) (λ (weight : Weight). weight.conit < setup.conits) (λ weight range. range.conit) write.weights in_range.weights.each) message.writes in_range.writes);
+        on_conits = All-filter (λ (write : Write). write.origin == at) P message.writes
+        (All-weaker (IsWriteInRange setup) P (λ write in_range. All-weaker (IsWeightInRange setup) (λ (weight : Weight). weight.conit < setup.conits)
+        (λ weight range. range.conit) write.weights in_range.weights.each) message.writes in_range.writes);
         few = omega (arith, range.told, range.first, range.have);
       }
 
@@ -67,7 +70,8 @@ add_from-requires-clause-next c =
     let setup = c.args.self.now.core.setup in
     let at_in : c.loop-origin.origin < setup.replicas = omega (arith, c.loop-origin-test.true, c.replicas-origin-end.ensures.count, ap (λ (s : ReplicaState). s.core.setup.replicas) c.self.view_is) in
     subst (AreNext c.loop-origin.self.core.setup.conits c.loop-origin.origin (told_first c.args.message.now c.loop-origin.origin)) (sym c.told_of-told.ensures)
-    (subst (λ (s : Setup). AreNext s.conits c.loop-origin.origin (told_first c.args.message.now c.loop-origin.origin) (told_writes c.args.message.now c.loop-origin.origin)) (sym (ap (λ (k : Core). k.setup) c.loop-origin.invariant.core))
+    (subst (λ (s : Setup). AreNext s.conits c.loop-origin.origin (told_first c.args.message.now c.loop-origin.origin)
+    (told_writes c.args.message.now c.loop-origin.origin)) (sym (ap (λ (k : Core). k.setup) c.loop-origin.invariant.core))
     (next setup c.args.message.now c.requires.fits.in_range c.loop-origin.origin c.loop-origin.start at_in c.loop-origin.invariant.start))
 
 pub add_from-requires-clause-room : goal.add_from-requires-clause-room
@@ -95,7 +99,8 @@ loop-origin-preserved c =
           (λ (differ : origin ≡ at → ⊥). c.add_from.ensures.others origin differ ∙ inv.told origin (omega (arith, early, differ)) inside)
           (cases_eq origin at);
       later = λ origin late. c.add_from.ensures.others origin (λ same. absurd (omega (arith, late, same))) ∙ inv.later origin (omega (arith, late));
-      start = omega (arith, inv.start, ap length c.told_of-told.ensures, ap length (flat_map_range_more (told_writes message) at), length-append (flat_map (told_writes message) (range_with_len 0 at)) (told_writes message at));
+      start = omega (arith, inv.start, ap length c.told_of-told.ensures, ap length (flat_map_range_more (told_writes message) at), length-append
+      (flat_map (told_writes message) (range_with_len 0 at)) (told_writes message at));
       spare = c.add_from.ensures.spare ∙ inv.spare;
       room = omega (arith, inv.room, c.add_from.ensures.room);
     }

@@ -20,7 +20,8 @@ returns-then-held-amount-clause-answers c =
     let held : c.reserved-held.result ≡ get_or old.budgets.reserved weight.conit 0 =
     c.reserved-held.ensures.reserved ∙ ap (λ (s : ReplicaState). get_or s.core.budgets.reserved weight.conit 0) c.self.view_is in
     let sized : length old.budgets.reserved ≡ old.setup.conits =
-    subst (λ (s : ReplicaState). length s.core.budgets.reserved ≡ s.core.setup.conits) c.self.view_is (c.reserved-held.ensures.kept.reserved ∙ ap (λ (s : Setup). s.conits) c.self.invariant.0.budgets.setup) in
+    subst (λ (s : ReplicaState). length s.core.budgets.reserved ≡ s.core.setup.conits) c.self.view_is
+    (c.reserved-held.ensures.kept.reserved ∙ ap (λ (s : Setup). s.conits) c.self.invariant.0.budgets.setup) in
     let kept : IsKept old = subst (λ (s : ReplicaState). IsKept s.core) c.self.view_is c.self.invariant.0 in
     Answers-is old (entered (with_call old c.args.client) c.args.moment) c.close_call.new.self.core c.args.moment c.args.client (request.Held weight c.args.op)
     (reply.NotHeld weight.conit (get_or old.budgets.reserved weight.conit 0) (unsigned_abs weight.nweight)) (reply.NotHeld weight.conit c.reserved-held.result c.unsigned_abs-amount.result)
@@ -36,11 +37,14 @@ returns-clause-answers c =
     let held : c.reserved-held.result ≡ get_or old.budgets.reserved weight.conit 0 =
     c.reserved-held.ensures.reserved ∙ ap (λ (s : ReplicaState). get_or s.core.budgets.reserved weight.conit 0) c.self.view_is in
     let sized : length old.budgets.reserved ≡ old.setup.conits =
-    subst (λ (s : ReplicaState). length s.core.budgets.reserved ≡ s.core.setup.conits) c.self.view_is (c.reserved-held.ensures.kept.reserved ∙ ap (λ (s : Setup). s.conits) c.self.invariant.0.budgets.setup) in
+    subst (λ (s : ReplicaState). length s.core.budgets.reserved ≡ s.core.setup.conits) c.self.view_is
+    (c.reserved-held.ensures.kept.reserved ∙ ap (λ (s : Setup). s.conits) c.self.invariant.0.budgets.setup) in
     let kept : IsKept old = subst (λ (s : ReplicaState). IsKept s.core) c.self.view_is c.self.invariant.0 in
-    Answers-is old (entered (accepted old c.args.client (next_write old c.args.moment (weight ∷ []) c.args.op) (Some weight)) c.args.moment) c.accept.new.self.core c.args.moment c.args.client (request.Held weight c.args.op)
+    Answers-is old (entered (accepted old c.args.client (next_write old c.args.moment (weight ∷ []) c.args.op) (Some weight)) c.args.moment) c.accept.new.self.core
+    c.args.moment c.args.client (request.Held weight c.args.op)
     (reply.Done (length (log_at old old.replica)) (old.writes.clock + 1)) c.accept.result
     (c.accept.ensures.core
-    ∙ ap₂ (λ (core : Core) (ws : List Weight). entered (accepted core c.args.client (next_write core c.args.moment ws c.args.op) (Some weight)) c.args.moment) c.in_ok-reserve.ensures.core c.only.ensures)
+    ∙ ap₂ (λ (core : Core) (ws : List Weight). entered (accepted core c.args.client (next_write core c.args.moment ws c.args.op) (Some weight)) c.args.moment)
+    c.in_ok-reserve.ensures.core c.only.ensures)
     (c.accept.ensures.reply ∙ ap (λ (core : Core). reply.Done (length (log_at core core.replica)) (core.writes.clock + 1)) c.in_ok-reserve.ensures.core)
     (held_accepted old kept c.args.moment c.args.client weight c.args.op c.requires sized (omega (arith, c.if-held-amount.false, held, size)))

@@ -12,7 +12,8 @@ returns-then-held-amount-clause-answers c =
     let held : c.reserved-held.result ≡ get_or old.budgets.reserved c.args.conit 0 =
     c.reserved-held.ensures.reserved ∙ ap (λ (s : ReplicaState). get_or s.core.budgets.reserved c.args.conit 0) c.self.view_is in
     let sized : length old.budgets.reserved ≡ old.setup.conits =
-    subst (λ (s : ReplicaState). length s.core.budgets.reserved ≡ s.core.setup.conits) c.self.view_is (c.reserved-held.ensures.kept.reserved ∙ ap (λ (s : Setup). s.conits) c.self.invariant.0.budgets.setup) in
+    subst (λ (s : ReplicaState). length s.core.budgets.reserved ≡ s.core.setup.conits) c.self.view_is
+    (c.reserved-held.ensures.kept.reserved ∙ ap (λ (s : Setup). s.conits) c.self.invariant.0.budgets.setup) in
     let kept : IsKept old = subst (λ (s : ReplicaState). IsKept s.core) c.self.view_is c.self.invariant.0 in
     Answers-is old (entered (with_call old c.args.client) c.args.moment) c.close_call.new.self.core c.args.moment c.args.client (request.Release c.args.conit c.args.amount)
     (reply.NotHeld c.args.conit (get_or old.budgets.reserved c.args.conit 0) c.args.amount) (reply.NotHeld c.args.conit c.reserved-held.result c.args.amount)
@@ -25,9 +26,12 @@ returns-clause-answers c =
     let held : c.reserved-held.result ≡ get_or old.budgets.reserved c.args.conit 0 =
     c.reserved-held.ensures.reserved ∙ ap (λ (s : ReplicaState). get_or s.core.budgets.reserved c.args.conit 0) c.self.view_is in
     let sized : length old.budgets.reserved ≡ old.setup.conits =
-    subst (λ (s : ReplicaState). length s.core.budgets.reserved ≡ s.core.setup.conits) c.self.view_is (c.reserved-held.ensures.kept.reserved ∙ ap (λ (s : Setup). s.conits) c.self.invariant.0.budgets.setup) in
+    subst (λ (s : ReplicaState). length s.core.budgets.reserved ≡ s.core.setup.conits) c.self.view_is
+    (c.reserved-held.ensures.kept.reserved ∙ ap (λ (s : Setup). s.conits) c.self.invariant.0.budgets.setup) in
     let kept : IsKept old = subst (λ (s : ReplicaState). IsKept s.core) c.self.view_is c.self.invariant.0 in
-    let left : Core → Core = λ (core : Core). entered (record (with_call core c.args.client) { budgets = record core.budgets { reserved = set core.budgets.reserved c.args.conit (get_or core.budgets.reserved c.args.conit 0 - c.args.amount) } }) c.args.moment in
+    let left : Core → Core =
+    λ (core : Core). entered (record (with_call core c.args.client)
+    { budgets = record core.budgets { reserved = set core.budgets.reserved c.args.conit (get_or core.budgets.reserved c.args.conit 0 - c.args.amount) } }) c.args.moment in
     Answers-is old (left old)
     c.close_call-2.new.self.core c.args.moment c.args.client (request.Release c.args.conit c.args.amount) reply.Released reply.Released
     (rw (c.close_call-2.ensures, c.free_held.ensures) (ap (λ (s : ReplicaState). left s.core) c.self.view_is)) refl

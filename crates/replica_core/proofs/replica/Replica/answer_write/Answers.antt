@@ -12,7 +12,8 @@ use Rattle.replica_core.proofs.replica.Replica.answer_write.Goals as goal
 pub returns-in-Some-clause-answers : goal.returns-in-Some-clause-answers
 returns-in-Some-clause-answers c =
     let old = c.args.self.now.core in
-    Answers-is old (entered (with_call old c.args.client) c.args.moment) c.close_call.new.self.core c.args.moment c.args.client (request.Write c.args.weights.now c.args.op) c.in-Some.refusal c.in-Some.refusal
+    Answers-is old (entered (with_call old c.args.client) c.args.moment) c.close_call.new.self.core c.args.moment c.args.client
+    (request.Write c.args.weights.now c.args.op) c.in-Some.refusal c.in-Some.refusal
     (ap (λ (s : ReplicaState). s.core) c.close_call.ensures) refl
     (write_refused old c.weights_refusal.ensures.kept c.args.moment c.args.client c.args.weights.now c.args.op c.requires c.in-Some.refusal
     (ap (first_some (refusal_of old.budgets)) (sym c.items.ensures.items) ∙ sym c.weights_refusal.ensures.refusal ∙ c.in-Some.is))
@@ -31,9 +32,11 @@ returns-clause-answers c =
     let weights = c.args.weights.now in
     let none : first_some (refusal_of old.budgets) weights ≡ None =
     ap (first_some (refusal_of old.budgets)) (sym c.items.ensures.items) ∙ sym c.weights_refusal.ensures.refusal ∙ c.in_default.is in
-    Answers-is old (entered (accepted old c.args.client (next_write old c.args.moment weights c.args.op) None) c.args.moment) c.accept.new.self.core c.args.moment c.args.client (request.Write weights c.args.op)
+    Answers-is old (entered (accepted old c.args.client (next_write old c.args.moment weights c.args.op) None) c.args.moment) c.accept.new.self.core c.args.moment
+    c.args.client (request.Write weights c.args.op)
     (reply.Done (length (log_at old old.replica)) (old.writes.clock + 1)) c.accept.result
     (c.accept.ensures.core
-    ∙ ap₂ (λ (core : Core) (ws : List Weight). entered (accepted core c.args.client (next_write core c.args.moment ws c.args.op) None) c.args.moment) c.in_ok-reserve.ensures.core c.in_ok-weights.ensures.cases)
+    ∙ ap₂ (λ (core : Core) (ws : List Weight). entered (accepted core c.args.client (next_write core c.args.moment ws c.args.op) None) c.args.moment)
+    c.in_ok-reserve.ensures.core c.in_ok-weights.ensures.cases)
     (c.accept.ensures.reply ∙ ap (λ (core : Core). reply.Done (length (log_at core core.replica)) (core.writes.clock + 1)) c.in_ok-reserve.ensures.core)
     (write_accepted old c.weights_refusal.ensures.kept c.args.moment c.args.client weights c.args.op c.requires none)

@@ -22,4 +22,5 @@ loop-write-preserved c =
 pub returns : goal.returns
 returns c =
     let message = c.args.message.now in
-    yes (subst (All (IsToldDue c.args.self.now.core message)) (take_all c.loop-write.write-index message.writes (omega (arith, c.loop-write-test.false, ap length c.items-write-items.ensures))) c.loop-write.invariant)
+    yes (subst (All (IsToldDue c.args.self.now.core message))
+    (take_all c.loop-write.write-index message.writes (omega (arith, c.loop-write-test.false, ap length c.items-write-items.ensures))) c.loop-write.invariant)

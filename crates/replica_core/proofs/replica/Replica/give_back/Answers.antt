@@ -13,4 +13,5 @@ returns-clause-goes_on c =
     let is_free : c.args.amount ≤ free old.budgets c.args.owner c.args.conit = omega (arith, c.if-amount-free.false, c.free-free.ensures.free.0) in
     λ part stands.
     subst (Stands (with_act old.replica part c.args.moment (act.Back c.args.owner c.args.conit c.args.amount))) (sym (ap (λ (s : ReplicaState). s.core) c.enter_return.ensures))
-    (Stands-returned part old stands may.ok may.kept.places may.kept.budgets c.args.moment c.requires.moment c.args.owner c.args.conit c.args.amount c.requires.owner c.requires.other c.requires.conit c.requires.amount is_free c.free-free.ensures.places)
+    (Stands-returned part old stands may.ok may.kept.places may.kept.budgets c.args.moment c.requires.moment c.args.owner c.args.conit c.args.amount c.requires.owner
+    c.requires.other c.requires.conit c.requires.amount is_free c.free-free.ensures.places)

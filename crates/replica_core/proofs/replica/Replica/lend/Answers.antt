@@ -13,4 +13,5 @@ returns-clause-goes_on c =
     let at_home : c.args.amount ≤ home old.budgets c.args.conit = omega (arith, c.if-amount-home.false, c.home-home.ensures.home.0) in
     λ part stands.
     subst (Stands (with_act old.replica part c.args.moment (act.Lend c.args.holder c.args.conit c.args.amount))) (sym (ap (λ (s : ReplicaState). s.core) c.enter_loan.ensures))
-    (Stands-lent part old stands may.ok may.kept.places may.kept.budgets c.args.moment c.requires.moment c.args.holder c.args.conit c.args.amount c.requires.holder c.requires.other c.requires.conit c.requires.amount at_home c.home-home.ensures.places)
+    (Stands-lent part old stands may.ok may.kept.places may.kept.budgets c.args.moment c.requires.moment c.args.holder c.args.conit c.args.amount c.requires.holder
+    c.requires.other c.requires.conit c.requires.amount at_home c.home-home.ensures.places)

@@ -12,7 +12,8 @@ sent_is : (c : goal.After-enter)
     → c.in_ok-message.message ≡ next_message c.args.self.now.core (max c.args.moment c.args.self.now.core.counts.last) c.args.to c.args.firsts.now
 sent_is c =
     c.in_ok-message.ensures.message
-    ∙ ap₂ (λ (m : ℕ) (given : List ℕ). next_message c.args.self.now.core m c.args.to given) (c.max.ensures ∙ ap (λ (s : ReplicaState). max c.args.moment s.core.counts.last) c.self.view_is) c.items.ensures
+    ∙ ap₂ (λ (m : ℕ) (given : List ℕ). next_message c.args.self.now.core m c.args.to given)
+    (c.max.ensures ∙ ap (λ (s : ReplicaState). max c.args.moment s.core.counts.last) c.self.view_is) c.items.ensures
 
 pub returns-clause-goes_on : goal.returns-clause-goes_on
 returns-clause-goes_on c =

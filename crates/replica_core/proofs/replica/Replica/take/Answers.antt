@@ -29,12 +29,20 @@ invariant_of-self c =
     let rises : (k : ℕ) → k < length inside.vector → (get_or inside.vector k no_cover).stamp ≤ (get_or raised k no_cover).stamp = λ k within.
     let is = c.raise_covers.ensures.covers k (omega (arith, within, places.covers_sized)) in
     ⊎_elim
-    (λ (same : k ≡ inside.replica). omega (arith, ap (λ (cover : Cover). cover.stamp) (is ∙ ap (λ yes. cond yes (get_or inside.vector k no_cover) (cover_after (length (get_or inside.logs.logs k [])) (get_or inside.vector k no_cover) (told_cover c.args.message.now k))) (eq-eqb k inside.replica same))))
-    (λ (other : k ≡ inside.replica → ⊥). omega (arith, ap (λ (cover : Cover). cover.stamp) (is ∙ ap (λ yes. cond yes (get_or inside.vector k no_cover) (cover_after (length (get_or inside.logs.logs k [])) (get_or inside.vector k no_cover) (told_cover c.args.message.now k))) (ne_eqb k inside.replica other)), cover_after-stamp (length (get_or inside.logs.logs k [])) (get_or inside.vector k no_cover) (told_cover c.args.message.now k)))
+    (λ (same : k ≡ inside.replica). omega (arith, ap (λ (cover : Cover). cover.stamp)
+    (is ∙ ap (λ yes. cond yes (get_or inside.vector k no_cover)
+    (cover_after (length (get_or inside.logs.logs k [])) (get_or inside.vector k no_cover) (told_cover c.args.message.now k))) (eq-eqb k inside.replica same))))
+    (λ (other : k ≡ inside.replica → ⊥). omega
+    (arith, ap (λ (cover : Cover). cover.stamp)
+    (is ∙ ap (λ yes. cond yes (get_or inside.vector k no_cover)
+    (cover_after (length (get_or inside.logs.logs k [])) (get_or inside.vector k no_cover) (told_cover c.args.message.now k))) (ne_eqb k inside.replica other)),
+    cover_after-stamp (length (get_or inside.logs.logs k [])) (get_or inside.vector k no_cover) (told_cover c.args.message.now k)))
     (cases_eq k inside.replica) in
     let own : get_or raised inside.replica no_cover ≡ get_or inside.vector inside.replica no_cover =
     c.raise_covers.ensures.covers inside.replica places.among
-    ∙ ap (λ yes. cond yes (get_or inside.vector inside.replica no_cover) (cover_after (length (get_or inside.logs.logs inside.replica [])) (get_or inside.vector inside.replica no_cover) (told_cover c.args.message.now inside.replica))) (eq-eqb inside.replica inside.replica refl) in
+    ∙ ap (λ yes. cond yes (get_or inside.vector inside.replica no_cover)
+    (cover_after (length (get_or inside.logs.logs inside.replica [])) (get_or inside.vector inside.replica no_cover) (told_cover c.args.message.now inside.replica)))
+    (eq-eqb inside.replica inside.replica refl) in
     let least : least_stamp inside.vector ≤ least_stamp raised =
     least_stamp-rises inside.vector raised (omega (arith, places.among, places.covers_sized)) c.raise_covers.ensures.sized rises in (
       record {
@@ -57,7 +65,8 @@ invariant_of-self c =
         bases = record {
           within = kept.bases.within;
           had = λ peer origin peer_in origin_in apart other.
-              omega (arith, kept.bases.had peer origin peer_in origin_in apart other, c.learn_haves.ensures.known peer origin peer_in origin_in, raised_by-ge c.args.message.now peer (get_or inside.known.items (peer * inside.config.replicas + origin) 0) (told_have c.args.message.now origin));
+              omega (arith, kept.bases.had peer origin peer_in origin_in apart other, c.learn_haves.ensures.known peer origin peer_in origin_in, raised_by-ge
+              c.args.message.now peer (get_or inside.known.items (peer * inside.config.replicas + origin) 0) (told_have c.args.message.now origin));
         };
         few = kept.few;
         lent = AreLentBy-same inside.count (ap (λ (b : BudgetState). b.lent) noted) kept.lent;
@@ -98,7 +107,8 @@ returns-clause-goes_on c part stands =
     ∙ ap (λ (k : Core). let t : Core = record k { writes = record k.writes { logs = told.writes.logs; seen = told.writes.seen } } in t) c.in_ok-make_room.ensures.core
     ∙ ap₂ logged (sym logs_are) (sym seen_is) in
     let budgets = with_room c.note_told.new.budgets 0 in
-    let closed : Core → Core = λ k. let t : Core = record k { writes = record k.writes { covers = c.raise_covers.new.vector; known = c.learn_haves.new.known.items; clock = c.max-self-inside.result }; budgets = budgets } in t in
+    let closed : Core → Core = λ k. let t : Core =
+    record k { writes = record k.writes { covers = c.raise_covers.new.vector; known = c.learn_haves.new.known.items; clock = c.max-self-inside.result }; budgets = budgets } in t in
     let final : closed view ≡ closed (logged inside.logs.logs inside.seen.writes) = ap closed mid in
     let after = closed (logged inside.logs.logs inside.seen.writes) in
     let reached : c.trim.new.self.core ≡ trimmed (entered after c.args.moment) =
@@ -111,10 +121,15 @@ returns-clause-goes_on c part stands =
     let replica_is : inside.replica ≡ old.replica = ap (λ (k : Core). k.replica) mid in
     let replicas_are : inside.config.replicas ≡ old.setup.replicas = ap (λ (k : Core). k.setup.replicas) mid in
     let log_is : (origin : ℕ) → origin < old.setup.replicas → get_or inside.logs.logs origin [] ≡ log_told old message origin = λ origin within.
-    ap (λ (ls : List (List Write)). get_or ls origin []) logs_are ∙ c.add_told.ensures.logs origin (omega (arith, within, ap (λ (k : Core). k.setup.replicas) c.in_ok-make_room.ensures.core)) ∙ ap (λ (k : Core). log_told k message origin) c.in_ok-make_room.ensures.core in
-    let cover_is : (origin : ℕ) → origin < old.setup.replicas → get_or c.raise_covers.new.vector origin no_cover ≡ cond (origin == old.replica) (cover_at old origin) (cover_after (length (get_or inside.logs.logs origin [])) (cover_at old origin) (told_cover message origin)) = λ origin within.
+    ap (λ (ls : List (List Write)). get_or ls origin []) logs_are
+    ∙ c.add_told.ensures.logs origin (omega (arith, within, ap (λ (k : Core). k.setup.replicas) c.in_ok-make_room.ensures.core))
+    ∙ ap (λ (k : Core). log_told k message origin) c.in_ok-make_room.ensures.core in
+    let cover_is : (origin : ℕ) → origin < old.setup.replicas
+    → get_or c.raise_covers.new.vector origin no_cover
+    ≡ cond (origin == old.replica) (cover_at old origin) (cover_after (length (get_or inside.logs.logs origin [])) (cover_at old origin) (told_cover message origin)) = λ origin within.
     c.raise_covers.ensures.covers origin (omega (arith, within, replicas_are))
-    ∙ ap (λ (vector : List Cover). cond (origin == inside.replica) (get_or vector origin no_cover) (cover_after (length (get_or inside.logs.logs origin [])) (get_or vector origin no_cover) (told_cover message origin))) covers_are
+    ∙ ap (λ (vector : List Cover). cond (origin == inside.replica) (get_or vector origin no_cover)
+    (cover_after (length (get_or inside.logs.logs origin [])) (get_or vector origin no_cover) (told_cover message origin))) covers_are
     ∙ ap (λ (r : ℕ). cond (origin == r) (cover_at old origin) (cover_after (length (get_or inside.logs.logs origin [])) (cover_at old origin) (told_cover message origin))) replica_is in
     let pair = λ (log : List Write) (cover : Cover). let k : OriginState = record { log = log; cover = cover } in k in
     let kept_is : (origin : ℕ) → origin < old.setup.replicas → kept_at after origin ≡ kept_after old message origin = λ origin within.
@@ -151,6 +166,7 @@ returns-clause-goes_on c part stands =
     let acked = c.note_told.ensures.acked in
     let are_budgets : AreBudgetsTaken old.setup old.replica old.budgets budgets message =
     subst (λ (b : BudgetState). AreBudgetsTaken old.setup old.replica b budgets message) (ap (λ (k : Core). k.budgets) mid)
-    (AreBudgetsTaken-noted old.setup old.replica inside.budgets c.note_told.new.budgets message budget_setup budget_replica fits.in_range.from from_other c.note_told.ensures.kept acked c.note_told.ensures.lent c.note_told.ensures.returned) in
+    (AreBudgetsTaken-noted old.setup old.replica inside.budgets c.note_told.new.budgets message budget_setup budget_replica fits.in_range.from from_other
+    c.note_told.ensures.kept acked c.note_told.ensures.lent c.note_told.ensures.returned) in
     subst (Stands (with_act old.replica part c.args.moment (act.Take message))) (sym reached)
     (Stands-taken part old stands may.ok may.kept.places c.args.moment c.requires.moment message fits after.writes budgets are_writes are_budgets kept)

@@ -21,7 +21,8 @@ pub returns : goal.returns
 returns c =
     let core = c.args.self.now.core in
     let of_origin : ℕ → List Write = λ o. drop (get_or c.args.firsts.now o 0) (log_at core o) in
-    let all : c.loop-origin.origin ≡ core.setup.replicas = omega (arith, c.replicas-origin-end.ensures.count, c.loop-origin.auto.origin-end, c.loop-origin-test.false, ap (λ (s : ReplicaState). s.core.setup.replicas) c.self.view_is) in
+    let all : c.loop-origin.origin ≡ core.setup.replicas =
+    omega (arith, c.replicas-origin-end.ensures.count, c.loop-origin.auto.origin-end, c.loop-origin-test.false, ap (λ (s : ReplicaState). s.core.setup.replicas) c.self.view_is) in
     let left : c.loop-origin.room + length (take MESSAGE_WRITES (flat_map of_origin (range_with_len 0 core.setup.replicas))) ≡ MESSAGE_WRITES =
     subst (λ n. c.loop-origin.room + length (take MESSAGE_WRITES (flat_map of_origin (range_with_len 0 n))) ≡ MESSAGE_WRITES) all c.loop-origin.invariant in
     omega (arith, left)

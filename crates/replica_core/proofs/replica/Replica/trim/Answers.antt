@@ -39,7 +39,8 @@ trim-requires c =
 
 -- what it keeps then
 core_then : (c : After-trim)
-    → with_given_up (the_view c.self.inside).core c.trim_logs.new.logs.bases c.trim_logs.new.logs.logs c.trim.new.self.writes c.trim.new.self.dropped c.trim.new.self.point ≡ trimmed (the_view c.self.inside).core
+    → with_given_up (the_view c.self.inside).core c.trim_logs.new.logs.bases c.trim_logs.new.logs.logs c.trim.new.self.writes c.trim.new.self.dropped
+    c.trim.new.self.point ≡ trimmed (the_view c.self.inside).core
 core_then c =
     let old = (the_view c.self.inside).core in
     let core_is = ap (λ (s : ReplicaState). s.core) c.self.view_is in

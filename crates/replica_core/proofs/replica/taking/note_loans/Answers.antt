@@ -23,10 +23,12 @@ loop-conit-preserved c =
     let mid_returned : mid.returned_known ≡ before.returned_known = ap (λ (b : BudgetState). b.returned_known) lent in
     let told_lent = c.number_at-lent.ensures in
     let told_returned = c.number_at-returned.ensures in
-    let lent_is : c.note_returned.new.self.lent_known ≡ set before.lent_known (from * setup.conits + at) (max (get_or before.lent_known (from * setup.conits + at) 0) (get_or c.args.message.now.lent at 0)) =
+    let lent_is : c.note_returned.new.self.lent_known
+    ≡ set before.lent_known (from * setup.conits + at) (max (get_or before.lent_known (from * setup.conits + at) 0) (get_or c.args.message.now.lent at 0)) =
     ap (λ (b : BudgetState). b.lent_known) returned ∙ ap (λ (b : BudgetState). b.lent_known) lent
     ∙ ap₂ (λ (i told : ℕ). set before.lent_known i (max (get_or before.lent_known i 0) told)) place told_lent in
-    let returned_is : c.note_returned.new.self.returned_known ≡ set before.returned_known (from * setup.conits + at) (max (get_or before.returned_known (from * setup.conits + at) 0) (get_or c.args.message.now.returned at 0)) =
+    let returned_is : c.note_returned.new.self.returned_known
+    ≡ set before.returned_known (from * setup.conits + at) (max (get_or before.returned_known (from * setup.conits + at) 0) (get_or c.args.message.now.returned at 0)) =
     ap (λ (b : BudgetState). b.returned_known) returned
     ∙ ap₂ (λ (i told : ℕ). set mid.returned_known i (max (get_or mid.returned_known i 0) told)) mid_place told_returned
     ∙ ap (λ (ns : List ℕ). set ns (from * setup.conits + at) (max (get_or ns (from * setup.conits + at) 0) (get_or c.args.message.now.returned at 0))) mid_returned in

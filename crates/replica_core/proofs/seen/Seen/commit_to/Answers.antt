@@ -12,7 +12,8 @@ use Rattle.replica_core.proofs.seen.Seen.commit_to.Goals as goal
 pub commit-requires-clause-more : goal.commit-requires-clause-more
 commit-requires-clause-more c =
     let old = c.self.inside.ordered in
-    omega (arith, c.commit_to-count.ensures.count, c.self.invariant.has_image.committed, committed-rises old.writes c.self.invariant.sorted old.point c.args.stamp (omega (arith, c.requires, ap (λ (s : SeenState). s.point) c.self.view_is)))
+    omega (arith, c.commit_to-count.ensures.count, c.self.invariant.has_image.committed, committed-rises old.writes c.self.invariant.sorted old.point c.args.stamp
+    (omega (arith, c.requires, ap (λ (s : SeenState). s.point) c.self.view_is)))
 
 pub commit-requires-clause-within : goal.commit-requires-clause-within
 commit-requires-clause-within c =
@@ -39,7 +40,8 @@ committed_from-requires c =
     let later : committed_to c.commit_to-count.new.self.point c.commit_to-count.new.self.writes ≡ committed_to c.args.stamp old.writes = ap₂ committed_to made.point made.writes in
     omega (
       arith,
-      ends (length c.committed-before.result.now) old.dropped c.commit_to-count.new.self.dropped (committed_to old.point old.writes) (ap length c.committed-before.ensures.committed) c.self.invariant.gone made.dropped,
+      ends (length c.committed-before.result.now) old.dropped c.commit_to-count.new.self.dropped (committed_to old.point old.writes)
+      (ap length c.committed-before.ensures.committed) c.self.invariant.gone made.dropped,
       ap length later,
       committed-rises old.writes c.self.invariant.sorted old.point c.args.stamp (omega (arith, c.requires, ap (λ (s : SeenState). s.point) c.self.view_is)),
     )
@@ -87,7 +89,8 @@ invariant_of-self c =
     let is : c.committed_from.result.now ≡ drop (length (committed_to old.point old.writes)) (committed_to stamp old.writes) =
     c.committed_from.ensures
     ∙ ap₂ (λ (n : ℕ) (ws : List Write). drop n ws)
-    (ends (length c.committed-before.result.now) old.dropped c.commit_to-count.new.self.dropped (committed_to old.point old.writes) (ap length c.committed-before.ensures.committed) kept.gone made.dropped) later in
+    (ends (length c.committed-before.result.now) old.dropped c.commit_to-count.new.self.dropped (committed_to old.point old.writes)
+    (ap length c.committed-before.ensures.committed) kept.gone made.dropped) later in
     record {
       sorted = rw made.writes kept.sorted;
       few = rw made.writes kept.few;

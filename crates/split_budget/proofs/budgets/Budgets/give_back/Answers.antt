@@ -9,5 +9,7 @@ invariant_of-self c =
     let conit = rw (← c.self.view_is) at c.requires.conit in
     let free = rw (← c.self.view_is) at c.requires.free in
     let place = c.place_of-place.ensures in
-    let read = read_at_place (setup_of c.self.inside.config) c.self.inside.returned.items c.args.owner c.args.conit c.place_of-place.result c.index_mut.result.now c.self.invariant.keeps.returned owner.0 conit place c.index_mut.ensures.value in
-    rw (read, place) (record { keeps = KeepsBudgets-given _ c.self.invariant.keeps c.args.owner c.args.conit c.args.amount owner conit free; replica = c.self.invariant.replica; conits = c.self.invariant.conits })
+    let read = read_at_place (setup_of c.self.inside.config) c.self.inside.returned.items c.args.owner c.args.conit c.place_of-place.result c.index_mut.result.now
+    c.self.invariant.keeps.returned owner.0 conit place c.index_mut.ensures.value in
+    rw (read, place) (record { keeps = KeepsBudgets-given _ c.self.invariant.keeps c.args.owner c.args.conit c.args.amount owner conit free; replica =
+    c.self.invariant.replica; conits = c.self.invariant.conits })

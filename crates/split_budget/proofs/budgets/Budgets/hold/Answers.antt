@@ -21,4 +21,5 @@ pub invariant_of-self : goal.invariant_of-self
 invariant_of-self c =
     let conit = rw (← c.self.view_is) at c.requires.conit in
     let fits = rw (← c.self.view_is) at c.requires.fits in
-    rw (read (goal.at.invariant_of-self c).After-index_mut) (record { keeps = KeepsBudgets-held _ c.self.invariant.keeps c.args.conit c.args.amount conit fits; replica = c.self.invariant.replica; conits = c.self.invariant.conits })
+    rw (read (goal.at.invariant_of-self c).After-index_mut)
+    (record { keeps = KeepsBudgets-held _ c.self.invariant.keeps c.args.conit c.args.amount conit fits; replica = c.self.invariant.replica; conits = c.self.invariant.conits })

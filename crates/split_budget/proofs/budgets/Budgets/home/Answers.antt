@@ -44,7 +44,8 @@ loop-peer-preserved c =
     elim c.if-peer-self.branch [
       | then-peer-self w ↦
           let other : peer ≡ s.replica → ⊥ = λ same. w.if-peer-self.true (same ∙ sym replica) in
-          let within = peer-within f s.replica s.setup.replicas alpha c.loop-peer.home peer c.loop-peer.invariant (omega (arith, replicas)) other (w.out-home.ensures.kept.home c.args.conit c.requires) in
+          let within = peer-within f s.replica s.setup.replicas alpha c.loop-peer.home peer c.loop-peer.invariant (omega (arith, replicas)) other
+          (w.out-home.ensures.kept.home c.args.conit c.requires) in
           omega (arith, left-peer f s.replica s.setup.replicas alpha c.loop-peer.home peer c.loop-peer.invariant other within, w.out-home.ensures.out)
       | else-peer-self w ↦
           omega (arith, left-own f s.replica s.setup.replicas alpha c.loop-peer.home peer c.loop-peer.invariant (w.if-peer-self.false ∙ replica))

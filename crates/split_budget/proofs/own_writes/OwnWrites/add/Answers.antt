@@ -3,7 +3,10 @@ use Rattle.split_budget.specs.OwnWrites.{OwnState, IsOther, missed_by}
 use Rattle.split_budget.proofs.OwnLemmas.{AreMissed-added, drop-push}
 use Rattle.split_budget.proofs.SumsKept.{known_of, read_known, read_sums, HasAdded-added, HasAdded-left, KeepsSums-added}
 use Rattle.split_budget.proofs.own_writes.OwnWrites.add.Goals as goal
-use Rattle.split_budget.proofs.own_writes.OwnWrites.add.Goals.{After-index_mut, then-peer-self+then-index-self, else-peer-self, else-peer-self-via-then-peer-self+else-index-self, else-peer-self-via-else-peer-self}
+use Rattle.split_budget.proofs.own_writes.OwnWrites.add.Goals.{After-index_mut, then-peer-self+then-index-self}
+use Rattle.split_budget.proofs.own_writes.OwnWrites.add.Goals.{else-peer-self}
+use Rattle.split_budget.proofs.own_writes.OwnWrites.add.Goals.{else-peer-self-via-then-peer-self+else-index-self}
+use Rattle.split_budget.proofs.own_writes.OwnWrites.add.Goals.{else-peer-self-via-else-peer-self}
 
 -- the replica at hand is another one
 other : (c : After-index_mut) → IsOther c.args.self.now c.loop-peer.peer
@@ -39,7 +42,9 @@ loop-peer-preserved c =
     elim c.if-peer-self.branch [
       | then-peer-self+then-index-self w ↦
           let is : IsOther s peer = (within, λ same. w.if-peer-self.true (same ∙ sym replica)) in
-          let behind : known_of s peer ≤ length s.weights = omega (arith, w.if-index-self.true, read_known s c.loop-peer.self-inside.known.items c.loop-peer.self-inside.given_up peer w.index.result.now known given_up within w.index.ensures, count) in
+          let behind : known_of s peer ≤ length s.weights =
+          omega (arith, w.if-index-self.true, read_known s c.loop-peer.self-inside.known.items c.loop-peer.self-inside.given_up peer w.index.result.now known given_up
+          within w.index.ensures, count) in
           let of = AreMissed-added s.conits w.index_mut.result.now w.add.new.self w.add.ensures.conits (missed_by s peer) weights w.add.ensures.plus w.add.ensures.minus
           (read_sums s weights peer missed so_far.sums w.index_mut.result.now is w.index_mut.ensures.value) in
           rw w.self-inside-is (record {
@@ -60,7 +65,8 @@ loop-peer-preserved c =
             sums = HasAdded-left s weights peer missed so_far.sums (λ is.
                 elim w.else-peer-self.branch [
                   | else-peer-self-via-then-peer-self+else-index-self v ↦
-                      omega (arith, v.if-index-self.false, read_known s c.loop-peer.self-inside.known.items c.loop-peer.self-inside.given_up peer v.index.result.now known given_up within v.index.ensures, count)
+                      omega (arith, v.if-index-self.false, read_known s c.loop-peer.self-inside.known.items c.loop-peer.self-inside.given_up peer v.index.result.now
+                      known given_up within v.index.ensures, count)
                   | else-peer-self-via-else-peer-self v ↦ absurd (is.1 (v.if-peer-self.false ∙ replica))
                 ]);
           })

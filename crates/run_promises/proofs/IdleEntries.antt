@@ -26,70 +26,74 @@ module _ (setup : Setup) (history : List Entry) (entry : Entry) (accepts : accep
   abbrev further : List Entry
   further = history ++ entry ∷ []
 
-  pub quiet-own : (replica : ℕ) → own (part_of further replica) ≡ own (part_of history replica)
-  quiet-own =
+  pub idle-own : (replica : ℕ) → own (part_of further replica) ≡ own (part_of history replica)
+  idle-own =
       part_of-push_cases history entry (λ r part. own part ≡ own (part_of history r)) (own-push_none (part_of history entry.replica) entry accepts) (λ r. refl)
 
-  quiet-keeping : (origin replica : ℕ)
+  idle-keeping : (origin replica : ℕ)
       → origin_state (part_of further replica) origin ≡ origin_state (part_of history replica) origin
-  quiet-keeping origin =
-      part_of-push_cases history entry (λ r part. origin_state part origin ≡ origin_state (part_of history r) origin) (origin_state-push_none (part_of history entry.replica) entry origin takes) (λ r. refl)
+  idle-keeping origin =
+      part_of-push_cases history entry (λ r part. origin_state part origin ≡ origin_state (part_of history r) origin)
+      (origin_state-push_none (part_of history entry.replica) entry origin takes) (λ r. refl)
 
-  quiet-clock : (replica : ℕ) → clock (part_of further replica) ≡ clock (part_of history replica)
-  quiet-clock =
+  idle-clock : (replica : ℕ) → clock (part_of further replica) ≡ clock (part_of history replica)
+  idle-clock =
       part_of-push_cases history entry (λ r part. clock part ≡ clock (part_of history r)) (clock-push_none (part_of history entry.replica) entry accepts takes) (λ r. refl)
 
-  pub quiet-log_of : (replica origin : ℕ)
+  pub idle-log_of : (replica origin : ℕ)
       → log_of replica (part_of further replica) origin ≡ log_of replica (part_of history replica) origin
-  quiet-log_of replica origin =
-      ap₂ (λ (own_log : List Write) (kept : OriginState). cond (origin == replica) own_log kept.log) (quiet-own replica) (quiet-keeping origin replica)
+  idle-log_of replica origin =
+      ap₂ (λ (own_log : List Write) (kept : OriginState). cond (origin == replica) own_log kept.log) (idle-own replica) (idle-keeping origin replica)
 
-  quiet-cover_of : (replica at origin : ℕ)
+  idle-cover_of : (replica at origin : ℕ)
       → cover_of replica (part_of further replica) at origin ≡ cover_of replica (part_of history replica) at origin
-  quiet-cover_of replica at origin =
-      ap₂ (λ (own_log : List Write) (kept : OriginState). cond (origin == replica) (record { count = length own_log; stamp = clock (part_of_replica replica); moment = at }) kept.cover) (quiet-own replica) (quiet-keeping origin replica)
-      ∙ ap (λ stamp. cond (origin == replica) (record { count = length (own (part_of history replica)); stamp = stamp; moment = at }) (origin_state (part_of history replica) origin).cover) (quiet-clock replica)
+  idle-cover_of replica at origin =
+      ap₂ (λ (own_log : List Write) (kept : OriginState). cond (origin == replica) (record { count = length own_log; stamp = clock (part_of_replica replica); moment = at }) kept.cover)
+      (idle-own replica) (idle-keeping origin replica)
+      ∙ ap (λ stamp. cond (origin == replica) (record { count = length (own (part_of history replica)); stamp = stamp; moment = at })
+      (origin_state (part_of history replica) origin).cover) (idle-clock replica)
     where
       part_of_replica : ℕ → List Entry
       part_of_replica replica = part_of further replica
 
-  quiet-covers_of : (replica at : ℕ)
+  idle-covers_of : (replica at : ℕ)
       → covers_of setup replica (part_of further replica) at ≡ covers_of setup replica (part_of history replica) at
-  quiet-covers_of replica at =
+  idle-covers_of replica at =
       map_agree (cover_of replica (part_of further replica) at) (cover_of replica (part_of history replica) at) (replicas_of setup)
-      (all-numbers (cover_of replica (part_of further replica) at) (cover_of replica (part_of history replica) at) (quiet-cover_of replica at) (replicas_of setup))
+      (all-numbers (cover_of replica (part_of further replica) at) (cover_of replica (part_of history replica) at) (idle-cover_of replica at) (replicas_of setup))
 
-  pub quiet-seen : (replica : ℕ)
+  pub idle-seen : (replica : ℕ)
       → seen setup replica (part_of further replica) ≡ seen setup replica (part_of history replica)
-  quiet-seen replica =
+  idle-seen replica =
       ap in_order (flat_map_agree (log_of replica (part_of further replica)) (log_of replica (part_of history replica)) (replicas_of setup)
-      (all-numbers (log_of replica (part_of further replica)) (log_of replica (part_of history replica)) (quiet-log_of replica) (replicas_of setup)))
+      (all-numbers (log_of replica (part_of further replica)) (log_of replica (part_of history replica)) (idle-log_of replica) (replicas_of setup)))
 
-  quiet-tentative : (replica : ℕ)
+  idle-tentative : (replica : ℕ)
       → tentative setup replica (part_of further replica) ≡ tentative setup replica (part_of history replica)
-  quiet-tentative replica = ap₂ tentative_past (ap least_stamp (quiet-covers_of replica 0)) (quiet-seen replica)
+  idle-tentative replica = ap₂ tentative_past (ap least_stamp (idle-covers_of replica 0)) (idle-seen replica)
 
-  pub quiet-all_writes : all_writes setup further ≡ all_writes setup history
-  quiet-all_writes =
-      flat_map_agree (λ r. own (part_of further r)) (λ r. own (part_of history r)) (replicas_of setup) (all-numbers (λ r. own (part_of further r)) (λ r. own (part_of history r)) quiet-own (replicas_of setup))
+  pub idle-all_writes : all_writes setup further ≡ all_writes setup history
+  idle-all_writes =
+      flat_map_agree (λ r. own (part_of further r)) (λ r. own (part_of history r)) (replicas_of setup)
+      (all-numbers (λ r. own (part_of further r)) (λ r. own (part_of history r)) idle-own (replicas_of setup))
 
-  quiet-unseen : (origin replica : ℕ)
+  idle-unseen : (origin replica : ℕ)
       → unseen further origin replica ≡ unseen history origin replica
-  quiet-unseen origin replica =
-      ap₂ (λ (log writes : List Write). filter (λ (w : Write). nat_le (length log) w.index) writes) (quiet-log_of replica origin) (quiet-own origin)
+  idle-unseen origin replica =
+      ap₂ (λ (log writes : List Write). filter (λ (w : Write). nat_le (length log) w.index) writes) (idle-log_of replica origin) (idle-own origin)
 
   -- the three errors are as they were
-  pub quiet-num_error : (replica conit : ℕ)
+  pub idle-num_error : (replica conit : ℕ)
       → num_error setup further replica conit ≡ num_error setup history replica conit
-  quiet-num_error replica conit =
-      ap₂ (λ (all here : List Write). unsigned_abs (net_sum all conit -ℤ net_sum here conit)) quiet-all_writes (quiet-seen replica)
+  idle-num_error replica conit =
+      ap₂ (λ (all here : List Write). unsigned_abs (net_sum all conit -ℤ net_sum here conit)) idle-all_writes (idle-seen replica)
 
-  pub quiet-order_error : (replica conit : ℕ)
+  pub idle-order_error : (replica conit : ℕ)
       → order_error setup further replica conit ≡ order_error setup history replica conit
-  quiet-order_error replica conit = ap (λ (writes : List Write). order_sum writes conit) (quiet-tentative replica)
+  idle-order_error replica conit = ap (λ (writes : List Write). order_sum writes conit) (idle-tentative replica)
 
-  pub quiet-unseen_by : (replica : ℕ)
+  pub idle-unseen_by : (replica : ℕ)
       → unseen_by setup further replica ≡ unseen_by setup history replica
-  quiet-unseen_by replica =
+  idle-unseen_by replica =
       flat_map_agree (λ origin. unseen further origin replica) (λ origin. unseen history origin replica) (peers_of setup replica)
-      (all-numbers (λ origin. unseen further origin replica) (λ origin. unseen history origin replica) (λ origin. quiet-unseen origin replica) (peers_of setup replica))
+      (all-numbers (λ origin. unseen further origin replica) (λ origin. unseen history origin replica) (λ origin. idle-unseen origin replica) (peers_of setup replica))
