@@ -1,4 +1,4 @@
-ghost use Rattle.std.specs.Prelude.{◌≡◌, ◌≢◌, ◌+◌, ◌-◌, ◌<◌, ◌≤◌, [], ◌++◌, All, OnOk, OnErr, IfOk, IsOk, length, take, drop};
+ghost use Rattle.std.specs.Prelude.{◌≡◌, ◌≢◌, ◌+◌, ◌-◌, ◌<◌, ◌≤◌, [], ◌++◌, All, OnOk, OnErr, IsOk, length, take, drop};
 ghost use Rattle.std.specs.declared.cmp.Ordering.TheVariants.{Equal};
 ghost use Rattle.std.specs.List.Sorted.{IsStrictlySortedBy};
 ghost use Rattle.tact_base.specs.WriteOrder.{write_cmp, write_place, with_write, in_order, committed_to, tentative_past};
@@ -250,85 +250,5 @@ fn insert_copies(list: &mut RoomyList<Write>, place: usize, writes: &[Write])
     list.append(writes);
     if place < held {
         merge_back(list.items_mut(), held, writes);
-    }
-}
-
-#[cfg(test)]
-mod tests {
-    use super::*;
-    use std::test::Fail;
-    use tact_base::{Op, Weights};
-
-    fn write(stamp: u64, origin: u32, index: u64) -> Result<Write, Fail>
-        ensures { IfOk result (λ w. (w.stamp ≡ stamp) × (w.origin ≡ origin) × (w.index ≡ index)) }
-    {
-        Ok(Write {
-            origin,
-            index,
-            stamp,
-            moment: 0,
-            weights: Weights::new(&[])?,
-            op: Op::Put { key: 1, value: 5 },
-        })
-    }
-
-    // The stamps, origins and indices of writes.
-    fn places(alloc: Global, writes: &[Write]) -> Result<Vec<(u64, u32, u64)>, Fail> {
-        let mut places = Vec::new(alloc);
-        for write in writes {
-            places.push((write.stamp, write.origin, write.index))?;
-        }
-        Ok(places)
-    }
-
-    #[test]
-    fn puts_writes_in_order(rt: HostRuntime) -> Result<(), Fail> {
-        let mut ordered = Ordered::new(rt.alloc());
-        ordered.reserve(3)?;
-        assert_eq!(rt; ordered.insert(&write(3, 0, 1)?), 0);
-        assert_eq!(rt; ordered.insert(&write(1, 1, 0)?), 0);
-        assert_eq!(rt; ordered.insert(&write(1, 0, 0)?), 0);
-        for (late, origin, index, place) in [
-            (0u8, 0, 0, 0),
-            (0, 0, 1, 1),
-            (0, 1, 0, 1),
-            (0, 1, 1, 2),
-            (1, 0, 0, 2),
-            (2, 1, 0, 3),
-        ] {
-            let stamp = late as u64 + 1;
-            assert_eq!(rt;
-                ordered.place(stamp, origin, index),
-                place,
-                "{stamp}, {origin}, {index}"
-            );
-        }
-        assert_eq!(rt; ordered.committed().len(), 0);
-        assert_eq!(rt; ordered.commit_to(1), 2);
-        assert_eq!(rt; ordered.commit_to(2), 2);
-        let committed = places(rt.alloc(), ordered.committed())?;
-        assert_eq!(rt; committed.as_slice(), [(1, 0, 0), (1, 1, 0)].as_slice());
-        let tentative = places(rt.alloc(), ordered.tentative())?;
-        assert_eq!(rt; tentative.as_slice(), [(3, 0, 1)].as_slice());
-        Ok(())
-    }
-
-    #[test]
-    fn gives_up_the_first(rt: HostRuntime) -> Result<(), Fail> {
-        let mut ordered = Ordered::new(rt.alloc());
-        ordered.reserve(3)?;
-        assert_eq!(rt; ordered.insert(&write(1, 0, 0)?), 0);
-        assert_eq!(rt; ordered.insert(&write(2, 0, 1)?), 1);
-        assert_eq!(rt; ordered.insert(&write(3, 1, 0)?), 2);
-        assert_eq!(rt; ordered.commit_to(2), 2);
-        let first = ordered.committed().len().min(1);
-        ordered.drop_front(first as u64);
-        assert_eq!(rt; ordered.dropped(), 1);
-        let committed = places(rt.alloc(), ordered.committed())?;
-        assert_eq!(rt; committed.as_slice(), [(2, 0, 1)].as_slice());
-        assert_eq!(rt; ordered.place(4, 0, 0), 3);
-        assert_eq!(rt; ordered.commit_to(3), 3);
-        assert_eq!(rt; ordered.tentative().len(), 0);
-        Ok(())
     }
 }

@@ -5,9 +5,17 @@
 #[cfg(test)]
 mod budgets;
 #[cfg(test)]
+mod cases;
+#[cfg(test)]
 mod drawn_budgets;
 #[cfg(test)]
+mod images;
+#[cfg(test)]
+mod links;
+#[cfg(test)]
 mod lists;
+#[cfg(test)]
+mod logs;
 #[cfg(test)]
 mod message_ranges;
 #[cfg(test)]
@@ -16,6 +24,8 @@ mod numbers;
 mod opened;
 #[cfg(test)]
 mod orders;
+#[cfg(test)]
+mod sendings;
 #[cfg(test)]
 mod setups;
 #[cfg(test)]

@@ -5,6 +5,7 @@ ghost use Rattle.std.specs.List.Sorted.{IsStrictlySortedBy};
 ghost use Rattle.tact_base.specs.WriteOrder.{write_cmp};
 
 use commit_order::Ordered;
+use std::alloc::Global;
 use std::process::Abort;
 use std::test::Fail;
 use tact_base::{Op, Place, Weights, Write};
@@ -76,5 +77,65 @@ fn batches_go_in_one_by_one(rt: HostRuntime) -> Result<(), Fail> {
         ordered.commit_to(point);
         assert_places(&rt, &ordered, point, &places);
     }
+    Ok(())
+}
+
+// The stamps, origins and indices of writes.
+fn places(alloc: Global, writes: &[Write]) -> Result<Vec<(u64, u32, u64)>, Fail> {
+    let mut places = Vec::new(alloc);
+    for write in writes {
+        places.push((write.stamp, write.origin, write.index))?;
+    }
+    Ok(places)
+}
+
+#[test]
+fn puts_writes_in_order(rt: HostRuntime) -> Result<(), Fail> {
+    let mut ordered = Ordered::new(rt.alloc());
+    ordered.reserve(3)?;
+    assert_eq!(rt; ordered.insert(&write(3, 0, 1)?), 0);
+    assert_eq!(rt; ordered.insert(&write(1, 1, 0)?), 0);
+    assert_eq!(rt; ordered.insert(&write(1, 0, 0)?), 0);
+    for (late, origin, index, place) in [
+        (0u8, 0, 0, 0),
+        (0, 0, 1, 1),
+        (0, 1, 0, 1),
+        (0, 1, 1, 2),
+        (1, 0, 0, 2),
+        (2, 1, 0, 3),
+    ] {
+        let stamp = late as u64 + 1;
+        assert_eq!(rt;
+            ordered.place(stamp, origin, index),
+            place,
+            "{stamp}, {origin}, {index}"
+        );
+    }
+    assert_eq!(rt; ordered.committed().len(), 0);
+    assert_eq!(rt; ordered.commit_to(1), 2);
+    assert_eq!(rt; ordered.commit_to(2), 2);
+    let committed = places(rt.alloc(), ordered.committed())?;
+    assert_eq!(rt; committed.as_slice(), [(1, 0, 0), (1, 1, 0)].as_slice());
+    let tentative = places(rt.alloc(), ordered.tentative())?;
+    assert_eq!(rt; tentative.as_slice(), [(3, 0, 1)].as_slice());
+    Ok(())
+}
+
+#[test]
+fn gives_up_the_first(rt: HostRuntime) -> Result<(), Fail> {
+    let mut ordered = Ordered::new(rt.alloc());
+    ordered.reserve(3)?;
+    assert_eq!(rt; ordered.insert(&write(1, 0, 0)?), 0);
+    assert_eq!(rt; ordered.insert(&write(2, 0, 1)?), 1);
+    assert_eq!(rt; ordered.insert(&write(3, 1, 0)?), 2);
+    assert_eq!(rt; ordered.commit_to(2), 2);
+    let first = ordered.committed().len().min(1);
+    ordered.drop_front(first as u64);
+    assert_eq!(rt; ordered.dropped(), 1);
+    let committed = places(rt.alloc(), ordered.committed())?;
+    assert_eq!(rt; committed.as_slice(), [(2, 0, 1)].as_slice());
+    assert_eq!(rt; ordered.place(4, 0, 0), 3);
+    assert_eq!(rt; ordered.commit_to(3), 3);
+    assert_eq!(rt; ordered.tentative().len(), 0);
     Ok(())
 }

@@ -4,8 +4,6 @@
 mod inbox;
 mod laws;
 mod plan;
-#[cfg(test)]
-mod tests;
 mod twin;
 
 pub use inbox::{Counts, Inbox, PutFault};

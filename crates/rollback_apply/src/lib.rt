@@ -9,6 +9,3 @@ mod values;
 
 pub use image::Image;
 pub use values::value_after;
-
-#[cfg(test)]
-mod tests;

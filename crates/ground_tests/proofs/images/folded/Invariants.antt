@@ -1,5 +1,5 @@
 use Rattle.std.proofs.Common.{◌≡◌, length}
-use Rattle.rollback_apply.proofs.tests.folded.Given as goal
+use Rattle.ground_tests.proofs.images.folded.Given as goal
 
 abbrev pub invariant-loop-place : goal.invariant-loop-place
 invariant-loop-place l = (l.image.committed ≡ 0) × (length l.image.ops ≡ l.place)
