@@ -37,11 +37,19 @@ number_of-le : (summed : Summed) (weight : Weight)
     → weight_in_limits weight ≡ true
     → number_of summed weight ≤ WEIGHT_MAX
 number_of-le Plus weight within =
-    omega (arith, above_zero-le weight.nweight, leb-true (unsigned_abs weight.nweight) WEIGHT_MAX
-    (and_parts (nat_le (unsigned_abs weight.nweight) WEIGHT_MAX) (nat_le weight.oweight WEIGHT_MAX) within).0)
+    omega (
+      arith,
+      above_zero-le weight.nweight,
+      leb-true (unsigned_abs weight.nweight) WEIGHT_MAX
+          (and_parts (nat_le (unsigned_abs weight.nweight) WEIGHT_MAX) (nat_le weight.oweight WEIGHT_MAX) within).0,
+    )
 number_of-le Minus weight within =
-    omega (arith, below_zero-le weight.nweight, leb-true (unsigned_abs weight.nweight) WEIGHT_MAX
-    (and_parts (nat_le (unsigned_abs weight.nweight) WEIGHT_MAX) (nat_le weight.oweight WEIGHT_MAX) within).0)
+    omega (
+      arith,
+      below_zero-le weight.nweight,
+      leb-true (unsigned_abs weight.nweight) WEIGHT_MAX
+          (and_parts (nat_le (unsigned_abs weight.nweight) WEIGHT_MAX) (nat_le weight.oweight WEIGHT_MAX) within).0,
+    )
 number_of-le Order weight within = leb-true weight.oweight WEIGHT_MAX (and_parts (nat_le (unsigned_abs weight.nweight) WEIGHT_MAX) (nat_le weight.oweight WEIGHT_MAX) within).1
 
 pub write_sum-le : (summed : Summed) (weights : List Weight) (conit : ℕ)
@@ -84,8 +92,12 @@ module _ (summed : Summed) (weights : List Weight) (i : ℕ) (d : Weight) (withi
       elim (cases_eq (get_or weights i d).conit conit) as
       (λ _. get_or (set sums (get_or weights i d).conit (get_or sums (get_or weights i d).conit 0 + number_of summed (get_or weights i d))) conit 0
       ≡ get_or old conit 0 + write_sum summed (take (i + 1) weights) conit) [
-        | inl same ↦ rw (← same, get_or-set_same sums (get_or weights i d).conit (get_or sums (get_or weights i d).conit 0 + number_of summed (get_or weights i d)) 0
-        held, write_sum-more) (omega (arith, so_far (get_or weights i d).conit))
+        | inl same ↦ rw (
+          ← same,
+          get_or-set_same sums (get_or weights i d).conit (get_or sums (get_or weights i d).conit 0 + number_of summed (get_or weights i d)) 0
+              held,
+          write_sum-more,
+        ) (omega (arith, so_far (get_or weights i d).conit))
         | inr other ↦ rw (get_or-set_other sums (get_or weights i d).conit conit _ 0 (λ e. other (sym e)), write_sum-other conit other) (so_far conit)
       ]
 
@@ -100,8 +112,12 @@ module _ (summed : Summed) (weights : List Weight) (i : ℕ) (d : Weight) (withi
       elim (cases_eq (get_or weights i d).conit conit) as
       (λ _. get_or (set sums (get_or weights i d).conit (get_or sums (get_or weights i d).conit 0 - number_of summed (get_or weights i d))) conit 0 + write_sum summed
       (take (i + 1) weights) conit ≡ get_or old conit 0) [
-        | inl same ↦ rw (← same, get_or-set_same sums (get_or weights i d).conit (get_or sums (get_or weights i d).conit 0 - number_of summed (get_or weights i d)) 0
-        held, write_sum-more) (omega (arith, so_far (get_or weights i d).conit))
+        | inl same ↦ rw (
+          ← same,
+          get_or-set_same sums (get_or weights i d).conit (get_or sums (get_or weights i d).conit 0 - number_of summed (get_or weights i d)) 0
+              held,
+          write_sum-more,
+        ) (omega (arith, so_far (get_or weights i d).conit))
         | inr other ↦ rw (get_or-set_other sums (get_or weights i d).conit conit _ 0 (λ e. other (sym e)), write_sum-other conit other) (so_far conit)
       ]
 

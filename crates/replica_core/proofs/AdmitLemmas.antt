@@ -109,8 +109,13 @@ module _ (replicas : ℕ) (logs : List (List Write)) (seen : List Write) (write 
 
   longer : (origin : ℕ) → length (get_or logs origin []) ≤ length (get_or more origin [])
   longer origin = ⊎_elim
-      (λ (same : origin ≡ write.origin). omega (arith, ap (λ o. length (get_or logs o [])) same, ap (λ o. length (get_or more o [])) same, ap length log_here,
-      length_push (get_or logs write.origin []) write))
+      (λ (same : origin ≡ write.origin). omega (
+        arith,
+        ap (λ o. length (get_or logs o [])) same,
+        ap (λ o. length (get_or more o [])) same,
+        ap length log_here,
+        length_push (get_or logs write.origin []) write,
+      ))
       (λ (other : origin ≡ write.origin → ⊥). omega (arith, ap length (log_elsewhere origin other)))
       (cases_eq origin write.origin)
 
@@ -119,7 +124,7 @@ module _ (replicas : ℕ) (logs : List (List Write)) (seen : List Write) (write 
       let P = λ (held : Write). (held.origin < replicas) × (held.index < length (get_or more held.origin [])) in
       let others : All P seen =
       All-weaker (λ (held : Write). (held.origin < replicas) × (held.index < length (get_or logs held.origin []))) P
-          (λ held stands. (stands.0, omega (arith, stands.1, longer held.origin))) seen placed in
+      (λ held stands. (stands.0, omega (arith, stands.1, longer held.origin))) seen placed in
       All-permutation P (write ∷ seen) (with_write write seen) (IsPermutation-with_write write seen)
       (All-cons P write seen (among, omega (arith, next, ap length log_here, length_push (get_or logs write.origin []) write)) others)
 
@@ -256,7 +261,14 @@ bases-grown replicas bases logs at writes inside held origin within =
     let grown = set logs at (log ++ writes) in
     ⊎_elim
     (λ (same : origin ≡ at).
-    omega (arith, held origin within, ap (λ o. length (get_or logs o [])) same, ap (λ o. length (get_or grown o [])) same, ap length
-    (get_or-set_same logs at (log ++ writes) [] inside), length-append log writes))
+    omega (
+      arith,
+      held origin within,
+      ap (λ o. length (get_or logs o [])) same,
+      ap (λ o. length (get_or grown o [])) same,
+      ap length
+          (get_or-set_same logs at (log ++ writes) [] inside),
+      length-append log writes,
+    ))
     (λ (other : origin ≡ at → ⊥). omega (arith, held origin within, ap length (get_or-set_other logs at origin (log ++ writes) [] other)))
     (cases_eq origin at)

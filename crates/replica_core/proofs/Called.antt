@@ -103,8 +103,15 @@ module _ (part : List Entry) (core : Core) (stands : Stands part core) (places :
       let kept = core.budgets in
       let before = stands.budgets in
       let placed : HasPlaces after =
-      record { among = places.among; bases_sized = places.bases_sized; logs_sized = places.logs_sized; covers_sized = places.covers_sized; known_sized =
-          places.known_sized; calls_sized = calls_sized } in
+      record {
+        among = places.among;
+        bases_sized = places.bases_sized;
+        logs_sized = places.logs_sized;
+        covers_sized = places.covers_sized;
+        known_sized =
+            places.known_sized;
+        calls_sized = calls_sized;
+      } in
       Stands-entered part entry after handed
       (record {
         before = stands.is_part;
@@ -137,8 +144,15 @@ module _ (part : List Entry) (core : Core) (stands : Stands part core) (places :
         ∙ get_or-set_same core.budgets.reserved at number 0 (omega (arith, at_in, sized)) ∙ here ∙ ap (reserved further) (sym same))
         (λ (other : conit ≡ at → ⊥).
         get_or-set_other core.budgets.reserved at conit number 0 other
-        ∙ omega (arith, stands.budgets.reserved conit within, (elsewhere conit other).0, (elsewhere conit other).1, sum_by_push (λ (e : Entry). granted_by conit e.act)
-        part entry, sum_by_push (λ (e : Entry). used_by conit e.act) part entry))
+        ∙ omega (
+          arith,
+          stands.budgets.reserved conit within,
+          (elsewhere conit other).0,
+          (elsewhere conit other).1,
+          sum_by_push (λ (e : Entry). granted_by conit e.act)
+              part entry,
+          sum_by_push (λ (e : Entry). used_by conit e.act) part entry,
+        ))
         (cases_eq conit at)
 
     pub reserved-more : ((conit : ℕ) → granted_by conit called ≡ cond (at == conit) amount 0)
@@ -148,8 +162,16 @@ module _ (part : List Entry) (core : Core) (stands : Stands part core) (places :
         → get_or (set core.budgets.reserved at (before + amount)) conit 0 ≡ reserved further conit
     reserved-more grants uses = changed (before + amount)
         (λ conit other. (grants conit ∙ ap (λ b. cond b amount 0) (ne_eqb at conit (λ same. other (sym same))), uses conit))
-        (omega (arith, stands.budgets.reserved at at_in, (KeepsShares-part core.setup core.replica part stands.is_part).used at, grants at
-        ∙ ap (λ b. cond b amount 0) (eq-eqb at at refl), uses at, sum_by_push (λ (e : Entry). granted_by at e.act) part entry, sum_by_push (λ (e : Entry). used_by at e.act) part entry))
+        (omega (
+          arith,
+          stands.budgets.reserved at at_in,
+          (KeepsShares-part core.setup core.replica part stands.is_part).used at,
+          grants at
+              ∙ ap (λ b. cond b amount 0) (eq-eqb at at refl),
+          uses at,
+          sum_by_push (λ (e : Entry). granted_by at e.act) part entry,
+          sum_by_push (λ (e : Entry). used_by at e.act) part entry,
+        ))
 
     pub reserved-less : ((conit : ℕ) → granted_by conit called ≡ 0)
         → ((conit : ℕ) → used_by conit called ≡ cond (at == conit) amount 0)
@@ -158,5 +180,12 @@ module _ (part : List Entry) (core : Core) (stands : Stands part core) (places :
         → get_or (set core.budgets.reserved at (before - amount)) conit 0 ≡ reserved further conit
     reserved-less grants uses = changed (before - amount)
         (λ conit other. (grants conit, uses conit ∙ ap (λ b. cond b amount 0) (ne_eqb at conit (λ same. other (sym same)))))
-        (omega (arith, stands.budgets.reserved at at_in, grants at, uses at
-        ∙ ap (λ b. cond b amount 0) (eq-eqb at at refl), sum_by_push (λ (e : Entry). granted_by at e.act) part entry, sum_by_push (λ (e : Entry). used_by at e.act) part entry))
+        (omega (
+          arith,
+          stands.budgets.reserved at at_in,
+          grants at,
+          uses at
+              ∙ ap (λ b. cond b amount 0) (eq-eqb at at refl),
+          sum_by_push (λ (e : Entry). granted_by at e.act) part entry,
+          sum_by_push (λ (e : Entry). used_by at e.act) part entry,
+        ))

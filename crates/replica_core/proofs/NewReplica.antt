@@ -92,13 +92,13 @@ module _ (setup : Setup) (replica : ℕ) (among : replica < setup.replicas) wher
   WritesStand-new : WritesStand setup replica [] (new_core setup replica).writes
   WritesStand-new = record {
     bases = fill_by_all (dropped_of setup replica []) (replicate setup.replicas 0) setup.replicas 0 (length-replicate setup.replicas 0)
-    (λ origin within. get_or-replicate setup.replicas origin 0 0 within ∙ sym (none_dropped_of origin));
+        (λ origin within. get_or-replicate setup.replicas origin 0 0 within ∙ sym (none_dropped_of origin));
     logs = fill_by_all (log_of replica []) (replicate setup.replicas []) setup.replicas [] (length-replicate setup.replicas [])
-    (λ origin within. get_or-replicate setup.replicas origin [] [] within ∙ sym (no_log origin));
+        (λ origin within. get_or-replicate setup.replicas origin [] [] within ∙ sym (no_log origin));
     covers = fill_by_all (cover_of replica [] 0) (replicate setup.replicas no_cover) setup.replicas no_cover (length-replicate setup.replicas no_cover)
-    (λ origin within. get_or-replicate setup.replicas origin no_cover no_cover within ∙ sym (cover_nothing 0 origin refl));
+        (λ origin within. get_or-replicate setup.replicas origin no_cover no_cover within ∙ sym (cover_nothing 0 origin refl));
     known = λ peer origin peer_in origin_in. get_or-replicate (setup.replicas * setup.replicas) (peer * setup.replicas + origin) 0 0
-    (omega (arith, mul-add-lt peer setup.replicas origin setup.replicas peer_in origin_in));
+        (omega (arith, mul-add-lt peer setup.replicas origin setup.replicas peer_in origin_in));
     seen = sym none_seen;
     dropped = sym none_dropped;
     point = point_zero;
@@ -112,7 +112,7 @@ module _ (setup : Setup) (replica : ℕ) (among : replica < setup.replicas) wher
       → get_or (by_place setup number) (place_of setup peer conit) 0 ≡ number peer conit
   at_place number peer conit peer_in conit_in =
       get_or-map_range (λ (place : ℕ). number (place / setup.conits) (place % setup.conits)) (setup.replicas * setup.conits) (place_of setup peer conit) 0
-          (omega (arith, mul-add-lt peer setup.conits conit setup.replicas peer_in conit_in))
+      (omega (arith, mul-add-lt peer setup.conits conit setup.replicas peer_in conit_in))
       ∙ ap₂ number (div-mul-add peer setup.conits conit conit_in) (mod-mul-add peer setup.conits conit conit_in)
 
   nothing_at : (peer conit : ℕ)
@@ -169,8 +169,12 @@ module _ (setup : Setup) (replica : ℕ) (among : replica < setup.replicas) wher
       ordered = sym (ap in_order (flat_map_none (λ origin. get_or (replicate setup.replicas []) origin []) (range_with_len 0 setup.replicas) (λ k d within. no_list _)));
       placed = All-nil (λ (write : Write). (write.origin < setup.replicas) × (write.index < length (get_or (replicate setup.replicas []) write.origin [])));
       own = omega (arith, ap (λ (c : Cover). c.stamp) (get_or-replicate setup.replicas replica no_cover no_cover among));
-      committed = omega (arith, least_stamp-le (replicate setup.replicas no_cover) replica no_cover (omega (arith, among, length-replicate setup.replicas no_cover)), ap
-      (λ (c : Cover). c.stamp) (get_or-replicate setup.replicas replica no_cover no_cover among));
+      committed = omega (
+        arith,
+        least_stamp-le (replicate setup.replicas no_cover) replica no_cover (omega (arith, among, length-replicate setup.replicas no_cover)),
+        ap
+            (λ (c : Cover). c.stamp) (get_or-replicate setup.replicas replica no_cover no_cover among),
+      );
     };
     bases = record {
       within = λ origin within. omega (arith, no_base origin within);

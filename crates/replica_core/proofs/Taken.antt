@@ -117,7 +117,7 @@ module _ (part : List Entry) (core : Core) (stands : Stands part core) (free : i
     kept_other origin within other =
         let was : kept_at core origin ≡ origin_state part origin =
         ap₂ (λ (log : List Write) (cover : Cover). let k : OriginState = record { log = log; cover = cover } in k)
-            (log_at-part part core stands.writes origin within ∙ log_of-other core.replica part origin other)
+        (log_at-part part core stands.writes origin within ∙ log_of-other core.replica part origin other)
         (cover_at-part part core stands.writes origin within ∙ cover_of-other core.replica part (last_moment part) origin other) in
         are_writes.kept origin within
         ∙ ap (λ yes. cond yes (kept_at core origin) (after_taking origin (kept_at core origin) message)) (ne_eqb origin core.replica other)
@@ -206,8 +206,16 @@ module _ (part : List Entry) (core : Core) (stands : Stands part core) (free : i
 
         given_up_within : budgets.given_up ≤ length (own (part ++ entry ∷ []))
         given_up_within =
-            omega (arith, are_budgets.rows.within, ap length stands.budgets.weights, length-drop core.budgets.given_up (rows_of part), length-map (own part)
-            (λ (write : Write). write.weights), stands.budgets.given_up, ap length (own-push_none part entry refl))
+            omega (
+              arith,
+              are_budgets.rows.within,
+              ap length stands.budgets.weights,
+              length-drop core.budgets.given_up (rows_of part),
+              length-map (own part)
+                  (λ (write : Write). write.weights),
+              stands.budgets.given_up,
+              ap length (own-push_none part entry refl),
+            )
 
         rows_are : budgets.weights ≡ drop budgets.given_up (rows_of (part ++ entry ∷ []))
         rows_are =
@@ -237,7 +245,7 @@ module _ (part : List Entry) (core : Core) (stands : Stands part core) (free : i
         } in
         let entered_in : All (λ (write : Write). write.origin < core.setup.replicas) writes.seen =
         All-weaker (λ (write : Write). (write.origin < core.setup.replicas) × (write.index < length (log_at after write.origin)))
-            (λ (write : Write). write.origin < core.setup.replicas) (λ write placed. placed.0) writes.seen kept.between.placed in
+        (λ (write : Write). write.origin < core.setup.replicas) (λ write placed. placed.0) writes.seen kept.between.placed in
         record {
           is_part = ready.is_part;
           writes = WritesStand-trimmed part entry message refl (entered after handed) ready.is_part stands.is_part entered_in (WritesHeld-entered part entry after handed ready refl kept.places);

@@ -42,7 +42,7 @@ AreTrimmed-next old before after gone bound within trimmed logs bases room other
       (cases_lt origin bound);
   rest = λ origin past. other origin (λ same. absurd (omega (arith, past, same))) ∙ trimmed.rest origin (omega (arith, past));
   room = λ origin. ⊎_elim (λ (same : origin ≡ bound). rw same (le_trans (trimmed.room bound) room))
-  (λ (differ : origin ≡ bound → ⊥). le_trans (trimmed.room origin) (le_of_eq (sym (others origin differ)))) (cases_eq origin bound);
+      (λ (differ : origin ≡ bound → ⊥). le_trans (trimmed.room origin) (le_of_eq (sym (others origin differ)))) (cases_eq origin bound);
 }
   where
     raised : ℕ

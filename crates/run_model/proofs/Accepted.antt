@@ -122,8 +122,13 @@ accepted_as-next replica part at asked given write next some = go (done_as given
     go (Some numbers) next some =
         let is : record { origin = replica; index = numbers.0; stamp = numbers.1; moment = at; weights = asked.0; op = asked.1 } ≡ write = same_Some _ write some in
         let both = next numbers.0 numbers.1 refl in
-        record { origin = sym (ap (λ (w : Write). w.origin) is); index = sym (ap (λ (w : Write). w.index) is) ∙ both.0; stamp = sym (ap (λ (w : Write). w.stamp) is)
-            ∙ both.1; moment = sym (ap (λ (w : Write). w.moment) is) }
+        record {
+          origin = sym (ap (λ (w : Write). w.origin) is);
+          index = sym (ap (λ (w : Write). w.index) is) ∙ both.0;
+          stamp = sym (ap (λ (w : Write). w.stamp) is)
+              ∙ both.1;
+          moment = sym (ap (λ (w : Write). w.moment) is);
+        }
 
 called_is_next : (setup : Setup) (replica : ℕ) (part : List Entry) (at : ℕ) (asked : Request) (given : Reply) (write : Write)
     → given ≡ reply_of setup replica part at asked

@@ -266,9 +266,11 @@ signed_taken size bytes place number next fits e =
     let spells = eight_spell field (slice_long 8 place bytes t.0) fine in
     let back : cast_unsigned w64 number ≡ from_be_bytes w64 field = ap (cast_unsigned w64) (sym t.1) ∙ of_z-to_z w64 (from_be_bytes w64 field) (below_wide field fine) in
     let text : field ≡ number_bytes (cast_unsigned w64 number) = sym spells ∙ ap number_bytes (sym back) in
-    let long = length-number_bytes (cast_unsigned w64 number) in
-    (record { stands = stands_eight (number_bytes (cast_unsigned w64 number)) bytes place long text; after = omega (arith, t.3, long) }, size_is_within size number t.2,
-    subst (FitsSigned w64) t.1 (sfits_to_z (Fits-of_lt (below_wide field fine))))
+    let long = length-number_bytes (cast_unsigned w64 number) in (
+      record { stands = stands_eight (number_bytes (cast_unsigned w64 number)) bytes place long text; after = omega (arith, t.3, long) },
+      size_is_within size number t.2,
+      subst (FitsSigned w64) t.1 (sfits_to_z (Fits-of_lt (below_wide field fine))),
+    )
 
 pub signed_again : (size : ℕ) (bytes : List ℕ) (place : ℕ) (number : ℤ)
     → place ≤ length bytes

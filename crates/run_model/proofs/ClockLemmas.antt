@@ -77,7 +77,7 @@ module _ (part : List Entry) (entry : Entry) where
       → clock (part ++ entry ∷ []) ≡ clock part
   clock-push_none no_write no_message =
       ap₂ (λ writes messages. max (greatest (map (λ (write : Write). write.stamp) writes))
-          (greatest (map (λ (cover : Cover). cover.stamp) (flat_map (λ (message : Message). message.covers) messages))))
+      (greatest (map (λ (cover : Cover). cover.stamp) (flat_map (λ (message : Message). message.covers) messages))))
       (own-push_none part entry no_write) (taken_in-push_none part entry no_message)
 
   -- a taken message tells nothing above it

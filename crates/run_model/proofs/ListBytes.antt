@@ -77,9 +77,14 @@ module _ (most : ℕ) where
       → All (λ number. number ≤ most) numbers
       → Listed (λ least. IsNumber 0 (suc most)) (λ number. 0) 0 numbers (flat_map number_bytes numbers)
   numbers_listed [] all = refl
-  numbers_listed (x ∷ xs) all =
-      (number_bytes x, flat_map number_bytes xs, (omega arith, omega (arith, All-head (λ number. number ≤ most) x xs all), refl), numbers_listed xs
-      (All-tail (λ number. number ≤ most) x xs all), rw flat_map-cons refl)
+  numbers_listed (x ∷ xs) all = (
+    number_bytes x,
+    flat_map number_bytes xs,
+    (omega arith, omega (arith, All-head (λ number. number ≤ most) x xs all), refl),
+    numbers_listed xs
+        (All-tail (λ number. number ≤ most) x xs all),
+    rw flat_map-cons refl,
+  )
 
   pub numbers_reader : (count : ℕ) → most < 2 ^ 64 → Reader (AreNumbers count) (numbers_at (suc most) count)
   numbers_reader count wide =

@@ -238,61 +238,156 @@ again bytes place (TooHeavy conit peer weight share) text fits within s stands =
     let is : text ≡ 5 ∷ (conit ∷ (peer ∷ (number_bytes weight ++ (number_bytes share)))) = s.1 ∙ ap (λ t. 5 ∷ conit ∷ peer ∷ t) (two weight share) in
     let there = subst (λ t. StandsAt t bytes place) is stands in
     rw is (tagged_again 1 12 reply_fields_at 5 too_heavy_reader (omega arith) (omega arith) bytes place (TooHeavy conit peer weight share)
-    (conit ∷ (peer ∷ (number_bytes weight ++ (number_bytes share)))) fits within
-    (conit, conit ∷ [], peer ∷ (number_bytes weight ++ (number_bytes share)), (omega arith, s.0.0.0, refl),
-    (peer, peer ∷ [], number_bytes weight ++ (number_bytes share), (omega arith, s.0.0.1, refl),
-    (weight, number_bytes weight, number_bytes share, (omega arith, s.0.1.0, refl), (share, (omega arith, s.0.1.1, refl), refl), refl), refl), refl) there)
+    (conit ∷ (peer ∷ (number_bytes weight ++ (number_bytes share)))) fits within (
+      conit,
+      conit ∷ [],
+      peer ∷ (number_bytes weight ++ (number_bytes share)),
+      (omega arith, s.0.0.0, refl),
+      (
+        peer,
+        peer ∷ [],
+        number_bytes weight ++ (number_bytes share),
+        (omega arith, s.0.0.1, refl),
+        (weight, number_bytes weight, number_bytes share, (omega arith, s.0.1.0, refl), (share, (omega arith, s.0.1.1, refl), refl), refl),
+        refl,
+      ),
+      refl,
+    ) there)
 again bytes place (WaitHeld conit peer reserved weight share) text fits within s stands =
     let is : text ≡ 6 ∷ (conit ∷ (peer ∷ (number_bytes reserved ++ (number_bytes weight ++ (number_bytes share))))) = s.1 ∙ ap (λ t. 6 ∷ conit ∷ peer ∷ t) (three reserved weight share) in
     let there = subst (λ t. StandsAt t bytes place) is stands in
     rw is (tagged_again 1 12 reply_fields_at 6 wait_held_reader (omega arith) (omega arith) bytes place (WaitHeld conit peer reserved weight share)
-    (conit ∷ (peer ∷ (number_bytes reserved ++ (number_bytes weight ++ (number_bytes share))))) fits within
-    (conit, conit ∷ [], peer ∷ (number_bytes reserved ++ (number_bytes weight ++ (number_bytes share))), (omega arith, s.0.0.0, refl),
-    (peer, peer ∷ [], number_bytes reserved ++ (number_bytes weight ++ (number_bytes share)), (omega arith, s.0.0.1, refl),
-    (reserved, number_bytes reserved, number_bytes weight ++ (number_bytes share), (omega arith, s.0.1.0, refl),
-    (weight, number_bytes weight, number_bytes share, (omega arith, s.0.1.1, refl), (share, (omega arith, s.0.1.2, refl), refl), refl), refl), refl), refl) there)
+    (conit ∷ (peer ∷ (number_bytes reserved ++ (number_bytes weight ++ (number_bytes share))))) fits within (
+      conit,
+      conit ∷ [],
+      peer ∷ (number_bytes reserved ++ (number_bytes weight ++ (number_bytes share))),
+      (omega arith, s.0.0.0, refl),
+      (
+        peer,
+        peer ∷ [],
+        number_bytes reserved ++ (number_bytes weight ++ (number_bytes share)),
+        (omega arith, s.0.0.1, refl),
+        (
+          reserved,
+          number_bytes reserved,
+          number_bytes weight ++ (number_bytes share),
+          (omega arith, s.0.1.0, refl),
+          (weight, number_bytes weight, number_bytes share, (omega arith, s.0.1.1, refl), (share, (omega arith, s.0.1.2, refl), refl), refl),
+          refl,
+        ),
+        refl,
+      ),
+      refl,
+    ) there)
 again bytes place (WaitShare conit peer missing reserved weight share) text fits within s stands =
     let is : text ≡ 7 ∷ (conit ∷ (peer ∷ (number_bytes missing ++ (number_bytes reserved ++ (number_bytes weight ++ (number_bytes share)))))) = s.1
     ∙ ap (λ t. 7 ∷ conit ∷ peer ∷ t) (four missing reserved weight share) in
     let there = subst (λ t. StandsAt t bytes place) is stands in
     rw is (tagged_again 1 12 reply_fields_at 7 wait_share_reader (omega arith) (omega arith) bytes place (WaitShare conit peer missing reserved weight share)
-    (conit ∷ (peer ∷ (number_bytes missing ++ (number_bytes reserved ++ (number_bytes weight ++ (number_bytes share)))))) fits within
-    (conit, conit ∷ [], peer ∷ (number_bytes missing ++ (number_bytes reserved ++ (number_bytes weight ++ (number_bytes share)))), (omega arith, s.0.0.0, refl),
-    (peer, peer ∷ [], number_bytes missing ++ (number_bytes reserved ++ (number_bytes weight ++ (number_bytes share))), (omega arith, s.0.0.1, refl),
-    (missing, number_bytes missing, number_bytes reserved ++ (number_bytes weight ++ (number_bytes share)), (omega arith, s.0.1.0, refl),
-    (reserved, number_bytes reserved, number_bytes weight ++ (number_bytes share), (omega arith, s.0.1.1, refl),
-    (weight, number_bytes weight, number_bytes share, (omega arith, s.0.1.2, refl), (share, (omega arith, s.0.1.3, refl), refl), refl), refl), refl), refl), refl) there)
+    (conit ∷ (peer ∷ (number_bytes missing ++ (number_bytes reserved ++ (number_bytes weight ++ (number_bytes share)))))) fits within (
+      conit,
+      conit ∷ [],
+      peer ∷ (number_bytes missing ++ (number_bytes reserved ++ (number_bytes weight ++ (number_bytes share)))),
+      (omega arith, s.0.0.0, refl),
+      (
+        peer,
+        peer ∷ [],
+        number_bytes missing ++ (number_bytes reserved ++ (number_bytes weight ++ (number_bytes share))),
+        (omega arith, s.0.0.1, refl),
+        (
+          missing,
+          number_bytes missing,
+          number_bytes reserved ++ (number_bytes weight ++ (number_bytes share)),
+          (omega arith, s.0.1.0, refl),
+          (
+            reserved,
+            number_bytes reserved,
+            number_bytes weight ++ (number_bytes share),
+            (omega arith, s.0.1.1, refl),
+            (weight, number_bytes weight, number_bytes share, (omega arith, s.0.1.2, refl), (share, (omega arith, s.0.1.3, refl), refl), refl),
+            refl,
+          ),
+          refl,
+        ),
+        refl,
+      ),
+      refl,
+    ) there)
 again bytes place (WaitLent conit holder out total num) text fits within s stands =
     let is : text ≡ 8 ∷ (conit ∷ (holder ∷ (number_bytes out ++ (number_bytes total ++ (number_bytes num))))) = s.1 ∙ ap (λ t. 8 ∷ conit ∷ holder ∷ t) (three out total num) in
     let there = subst (λ t. StandsAt t bytes place) is stands in
     rw is (tagged_again 1 12 reply_fields_at 8 wait_lent_reader (omega arith) (omega arith) bytes place (WaitLent conit holder out total num)
-    (conit ∷ (holder ∷ (number_bytes out ++ (number_bytes total ++ (number_bytes num))))) fits within
-    (conit, conit ∷ [], holder ∷ (number_bytes out ++ (number_bytes total ++ (number_bytes num))), (omega arith, s.0.0.0, refl),
-    (holder, holder ∷ [], number_bytes out ++ (number_bytes total ++ (number_bytes num)), (omega arith, s.0.0.1, refl),
-    (out, number_bytes out, number_bytes total ++ (number_bytes num), (omega arith, s.0.1.0, refl),
-    (total, number_bytes total, number_bytes num, (omega arith, s.0.1.1, refl), (num, (omega arith, s.0.1.2, refl), refl), refl), refl), refl), refl) there)
+    (conit ∷ (holder ∷ (number_bytes out ++ (number_bytes total ++ (number_bytes num))))) fits within (
+      conit,
+      conit ∷ [],
+      holder ∷ (number_bytes out ++ (number_bytes total ++ (number_bytes num))),
+      (omega arith, s.0.0.0, refl),
+      (
+        holder,
+        holder ∷ [],
+        number_bytes out ++ (number_bytes total ++ (number_bytes num)),
+        (omega arith, s.0.0.1, refl),
+        (
+          out,
+          number_bytes out,
+          number_bytes total ++ (number_bytes num),
+          (omega arith, s.0.1.0, refl),
+          (total, number_bytes total, number_bytes num, (omega arith, s.0.1.1, refl), (num, (omega arith, s.0.1.2, refl), refl), refl),
+          refl,
+        ),
+        refl,
+      ),
+      refl,
+    ) there)
 again bytes place (WaitOrder conit replica tentative order) text fits within s stands =
     let is : text ≡ 9 ∷ (conit ∷ (replica ∷ (number_bytes tentative ++ (number_bytes order)))) = s.1 ∙ ap (λ t. 9 ∷ conit ∷ replica ∷ t) (two tentative order) in
     let there = subst (λ t. StandsAt t bytes place) is stands in
     rw is (tagged_again 1 12 reply_fields_at 9 wait_order_reader (omega arith) (omega arith) bytes place (WaitOrder conit replica tentative order)
-    (conit ∷ (replica ∷ (number_bytes tentative ++ (number_bytes order)))) fits within
-    (conit, conit ∷ [], replica ∷ (number_bytes tentative ++ (number_bytes order)), (omega arith, s.0.0.0, refl),
-    (replica, replica ∷ [], number_bytes tentative ++ (number_bytes order), (omega arith, s.0.0.1, refl),
-    (tentative, number_bytes tentative, number_bytes order, (omega arith, s.0.1.0, refl), (order, (omega arith, s.0.1.1, refl), refl), refl), refl), refl) there)
+    (conit ∷ (replica ∷ (number_bytes tentative ++ (number_bytes order)))) fits within (
+      conit,
+      conit ∷ [],
+      replica ∷ (number_bytes tentative ++ (number_bytes order)),
+      (omega arith, s.0.0.0, refl),
+      (
+        replica,
+        replica ∷ [],
+        number_bytes tentative ++ (number_bytes order),
+        (omega arith, s.0.0.1, refl),
+        (tentative, number_bytes tentative, number_bytes order, (omega arith, s.0.1.0, refl), (order, (omega arith, s.0.1.1, refl), refl), refl),
+        refl,
+      ),
+      refl,
+    ) there)
 again bytes place (WaitStale conit replica moment wanted) text fits within s stands =
     let is : text ≡ 10 ∷ (conit ∷ (replica ∷ (number_bytes moment ++ (number_bytes wanted)))) = s.1 ∙ ap (λ t. 10 ∷ conit ∷ replica ∷ t) (two moment wanted) in
     let there = subst (λ t. StandsAt t bytes place) is stands in
     rw is (tagged_again 1 12 reply_fields_at 10 wait_stale_reader (omega arith) (omega arith) bytes place (WaitStale conit replica moment wanted)
-    (conit ∷ (replica ∷ (number_bytes moment ++ (number_bytes wanted)))) fits within
-    (conit, conit ∷ [], replica ∷ (number_bytes moment ++ (number_bytes wanted)), (omega arith, s.0.0.0, refl),
-    (replica, replica ∷ [], number_bytes moment ++ (number_bytes wanted), (omega arith, s.0.0.1, refl),
-    (moment, number_bytes moment, number_bytes wanted, (omega arith, s.0.1.0, refl), (wanted, (omega arith, s.0.1.1, refl), refl), refl), refl), refl) there)
+    (conit ∷ (replica ∷ (number_bytes moment ++ (number_bytes wanted)))) fits within (
+      conit,
+      conit ∷ [],
+      replica ∷ (number_bytes moment ++ (number_bytes wanted)),
+      (omega arith, s.0.0.0, refl),
+      (
+        replica,
+        replica ∷ [],
+        number_bytes moment ++ (number_bytes wanted),
+        (omega arith, s.0.0.1, refl),
+        (moment, number_bytes moment, number_bytes wanted, (omega arith, s.0.1.0, refl), (wanted, (omega arith, s.0.1.1, refl), refl), refl),
+        refl,
+      ),
+      refl,
+    ) there)
 again bytes place (NotHeld conit held amount) text fits within s stands =
     let is : text ≡ 11 ∷ (conit ∷ (number_bytes held ++ (number_bytes amount))) = s.1 ∙ ap (λ t. 11 ∷ conit ∷ t) (two held amount) in
     let there = subst (λ t. StandsAt t bytes place) is stands in
-    rw is (tagged_again 1 12 reply_fields_at 11 not_held_reader (omega arith) (omega arith) bytes place (NotHeld conit held amount) (conit ∷ (number_bytes held ++ (number_bytes amount))) fits within
-    (conit, conit ∷ [], number_bytes held ++ (number_bytes amount), (omega arith, s.0.0, refl),
-    (held, number_bytes held, number_bytes amount, (omega arith, s.0.1.0, refl), (amount, (omega arith, s.0.1.1, refl), refl), refl), refl) there)
+    rw is (tagged_again 1 12 reply_fields_at 11 not_held_reader (omega arith) (omega arith) bytes place (NotHeld conit held amount) (conit ∷ (number_bytes held ++ (number_bytes amount))) fits within (
+      conit,
+      conit ∷ [],
+      number_bytes held ++ (number_bytes amount),
+      (omega arith, s.0.0, refl),
+      (held, number_bytes held, number_bytes amount, (omega arith, s.0.1.0, refl), (amount, (omega arith, s.0.1.1, refl), refl), refl),
+      refl,
+    ) there)
 
 pub reply_reader : Reader (SpelledAs (λ reply. HasSmallNames reply × HasWideNumbers reply) reply_bytes) reply_at
 unfolding reply_at

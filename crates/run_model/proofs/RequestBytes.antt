@@ -89,9 +89,14 @@ module _ (conits : ℕ) where
       (weights, weights_bytes weights, op_bytes op, (s.0.0, refl), (op, (s.0.1, refl), refl), refl) there)
   again bytes place (Held weight op) text fits within s stands =
       let there = subst (λ t. StandsAt t bytes place) s.1 stands in
-      rw s.1 (tagged_again 1 6 (request_fields_at conits) 2 held_reader (omega arith) (omega arith) bytes place (Held weight op) (weight_bytes weight ++ op_bytes op) fits within
-      (weight, weight_bytes weight, op_bytes op,
-      (record { reached = omega arith; below = s.0.0; limits = limits_of (unsigned_abs weight.nweight) weight.oweight s.0.1 s.0.2 }, refl), (op, (s.0.3, refl), refl), refl) there)
+      rw s.1 (tagged_again 1 6 (request_fields_at conits) 2 held_reader (omega arith) (omega arith) bytes place (Held weight op) (weight_bytes weight ++ op_bytes op) fits within (
+        weight,
+        weight_bytes weight,
+        op_bytes op,
+        (record { reached = omega arith; below = s.0.0; limits = limits_of (unsigned_abs weight.nweight) weight.oweight s.0.1 s.0.2 }, refl),
+        (op, (s.0.3, refl), refl),
+        refl,
+      ) there)
   again bytes place (Reserve conit amount) text fits within s stands =
       let there = subst (λ t. StandsAt t bytes place) s.1 stands in
       rw s.1 (tagged_again 1 6 (request_fields_at conits) 3 reserve_reader (omega arith) (omega arith) bytes place (Reserve conit amount) (conit ∷ number_bytes amount) fits within

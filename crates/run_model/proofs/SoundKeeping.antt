@@ -32,7 +32,7 @@ Vouches-empty replica part sound = record {
   stamp = omega arith;
   moment = omega arith;
   later = All-weaker (λ (write : Write). 1 ≤ write.stamp) (λ (write : Write). 0 ≤ write.index → (0 < write.stamp) × (0 ≤ write.moment))
-  (λ write least index. (omega (arith, least), omega arith)) (own part) sound.stamps_least;
+      (λ write least index. (omega (arith, least), omega arith)) (own part) sound.stamps_least;
 }
 
 -- a cover that vouches goes on doing so

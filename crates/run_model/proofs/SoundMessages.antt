@@ -44,7 +44,7 @@ pub IsSoundMessage-grows : (history further : List Entry) (sender : ℕ) (messag
 IsSoundMessage-grows history further sender message grows sound = record {
   from = sound.from;
   told = λ origin. IsSoundTold-grows message origin (have sender (part_of history sender) origin) (have sender (part_of further sender) origin) (part_of history origin)
-  (part_of further origin) ((grows sender).have origin) (grows origin) (sound.told origin);
+      (part_of further origin) ((grows sender).have origin) (grows origin) (sound.told origin);
   stamps = sound.stamps;
 }
 
@@ -169,7 +169,7 @@ module _ (setup : Setup) (history : List Entry) (sound : Sound setup history) (r
           have = omega (arith, has);
           first = omega (arith, first);
           writes = IsPrefix-trans (told_writes message origin) [] (drop (told_first message origin) (own later)) (told_writes-past origin past)
-          (IsPrefix-nil (drop (told_first message origin) (own later)));
+              (IsPrefix-nil (drop (told_first message origin) (own later)));
           cover = subst (Vouches later) (sym cover) (Vouches-empty origin later in_order);
           count = omega (arith, has, ap (λ (c : Cover). c.count) cover);
         }

@@ -65,8 +65,11 @@ module _ (setup : Setup) (history : List Entry) (sound : Sound setup history) (r
       → (cover_of replica (part_of history replica) at origin).count ≤ have replica (part_of history replica) origin
   Sound-count at = ⊎_elim
       (λ (same : origin ≡ replica). rw (same, cover_of-same replica (part_of history replica) at, log_of-same replica (part_of history replica)) (omega arith))
-      (λ (other : origin ≡ replica → ⊥). rw (cover_of-other replica (part_of history replica) at origin other, log_of-other replica (part_of history replica) origin
-      other) (sound.kept replica origin).count)
+      (λ (other : origin ≡ replica → ⊥). rw (
+        cover_of-other replica (part_of history replica) at origin other,
+        log_of-other replica (part_of history replica) origin
+            other,
+      ) (sound.kept replica origin).count)
       (cases_eq origin replica)
 
   -- and vouches for its origin

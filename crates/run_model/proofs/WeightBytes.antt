@@ -95,7 +95,7 @@ IsNeed conits = IsSpelledItem (λ (need : Need). need.conit) need_in_limits need
 abbrev NeedFields : ℕ → ℕ → Need → List ℕ → Type 0
 NeedFields conits least =
     Then (IsByte least conits) (λ conit. Then (IsNumber 0 (suc AMOUNT_MAX))
-        (λ num. Then (IsNumber 0 (suc AMOUNT_MAX)) (λ order. Made (IsNumber 0 (suc MOMENT_MAX)) (λ stale. record { conit = conit; num = num; order = order; stale = stale }))))
+    (λ num. Then (IsNumber 0 (suc AMOUNT_MAX)) (λ order. Made (IsNumber 0 (suc MOMENT_MAX)) (λ stale. record { conit = conit; num = num; order = order; stale = stale }))))
 
 pub need_reader : (conits least : ℕ) → Reader (IsNeed conits least) (need_at conits least)
 unfolding need_at

@@ -173,7 +173,7 @@ module _ (setup : Setup) (history : List Entry) (sound : Sound setup history) (a
         num = le_trans (num_error-within setup history sound agree within replica need.conit replica_in in_range.conit) free.lent;
         order = free.order;
         stale = none_from_all (λ (w : Write). wanted ≤ w.moment) (λ (w : Write). w.moment < wanted) (unseen_by setup history replica)
-        (λ w after before. absurd (omega (arith, after, before))) (unseen_is_late free.seen);
+            (λ w after before. absurd (omega (arith, after, before))) (unseen_is_late free.seen);
       }
     where
       unmapped : (hindered : Option Hindrance)
@@ -253,7 +253,7 @@ MeetsNeeds-due : (setup : Setup) (history : List Entry) (replica moment : ℕ) (
     → MeetsNeeds setup (history ++ record { replica = replica; moment = moment; act = done } ∷ []) replica moment done
 MeetsNeeds-due setup history replica moment (act.Call client number (request.Read key needs) (reply.Value answer sums)) sound agree within lawful =
     meets setup history (record { replica = replica; moment = moment; act = act.Call client number (request.Read key needs) (reply.Value answer sums) }) sound agree
-        within lawful refl refl key needs answer sums lawful.due.in_range.act.1 lawful.due.act.1
+    within lawful refl refl key needs answer sums lawful.due.in_range.act.1 lawful.due.act.1
 MeetsNeeds-due setup history replica moment other sound agree within lawful = tt
 
 pub IsAnswered-from : (setup : Setup) (history : List Entry)

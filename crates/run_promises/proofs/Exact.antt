@@ -28,9 +28,9 @@ IsExact-from setup history agree keeps shares owner conit owner_in conit_in =
     record {
       total = omega (arith, keeps owner conit owner_in conit_in, sum_by-each held at peers same, sum-map held peers, sum-map at peers);
       told = All-peers setup owner (λ holder. lent_known setup holder (part_of history holder) owner conit ≤ lent setup owner (part_of history owner) holder conit)
-      (λ holder within other. agree.lent holder owner conit);
+          (λ holder within other. agree.lent holder owner conit);
       covered = All-peers setup owner (λ holder. returned (part_of history holder) owner conit ≤ lent_known setup holder (part_of history holder) owner conit)
-      (λ holder within other. ((shares holder).each owner conit owner_in (λ turned. other (sym turned))).covered);
+          (λ holder within other. ((shares holder).each owner conit owner_in (λ turned. other (sym turned))).covered);
       back = All-peers setup owner (λ holder. returned_known (part_of history owner) holder conit ≤ returned (part_of history holder) owner conit)
-      (λ holder within other. agree.returned owner holder conit);
+          (λ holder within other. agree.returned owner holder conit);
     }

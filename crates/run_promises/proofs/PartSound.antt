@@ -174,8 +174,16 @@ module _ (setup : Setup) (part : List Entry) (entry : Entry) (sound : PartSound 
         few = ⊎_elim
             (λ (nothing : length told < held). omega (arith, log_before.few, length-append kept.log (drop held told), length-drop held told, nothing))
             (λ (some : held ≤ length told).
-            omega (arith, length-append kept.log (drop held told), length-drop held told, some, reaches, (in_range.told origin within).told,
-            (in_range.told origin within).first, (in_range.told origin within).have))
+            omega (
+              arith,
+              length-append kept.log (drop held told),
+              length-drop held told,
+              some,
+              reaches,
+              (in_range.told origin within).told,
+              (in_range.told origin within).first,
+              (in_range.told origin within).have,
+            ))
             (cases_lt (length told) held);
       }
         where

@@ -65,7 +65,7 @@ module _ (replica : ℕ) (part : List Entry) (entry : Entry) (origin : ℕ) wher
       go : (same : Bool)
           → (let c : Cover = cond same (record { count = length (own part); stamp = clock part; moment = 0 }) (origin_state part origin).cover in c).stamp
           ≤ (let c : Cover = cond same (record { count = length (own (part ++ entry ∷ [])); stamp = clock (part ++ entry ∷ []); moment = 0 })
-              (origin_state (part ++ entry ∷ []) origin).cover in c).stamp
+          (origin_state (part ++ entry ∷ []) origin).cover in c).stamp
       go true = clock-le-push part entry
       go false = kept-stamp-push
 

@@ -73,8 +73,13 @@ module _ (f : ℕ → ℕ) (replica replicas alpha left peer : ℕ) (so_far : le
       → f peer ≤ left
   peer-within within other all =
       let split = ap (sum_by f) (peers_below-split replica peer replicas within other) in
-      omega (arith, split, sum_by-append f (peers_below replica peer) (peer ∷ peers_after replica peer replicas), sum_by-cons f peer (peers_after replica peer replicas),
-      sum-map f (peers_below replica replicas))
+      omega (
+        arith,
+        split,
+        sum_by-append f (peers_below replica peer) (peer ∷ peers_after replica peer replicas),
+        sum_by-cons f peer (peers_after replica peer replicas),
+        sum-map f (peers_below replica replicas),
+      )
 
   pub left-peer : (peer ≡ replica → ⊥)
       → f peer ≤ left

@@ -9,5 +9,5 @@ loop-write-preserved c =
       conits = c.add.ensures.conits ∙ l.invariant.conits;
       held = omega (arith, c.add.ensures.held, l.invariant.held);
       added = λ held of. with_one_more (AreSumsOf l.settled) (AreSumsOf c.add.new.self) held c.args.writes.now l.write-index c.write-item.result c.loop-write-test.true
-      c.write-item.is c.add.ensures.added (l.invariant.added held of);
+          c.write-item.is c.add.ensures.added (l.invariant.added held of);
     }

@@ -12,5 +12,10 @@ read c = c.items.ensures.items ∙ get_or_read c.args.writes.now c.loop-write.wr
 
 pub remove_each-requires-clause-held : goal.remove_each-requires-clause-held
 remove_each-requires-clause-held c = λ conit.
-    rw (read c) (omega (arith, c.requires.held conit, c.loop-write.invariant.sums conit, sum_by_more_le (λ weights. write_sum c.args.summed weights conit)
-    c.args.writes.now c.loop-write.write-index [] c.loop-write-test.true))
+    rw (read c) (omega (
+      arith,
+      c.requires.held conit,
+      c.loop-write.invariant.sums conit,
+      sum_by_more_le (λ weights. write_sum c.args.summed weights conit)
+          c.args.writes.now c.loop-write.write-index [] c.loop-write-test.true,
+    ))

@@ -31,7 +31,7 @@ invariant_of-self c =
       sorted = kept.sorted;
       many = kept.many;
       past = All-weaker (λ (write : Write). write.stamp ≤ c.self.inside.point) (λ (write : Write). write.stamp ≤ c.args.stamp) (λ write h. omega (arith, h, rises c))
-      c.self.inside.gone.items kept.past;
+          c.self.inside.gone.items kept.past;
       committed = count c;
       given_up = omega (arith, count c, kept.committed, kept.given_up, committed-rises c.self.inside.point c.args.stamp c.self.inside.writes.items (rises c));
       counted = kept.counted;

@@ -46,8 +46,12 @@ admit-requires-clause-next c =
 pub admit-requires-clause-few : goal.admit-requires-clause-few
 admit-requires-clause-few c =
     let kept = c.self.invariant.0 in
-    omega (arith, seen-few c.self.inside.config.replicas c.self.inside.logs.logs c.self.inside.seen.writes kept.between.ordered kept.few.each,
-    (HasCounts-from_IsSetup c.self.inside.config kept.setup).replicas_high, c.from_ref-one.ensures.len)
+    omega (
+      arith,
+      seen-few c.self.inside.config.replicas c.self.inside.logs.logs c.self.inside.seen.writes kept.between.ordered kept.few.each,
+      (HasCounts-from_IsSetup c.self.inside.config kept.setup).replicas_high,
+      c.from_ref-one.ensures.len,
+    )
 
 pub invariant_of-self : goal.invariant_of-self
 invariant_of-self c =
@@ -84,20 +88,28 @@ invariant_of-self c =
         bases = rw (c.admit.ensures.logs, c.admit.ensures.bases)
             (record {
               within = bases-grown c.self.inside.config.replicas c.self.inside.logs.bases logs c.self.inside.replica c.from_ref-one.result.now
-              (omega (arith, places.among, places.logs_sized)) c.self.invariant.0.bases.within;
+                  (omega (arith, places.among, places.logs_sized)) c.self.invariant.0.bases.within;
               had = c.self.invariant.0.bases.had;
             });
         few = rw c.admit.ensures.logs (AreFew-own c.self.inside.replica c.self.inside.count c.self.inside.logs.logs c.from_ref-one.result.now
-        (omega (arith, places.among, places.logs_sized)) (omega (arith, one)) entries c.self.invariant.0.few);
+            (omega (arith, places.among, places.logs_sized)) (omega (arith, one)) entries c.self.invariant.0.few);
         lent = AreLentBy-later c.self.inside.count (c.self.inside.count + 1) c.count.new.budgets.lent (omega arith)
-        (AreLentBy-same c.self.inside.count (ap (λ b. b.lent) c.count.ensures.counted) c.self.invariant.0.lent);
+            (AreLentBy-same c.self.inside.count (ap (λ b. b.lent) c.count.ensures.counted) c.self.invariant.0.lent);
       },
       record {
         own = omega (arith, rooms.own, c.admit.ensures.room, one);
         others = λ origin other within.
-            omega (arith, rooms.others origin other (omega
-            (arith, within, ap length c.admit.ensures.logs, length-set c.self.inside.logs.logs c.self.inside.replica
-            (get_or c.self.inside.logs.logs c.self.inside.replica [] ++ c.from_ref-one.result.now))), c.admit.ensures.others origin other);
+            omega (
+              arith,
+              rooms.others origin other (omega (
+                arith,
+                within,
+                ap length c.admit.ensures.logs,
+                length-set c.self.inside.logs.logs c.self.inside.replica
+                    (get_or c.self.inside.logs.logs c.self.inside.replica [] ++ c.from_ref-one.result.now),
+              )),
+              c.admit.ensures.others origin other,
+            );
         seen = omega (arith, rooms.seen, ap (λ (seen : SeenState). seen.room) c.admit.ensures.seen, one, spare);
         budgets = omega (arith, rooms.budgets, c.count.ensures.room);
       },

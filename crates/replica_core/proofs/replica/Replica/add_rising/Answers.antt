@@ -20,8 +20,12 @@ admit-requires-clause-few c =
     let next : AreNext c.self.inside.config.conits c.args.origin (length (get_or c.self.inside.logs.logs c.args.origin [])) c.args.writes.now =
     subst (λ (s : ReplicaState). AreNext s.core.setup.conits c.args.origin (length (log_at s.core c.args.origin)) c.args.writes.now) (sym c.self.view_is) c.requires.next in
     let kept = c.self.invariant.0 in
-    omega (arith, seen-few c.self.inside.config.replicas c.self.inside.logs.logs c.self.inside.seen.writes kept.between.ordered kept.few.each,
-    (HasCounts-from_IsSetup c.self.inside.config kept.setup).replicas_high, next.few)
+    omega (
+      arith,
+      seen-few c.self.inside.config.replicas c.self.inside.logs.logs c.self.inside.seen.writes kept.between.ordered kept.few.each,
+      (HasCounts-from_IsSetup c.self.inside.config kept.setup).replicas_high,
+      next.few,
+    )
 
 pub invariant_of-self : goal.invariant_of-self
 invariant_of-self c =

@@ -48,8 +48,8 @@ module _ (setup : Setup) (message : Message) (in_range : IsMessageInRange setup 
         origins = from_one-origins at message.writes;
         indices = range.indices;
         on_conits = All-filter (λ (write : Write). write.origin == at) P message.writes
-        (All-weaker (IsWriteInRange setup) P (λ write in_range. All-weaker (IsWeightInRange setup) (λ (weight : Weight). weight.conit < setup.conits)
-        (λ weight range. range.conit) write.weights in_range.weights.each) message.writes in_range.writes);
+            (All-weaker (IsWriteInRange setup) P (λ write in_range. All-weaker (IsWeightInRange setup) (λ (weight : Weight). weight.conit < setup.conits)
+            (λ weight range. range.conit) write.weights in_range.weights.each) message.writes in_range.writes);
         few = omega (arith, range.told, range.first, range.have);
       }
 
@@ -99,8 +99,14 @@ loop-origin-preserved c =
           (λ (differ : origin ≡ at → ⊥). c.add_from.ensures.others origin differ ∙ inv.told origin (omega (arith, early, differ)) inside)
           (cases_eq origin at);
       later = λ origin late. c.add_from.ensures.others origin (λ same. absurd (omega (arith, late, same))) ∙ inv.later origin (omega (arith, late));
-      start = omega (arith, inv.start, ap length c.told_of-told.ensures, ap length (flat_map_range_more (told_writes message) at), length-append
-      (flat_map (told_writes message) (range_with_len 0 at)) (told_writes message at));
+      start = omega (
+        arith,
+        inv.start,
+        ap length c.told_of-told.ensures,
+        ap length (flat_map_range_more (told_writes message) at),
+        length-append
+            (flat_map (told_writes message) (range_with_len 0 at)) (told_writes message at),
+      );
       spare = c.add_from.ensures.spare ∙ inv.spare;
       room = omega (arith, inv.room, c.add_from.ensures.room);
     }

@@ -6,4 +6,4 @@ use Rattle.replica_core.proofs.replica.Replica.haves.Goals as goal
 pub loop-origin-preserved : goal.loop-origin-preserved
 loop-origin-preserved c =
     mapped_more (λ (origin : ℕ). length (log_at c.args.self.now.core origin)) c.loop-origin.origin [] c.loop-origin.haves c.push.new.self c.have.result
-        c.loop-origin.invariant c.in_ok-push.ensures.ok c.have.ensures
+    c.loop-origin.invariant c.in_ok-push.ensures.ok c.have.ensures

@@ -16,8 +16,15 @@ loop-peer-preserved c =
     let replica : c.self.inside.replica ≡ core.replica = ap (λ (s : ReplicaState). s.core.replica) c.self.view_is in
     elim c.if-peer-self.branch [
       | then-peer-self+then-peer-origin w ↦
-          omega (arith, w.least-is, w.min-least.ensures, w.known.ensures, c.loop-peer.invariant, least_below-one core.replica origin have number peer
-          (λ same. w.if-peer-self.true (same ∙ sym replica)) w.if-peer-origin.true)
+          omega (
+            arith,
+            w.least-is,
+            w.min-least.ensures,
+            w.known.ensures,
+            c.loop-peer.invariant,
+            least_below-one core.replica origin have number peer
+                (λ same. w.if-peer-self.true (same ∙ sym replica)) w.if-peer-origin.true,
+          )
       | else-peer-self w ↦ elim w.else-peer-self.branch [
         | else-peer-self-via-then-peer-self+else-peer-origin v ↦
             omega (arith, w.least-is, c.loop-peer.invariant, least_below-origin core.replica origin have number peer (λ same. v.if-peer-self.true (same ∙ sym replica)) v.if-peer-origin.false)

@@ -29,14 +29,19 @@ invariant_of-self c =
     let rises : (k : ℕ) → k < length inside.vector → (get_or inside.vector k no_cover).stamp ≤ (get_or raised k no_cover).stamp = λ k within.
     let is = c.raise_covers.ensures.covers k (omega (arith, within, places.covers_sized)) in
     ⊎_elim
-    (λ (same : k ≡ inside.replica). omega (arith, ap (λ (cover : Cover). cover.stamp)
-    (is ∙ ap (λ yes. cond yes (get_or inside.vector k no_cover)
-    (cover_after (length (get_or inside.logs.logs k [])) (get_or inside.vector k no_cover) (told_cover c.args.message.now k))) (eq-eqb k inside.replica same))))
-    (λ (other : k ≡ inside.replica → ⊥). omega
-    (arith, ap (λ (cover : Cover). cover.stamp)
-    (is ∙ ap (λ yes. cond yes (get_or inside.vector k no_cover)
-    (cover_after (length (get_or inside.logs.logs k [])) (get_or inside.vector k no_cover) (told_cover c.args.message.now k))) (ne_eqb k inside.replica other)),
-    cover_after-stamp (length (get_or inside.logs.logs k [])) (get_or inside.vector k no_cover) (told_cover c.args.message.now k)))
+    (λ (same : k ≡ inside.replica). omega (
+      arith,
+      ap (λ (cover : Cover). cover.stamp)
+          (is ∙ ap (λ yes. cond yes (get_or inside.vector k no_cover)
+          (cover_after (length (get_or inside.logs.logs k [])) (get_or inside.vector k no_cover) (told_cover c.args.message.now k))) (eq-eqb k inside.replica same)),
+    ))
+    (λ (other : k ≡ inside.replica → ⊥). omega (
+      arith,
+      ap (λ (cover : Cover). cover.stamp)
+          (is ∙ ap (λ yes. cond yes (get_or inside.vector k no_cover)
+          (cover_after (length (get_or inside.logs.logs k [])) (get_or inside.vector k no_cover) (told_cover c.args.message.now k))) (ne_eqb k inside.replica other)),
+      cover_after-stamp (length (get_or inside.logs.logs k [])) (get_or inside.vector k no_cover) (told_cover c.args.message.now k),
+    ))
     (cases_eq k inside.replica) in
     let own : get_or raised inside.replica no_cover ≡ get_or inside.vector inside.replica no_cover =
     c.raise_covers.ensures.covers inside.replica places.among
@@ -65,8 +70,13 @@ invariant_of-self c =
         bases = record {
           within = kept.bases.within;
           had = λ peer origin peer_in origin_in apart other.
-              omega (arith, kept.bases.had peer origin peer_in origin_in apart other, c.learn_haves.ensures.known peer origin peer_in origin_in, raised_by-ge
-              c.args.message.now peer (get_or inside.known.items (peer * inside.config.replicas + origin) 0) (told_have c.args.message.now origin));
+              omega (
+                arith,
+                kept.bases.had peer origin peer_in origin_in apart other,
+                c.learn_haves.ensures.known peer origin peer_in origin_in,
+                raised_by-ge
+                    c.args.message.now peer (get_or inside.known.items (peer * inside.config.replicas + origin) 0) (told_have c.args.message.now origin),
+              );
         };
         few = kept.few;
         lent = AreLentBy-same inside.count (ap (λ (b : BudgetState). b.lent) noted) kept.lent;

@@ -12,8 +12,13 @@ use Rattle.replica_core.proofs.seen.Seen.commit_to.Goals as goal
 pub commit-requires-clause-more : goal.commit-requires-clause-more
 commit-requires-clause-more c =
     let old = c.self.inside.ordered in
-    omega (arith, c.commit_to-count.ensures.count, c.self.invariant.has_image.committed, committed-rises old.writes c.self.invariant.sorted old.point c.args.stamp
-    (omega (arith, c.requires, ap (λ (s : SeenState). s.point) c.self.view_is)))
+    omega (
+      arith,
+      c.commit_to-count.ensures.count,
+      c.self.invariant.has_image.committed,
+      committed-rises old.writes c.self.invariant.sorted old.point c.args.stamp
+          (omega (arith, c.requires, ap (λ (s : SeenState). s.point) c.self.view_is)),
+    )
 
 pub commit-requires-clause-within : goal.commit-requires-clause-within
 commit-requires-clause-within c =
@@ -41,7 +46,7 @@ committed_from-requires c =
     omega (
       arith,
       ends (length c.committed-before.result.now) old.dropped c.commit_to-count.new.self.dropped (committed_to old.point old.writes)
-      (ap length c.committed-before.ensures.committed) c.self.invariant.gone made.dropped,
+          (ap length c.committed-before.ensures.committed) c.self.invariant.gone made.dropped,
       ap length later,
       committed-rises old.writes c.self.invariant.sorted old.point c.args.stamp (omega (arith, c.requires, ap (λ (s : SeenState). s.point) c.self.view_is)),
     )

@@ -122,7 +122,7 @@ invariant_of-self c =
           (HasImage-admitted old.writes more kept.sorted after old.point made.result same made.ensures.stays c.self.inside.image c.follow.new.image kept.has_image
           c.follow.ensures.committed c.follow.ensures.base (rw (← made.ensures.point) c.follow.ensures.ops));
       has_sums = rw made.ensures.point (HasSums-admitted old.writes writes more old.point c.self.inside.sums c.add_all.new.sums c.self.inside.settled
-      made.ensures.in_order same c.add_all.ensures.added kept.has_sums);
+          made.ensures.in_order same c.add_all.ensures.added kept.has_sums);
       conits = kept.conits ∙ sym c.add_all.ensures.conits;
       order = omega (arith, made.ensures.room, kept.order);
       image = omega (

@@ -11,5 +11,9 @@ invariant_of-self c =
     let place = c.place_of-place.ensures in
     let read = read_at_place (setup_of c.self.inside.config) c.self.inside.returned.items c.args.owner c.args.conit c.place_of-place.result c.index_mut.result.now
     c.self.invariant.keeps.returned owner.0 conit place c.index_mut.ensures.value in
-    rw (read, place) (record { keeps = KeepsBudgets-given _ c.self.invariant.keeps c.args.owner c.args.conit c.args.amount owner conit free; replica =
-    c.self.invariant.replica; conits = c.self.invariant.conits })
+    rw (read, place) (record {
+      keeps = KeepsBudgets-given _ c.self.invariant.keeps c.args.owner c.args.conit c.args.amount owner conit free;
+      replica =
+          c.self.invariant.replica;
+      conits = c.self.invariant.conits;
+    })

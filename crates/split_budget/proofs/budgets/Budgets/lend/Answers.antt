@@ -12,5 +12,9 @@ invariant_of-self c =
     let place = c.place_of-place.ensures in
     let read = read_at_place (setup_of c.self.inside.config) c.self.inside.lent.items c.args.holder c.args.conit c.place_of-place.result c.index_mut.result.now
     c.self.invariant.keeps.lent holder.0 conit place c.index_mut.ensures.value in
-    rw (read, place) (record { keeps = KeepsBudgets-lent _ c.self.invariant.keeps c.args.holder c.args.conit c.args.amount holder conit home limit; replica =
-    c.self.invariant.replica; conits = c.self.invariant.conits })
+    rw (read, place) (record {
+      keeps = KeepsBudgets-lent _ c.self.invariant.keeps c.args.holder c.args.conit c.args.amount holder conit home limit;
+      replica =
+          c.self.invariant.replica;
+      conits = c.self.invariant.conits;
+    })

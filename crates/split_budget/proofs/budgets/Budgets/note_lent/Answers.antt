@@ -12,5 +12,9 @@ invariant_of-self c =
     let read = read_at_place (setup_of c.self.inside.config) c.self.inside.lent_known.items c.args.owner c.args.conit c.place_of-place.result c.index.result.now
     c.self.invariant.keeps.lent_known owner.0 conit place c.index.ensures in
     let now = c.max.ensures ∙ ap (λ before. max before c.args.told) read in
-    rw (now, place) (record { keeps = KeepsBudgets-told _ c.self.invariant.keeps c.args.owner c.args.conit c.args.told owner conit c.ranges.told.fits; replica =
-    c.self.invariant.replica; conits = c.self.invariant.conits })
+    rw (now, place) (record {
+      keeps = KeepsBudgets-told _ c.self.invariant.keeps c.args.owner c.args.conit c.args.told owner conit c.ranges.told.fits;
+      replica =
+          c.self.invariant.replica;
+      conits = c.self.invariant.conits;
+    })

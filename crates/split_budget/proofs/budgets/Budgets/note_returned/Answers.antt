@@ -13,8 +13,12 @@ invariant_of-self c =
     let read = read_at_place (setup_of c.self.inside.config) c.self.inside.returned_known.items c.args.holder c.args.conit c.place_of-place.result c.index.result.now
     c.self.invariant.keeps.returned_known holder.0 conit place c.index.ensures in
     let now = c.max.ensures ∙ ap (λ before. max before c.args.told) read in
-    rw (now, place) (record { keeps = KeepsBudgets-returned _ c.self.invariant.keeps c.args.holder c.args.conit c.args.told holder conit lent; replica =
-    c.self.invariant.replica; conits = c.self.invariant.conits })
+    rw (now, place) (record {
+      keeps = KeepsBudgets-returned _ c.self.invariant.keeps c.args.holder c.args.conit c.args.told holder conit lent;
+      replica =
+          c.self.invariant.replica;
+      conits = c.self.invariant.conits;
+    })
 
 pub returns-clause-kept : goal.returns-clause-kept
 returns-clause-kept c =

@@ -43,8 +43,13 @@ loop-peer-preserved c =
       | then-peer-self+then-index-self w ↦
           let is : IsOther s peer = (within, λ same. w.if-peer-self.true (same ∙ sym replica)) in
           let behind : known_of s peer ≤ length s.weights =
-          omega (arith, w.if-index-self.true, read_known s c.loop-peer.self-inside.known.items c.loop-peer.self-inside.given_up peer w.index.result.now known given_up
-          within w.index.ensures, count) in
+          omega (
+            arith,
+            w.if-index-self.true,
+            read_known s c.loop-peer.self-inside.known.items c.loop-peer.self-inside.given_up peer w.index.result.now known given_up
+                within w.index.ensures,
+            count,
+          ) in
           let of = AreMissed-added s.conits w.index_mut.result.now w.add.new.self w.add.ensures.conits (missed_by s peer) weights w.add.ensures.plus w.add.ensures.minus
           (read_sums s weights peer missed so_far.sums w.index_mut.result.now is w.index_mut.ensures.value) in
           rw w.self-inside-is (record {
@@ -65,8 +70,13 @@ loop-peer-preserved c =
             sums = HasAdded-left s weights peer missed so_far.sums (λ is.
                 elim w.else-peer-self.branch [
                   | else-peer-self-via-then-peer-self+else-index-self v ↦
-                      omega (arith, v.if-index-self.false, read_known s c.loop-peer.self-inside.known.items c.loop-peer.self-inside.given_up peer v.index.result.now
-                      known given_up within v.index.ensures, count)
+                      omega (
+                        arith,
+                        v.if-index-self.false,
+                        read_known s c.loop-peer.self-inside.known.items c.loop-peer.self-inside.given_up peer v.index.result.now
+                            known given_up within v.index.ensures,
+                        count,
+                      )
                   | else-peer-self-via-else-peer-self v ↦ absurd (is.1 (v.if-peer-self.false ∙ replica))
                 ]);
           })

@@ -17,8 +17,16 @@ loop-peer-preserved c =
       | then-peer-self w ↦
           let read = get_or_read c.self.inside.known.items peer w.index.result.now (omega (arith, c.loop-peer-test.true, c.len-peer-end.ensures)) w.index.ensures 0
           ∙ ap (λ list. get_or list peer 0) known in
-          omega (arith, w.count-is, w.min-count.ensures, c.loop-peer.invariant, read, given_up, least_below-peer (length s.weights) s.replica number peer
-          (λ same. w.if-peer-self.true (same ∙ sym replica)))
+          omega (
+            arith,
+            w.count-is,
+            w.min-count.ensures,
+            c.loop-peer.invariant,
+            read,
+            given_up,
+            least_below-peer (length s.weights) s.replica number peer
+                (λ same. w.if-peer-self.true (same ∙ sym replica)),
+          )
       | else-peer-self w ↦
           omega (arith, w.count-is, c.loop-peer.invariant, least_below-own (length s.weights) s.replica number peer (w.if-peer-self.false ∙ replica))
     ]

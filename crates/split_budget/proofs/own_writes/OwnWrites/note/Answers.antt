@@ -35,14 +35,22 @@ sums c =
 pub take_off-requires-clause-plus : goal.take_off-requires-clause-plus
 take_off-requires-clause-plus c = λ conit.
     let d = (goal.at.take_off-requires-clause-plus c).After-index_mut in
-    omega (arith, (sums d).plus conit, part_on-append above_zero conit (take (c.min-to.result - c.min-from.result) (drop c.min-from.result c.items-writes.result.now))
-    (drop (c.max-newest.result - c.self.inside.given_up) c.self.inside.writes.items))
+    omega (
+      arith,
+      (sums d).plus conit,
+      part_on-append above_zero conit (take (c.min-to.result - c.min-from.result) (drop c.min-from.result c.items-writes.result.now))
+          (drop (c.max-newest.result - c.self.inside.given_up) c.self.inside.writes.items),
+    )
 
 pub take_off-requires-clause-minus : goal.take_off-requires-clause-minus
 take_off-requires-clause-minus c = λ conit.
     let d = (goal.at.take_off-requires-clause-minus c).After-index_mut in
-    omega (arith, (sums d).minus conit, part_on-append below_zero conit (take (c.min-to.result - c.min-from.result) (drop c.min-from.result c.items-writes.result.now))
-    (drop (c.max-newest.result - c.self.inside.given_up) c.self.inside.writes.items))
+    omega (
+      arith,
+      (sums d).minus conit,
+      part_on-append below_zero conit (take (c.min-to.result - c.min-from.result) (drop c.min-from.result c.items-writes.result.now))
+          (drop (c.max-newest.result - c.self.inside.given_up) c.self.inside.writes.items),
+    )
 
 pub invariant_of-self : goal.invariant_of-self
 invariant_of-self c =

@@ -10,9 +10,12 @@ join_seat-requires g c =
 
 pub fetch_sub-requires : goal.fetch_sub-requires
 fetch_sub-requires g c =
-    let key = c.cell.inside.table.shared.key in
-    (search rules, search rules, lowers g.T.Counted.label g.T.Counted.totals (g.T.Counted.label key.first.value)
-    key.shared key.owned _ _ c.args.place c.args.amount _ (search rules) (search rules) (search rules) (search rules) (search rules))
+    let key = c.cell.inside.table.shared.key in (
+      search rules,
+      search rules,
+      lowers g.T.Counted.label g.T.Counted.totals (g.T.Counted.label key.first.value)
+          key.shared key.owned _ _ c.args.place c.args.amount _ (search rules) (search rules) (search rules) (search rules) (search rules),
+    )
 
 pub split_seat-requires : goal.split_seat-requires
 split_seat-requires g c =
