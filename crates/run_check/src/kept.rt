@@ -41,8 +41,8 @@ fn are_same(one: &Write, other: &Write) -> bool
         && are_same_weights(one.weights.items(), other.weights.items())
 }
 
-// Whether two lists have the same weights. They are short, and compared item by item, which costs less than what compares
-// slices of any length.
+// Whether two lists have the same weights. They are short, and compared item by item, which costs less than what
+// compares slices of any length.
 fn are_same_weights(ones: &[Weight], others: &[Weight]) -> bool
     ensures { IsTrue result → ones.now ≡ others.now }
 {
@@ -93,7 +93,8 @@ fn append_to(
     writes: &[Write],
 ) -> Result<(), NoMemory>
     requires { origin < length written.old.items }
-    ensures ok { OnOk result (written.new.items ≡ slice_set written.old.items origin (of_origin written.old.items origin ++ writes.now)) }
+    ensures ok { OnOk result (written.new.items
+        ≡ slice_set written.old.items origin (of_origin written.old.items origin ++ writes.now)) }
     ensures err { OnErr result (written.new.items ≡ written.old.items) }
 {
     let list = &mut written[origin];
@@ -111,8 +112,10 @@ fn put_told(
     requires origin { origin < length written.old.items }
     requires first { first ≤ length (of_origin written.old.items origin) }
     ensures grown { HasGrown written.old.items written.new.items }
-    ensures within { IfOk result (λ is. IsTrue is → first + length told.now ≤ length (of_origin written.new.items origin)) }
-    ensures told { IfOk result (λ is. IsTrue is → between first (first + length told.now) (of_origin written.new.items origin) ≡ told.now) }
+    ensures within { IfOk result (λ is. IsTrue is
+        → first + length told.now ≤ length (of_origin written.new.items origin)) }
+    ensures told { IfOk result (λ is. IsTrue is
+        → between first (first + length told.now) (of_origin written.new.items origin) ≡ told.now) }
 {
     let list = written[origin].items();
     let known = told.len().min(list.len() - first);
@@ -123,7 +126,8 @@ fn put_told(
     Ok(true)
 }
 
-// The most writes of a span. So many are copied by words: a machine copies longer ones by bytes, which counts more steps.
+// The most writes of a span. So many are copied by words: a machine copies longer ones by bytes, which counts more
+// steps.
 const SPAN_MAX: usize = 16;
 
 // How many of these writes, from the first on, are consecutive ones of one origin, and at most as many as a span has.
@@ -144,8 +148,8 @@ fn count_of_one(writes: &[Write]) -> usize
     most
 }
 
-// The span of the first of these writes and those that follow on it, which its origin and index tell. There is none where
-// other writes stand there or the list of the origin ends earlier. `NoMemory` leaves the table as it was.
+// The span of the first of these writes and those that follow on it, which its origin and index tell. There is none
+// where other writes stand there or the list of the origin ends earlier. `NoMemory` leaves the table as it was.
 fn span_of(written: &mut Vec<Items<Write>>, writes: &[Write]) -> Result<Option<Span>, NoMemory>
     requires { 0 < length writes.now }
     ensures grown { HasGrown written.old.items written.new.items }
@@ -177,7 +181,8 @@ fn spans_of(
 ) -> Result<Option<Items<Span>>, NoMemory>
     ensures grown { HasGrown written.old.items written.new.items }
     ensures within { IfOk result (λ found. IfSome found (All (IsSpanIn written.new.items))) }
-    ensures ok { IfOk result (λ found. IfSome found (λ spans. flat_map (writes_of written.new.items) spans ≡ writes.now)) }
+    ensures ok { IfOk result (λ found. IfSome found
+        (λ spans. flat_map (writes_of written.new.items) spans ≡ writes.now)) }
 {
     let mut spans = Items::with_capacity(alloc, writes.len().min(written.len()))?;
     let mut rest = writes;
@@ -193,8 +198,8 @@ fn spans_of(
     Ok(Some(spans))
 }
 
-/// A message to be kept. Those of its writes that aren't in the table are put there; where one is in no span, the message
-/// stays whole. What stood in the table stays where it is, also where memory is wanting.
+/// A message to be kept. Those of its writes that aren't in the table are put there; where one is in no span, the
+/// message stays whole. What stood in the table stays where it is, also where memory is wanting.
 pub(crate) fn kept_of(
     alloc: Global,
     written: &mut Vec<Items<Write>>,
