@@ -1,35 +1,23 @@
--- Messages that are kept by the spots of their writes, in a table that grows.
-use Rattle.std.proofs.Common.{◌≡◌, ℕ, zero, suc, ◌<◌, List, [], ◌∷◌, ◌++◌, map, length, get_or, set, Option, refl, sym, ap, ap₂, ◌∙◌, subst}
-use Rattle.std.specs.Prelude.{is_some, IsSome, replicate}
-use Rattle.std.specs.List.{filter_map, cons_option, All}
+-- Messages that are kept by the spans of their writes, in a table that grows.
+use Rattle.std.proofs.Common.{◌≡◌, ℕ, zero, suc, ◌<◌, List, [], ◌∷◌, ◌++◌, map, length, get_or, set, refl, sym, ap, ap₂, ◌∙◌, subst}
+use Rattle.std.specs.Prelude.{replicate}
+use Rattle.std.specs.List.{All}
 use Rattle.std.proofs.lemmas.List.{length-map, map_push, map-set, get_or-map}
 use Rattle.std.proofs.lemmas.List.Elements.{All-head, All-tail, All-weaker, All-get_or, All-set, All-push}
 use Rattle.tact_base.specs.declared.write.Write.{Write}
 use Rattle.run_model.specs.declared.entry.Message.{Message}
-use Rattle.run_check.specs.declared.kept.Spot.{Spot}
 use Rattle.run_check.specs.declared.kept.Kept.{Kept}
-use Rattle.run_check.specs.Keeping.{write_at, whole_of, IsPlaced, HasGrown}
-use Rattle.run_check.proofs.Spots.{spot_stays}
+use Rattle.run_check.specs.Keeping.{whole_of, IsPlaced, HasGrown}
+use Rattle.run_check.proofs.Spans.{spans_stay, writes_stay}
 
 -- A table grew.
 module _ (before after : List (List Write)) (grown : HasGrown before after) where
   placed_still : (kept : Kept) → IsPlaced before kept → IsPlaced after kept
-  placed_still kept placed =
-      All-weaker (λ (spot : Spot). IsSome (write_at before spot)) (λ (spot : Spot). IsSome (write_at after spot))
-      (λ spot is. ap is_some (spot_stays before after grown spot is) ∙ is) kept.spots placed
-
-  writes_stay : (spots : List Spot)
-      → All (λ spot. IsSome (write_at before spot)) spots
-      → filter_map (write_at after) spots ≡ filter_map (write_at before) spots
-  writes_stay [] all = refl
-  writes_stay (spot ∷ spots) all =
-      ap₂ (λ (found : Option Write) (rest : List Write). cons_option found rest)
-      (spot_stays before after grown spot (All-head (λ (s : Spot). IsSome (write_at before s)) spot spots all))
-      (writes_stay spots (All-tail (λ (s : Spot). IsSome (write_at before s)) spot spots all))
+  placed_still kept placed = spans_stay before after grown kept.spans placed
 
   whole_still : (kept : Kept) → IsPlaced before kept → whole_of after kept ≡ whole_of before kept
   whole_still kept placed =
-      ap (λ (writes : List Write). record kept.message { writes = writes ++ kept.message.writes }) (writes_stay kept.spots placed)
+      ap (λ (writes : List Write). record kept.message { writes = writes ++ kept.message.writes }) (writes_stay before after grown kept.spans placed)
 
   -- of one replica
   all_placed_still : (kepts : List Kept) → All (IsPlaced before) kepts → All (IsPlaced after) kepts

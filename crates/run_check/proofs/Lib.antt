@@ -8,6 +8,6 @@ pub mod AtReplica
 pub mod Passing
 pub mod FirstsApart
 pub mod Going
-pub mod Spots
+pub mod Spans
 pub mod Keeping
 pub mod OneVerdict

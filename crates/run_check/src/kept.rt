@@ -1,29 +1,32 @@
 //! Messages that are kept without their writes: each write stands once in a table, which has a list for each
-//! origin, and a message has the spots of its writes there.
-ghost use Rattle.std.specs.Prelude.{◌≡◌, ◌<◌, [], ◌∷◌, ◌++◌, IsTrue, IfOk, OnOk, OnErr, IfSome, MatchOption, None, Some, length, map, slice_index_or, slice_set};
-ghost use Rattle.std.specs.List.{filter_map};
-ghost use Rattle.run_check.specs.Keeping.{write_at, whole_of, IsPlaced, HasGrown};
+//! origin, and a message has the spans of its writes there.
+ghost use Rattle.std.specs.Prelude.{◌≡◌, ◌<◌, ◌≤◌, ◌+◌, [], ◌∷◌, ◌++◌, IsTrue, IfOk, OnOk, OnErr, IfSome, All, length, slice_index_or, slice_set};
+ghost use Rattle.std.specs.List.{between, flat_map};
+ghost use Rattle.run_check.specs.declared.kept.TheConstants.{SPAN_MAX};
+ghost use Rattle.run_check.specs.Keeping.{of_origin, writes_of, whole_of, IsSpanIn, IsSpanOf, IsPlaced, HasGrown};
 
 use run_model::Message;
 use std::alloc::Global;
 use tact_base::{HISTORY_MAX, Items, NoMemory, SharedWrites, Weight, Write, WriteList};
 
-/// A spot of a table of writes: where one write can stand.
+/// A span of a table of writes: where consecutive writes of one origin stand.
 #[derive(Clone, Copy, Debug)]
-pub(crate) struct Spot {
+pub(crate) struct Span {
     /// The origin whose list it is in.
     pub origin: u32,
-    /// The place in this list, which is the index of the write that stands there in a run.
-    pub index: u32,
+    /// The place of its first write in this list, which is the index of this write in a run.
+    pub first: u32,
+    /// The place behind its last.
+    pub past: u32,
 }
 
 /// A message, with its writes or without.
 #[derive(Debug, Drop)]
 pub(crate) struct Kept {
-    /// The message, with those of its writes that stand at none of the spots.
+    /// The message, with those of its writes that stand in none of the spans.
     pub message: Message,
     /// Where its other writes stand, which come before those.
-    pub spots: Items<Spot>,
+    pub spans: Items<Span>,
 }
 
 // Whether two writes are the same.
@@ -38,8 +41,8 @@ fn are_same(one: &Write, other: &Write) -> bool
         && are_same_weights(one.weights.items(), other.weights.items())
 }
 
-// Whether two lists have the same weights. They are short, and compared item by item, which costs less than what compares
-// slices of any length.
+// Whether two lists have the same weights. They are short, and compared item by item, which costs less than what
+// compares slices of any length.
 fn are_same_weights(ones: &[Weight], others: &[Weight]) -> bool
     ensures { IsTrue result → ones.now ≡ others.now }
 {
@@ -48,6 +51,21 @@ fn are_same_weights(ones: &[Weight], others: &[Weight]) -> bool
     }
     for place in 0..ones.len() {
         if ones[place] != others[place] {
+            return false;
+        }
+    }
+    true
+}
+
+// Whether two lists have the same writes.
+fn are_same_writes(ones: &[Write], others: &[Write]) -> bool
+    ensures { IsTrue result → ones.now ≡ others.now }
+{
+    if ones.len() != others.len() {
+        return false;
+    }
+    for place in 0..ones.len() {
+        if !are_same(&ones[place], &others[place]) {
             return false;
         }
     }
@@ -68,82 +86,120 @@ pub(crate) fn push_last<T: Drop>(
     list.push(item)
 }
 
-// Puts a write at a spot, which is the end of its origin's list. `NoMemory` leaves the table as it was.
-fn put_at(written: &mut Vec<Items<Write>>, spot: Spot, write: Write) -> Result<(), NoMemory>
-    requires origin { spot.origin < length written.old.items }
-    requires last { spot.index ≡ length (slice_index_or written.old.items spot.origin []) }
+// Puts writes at the end of the list of their origin. `NoMemory` leaves the table as it was.
+fn append_to(
+    written: &mut Vec<Items<Write>>,
+    origin: usize,
+    writes: &[Write],
+) -> Result<(), NoMemory>
+    requires { origin < length written.old.items }
+    ensures ok { OnOk result (written.new.items
+        ≡ slice_set written.old.items origin (of_origin written.old.items origin ++ writes.now)) }
+    ensures err { OnErr result (written.new.items ≡ written.old.items) }
+{
+    let list = &mut written[origin];
+    list.append(writes)
+}
+
+// Whether the writes of an origin from a place on are those that are told. What its list has of them is compared, and
+// where that is the same, the rest is put behind it. `NoMemory` leaves the table as it was.
+fn put_told(
+    written: &mut Vec<Items<Write>>,
+    origin: usize,
+    first: usize,
+    told: &[Write],
+) -> Result<bool, NoMemory>
+    requires origin { origin < length written.old.items }
+    requires first { first ≤ length (of_origin written.old.items origin) }
     ensures grown { HasGrown written.old.items written.new.items }
-    ensures ok { OnOk result (write_at written.new.items spot ≡ Some write) }
+    ensures within { IfOk result (λ is. IsTrue is
+        → first + length told.now ≤ length (of_origin written.new.items origin)) }
+    ensures told { IfOk result (λ is. IsTrue is
+        → between first (first + length told.now) (of_origin written.new.items origin) ≡ told.now) }
 {
-    push_last(written, spot.origin as usize, write)?;
-    Ok(())
-}
-
-// The write at a spot.
-fn write_at(written: &[Items<Write>], spot: Spot) -> Option<&Write>
-    ensures { MatchOption result (write_at written.now spot ≡ None) (λ write. write_at written.now spot ≡ Some write.now) }
-{
-    match written.get(spot.origin as usize) {
-        Some(list) => list.items().get(spot.index as usize),
-        None => None,
+    let list = written[origin].items();
+    let known = told.len().min(list.len() - first);
+    if !are_same_writes(&list[first..first + known], &told[..known]) {
+        return Ok(false);
     }
+    append_to(written, origin, &told[known..])?;
+    Ok(true)
 }
 
-// Whether a write stands at a spot.
-fn is_at(written: &[Items<Write>], spot: Spot, write: &Write) -> bool
-    ensures { IsTrue result → write_at written.now spot ≡ Some write.now }
+// The most writes of a span. So many are copied by words: a machine copies longer ones by bytes, which counts more
+// steps.
+const SPAN_MAX: usize = 16;
+
+// How many of these writes, from the first on, are consecutive ones of one origin, and at most as many as a span has.
+fn count_of_one(writes: &[Write]) -> usize
+    requires { 0 < length writes.now }
+    ensures some { 0 < result }
+    ensures within { result ≤ length writes.now }
+    ensures few { result ≤ SPAN_MAX }
 {
-    match write_at(written, spot) {
-        Some(there) => are_same(there, write),
-        None => false,
+    let first = &writes[0];
+    let most = writes.len().min(SPAN_MAX);
+    for place in 1..most {
+        let write = &writes[place];
+        if write.origin != first.origin || write.index.wrapping_sub(first.index) != place as u64 {
+            return place;
+        }
     }
+    most
 }
 
-// The spot of a write, which its origin and index tell. If its origin's list ends just before, it is put there. It has
-// none where another write stands there or the list ends earlier. `NoMemory` leaves the table as it was.
-fn spot_of(written: &mut Vec<Items<Write>>, write: &Write) -> Result<Option<Spot>, NoMemory>
+// The span of the first of these writes and those that follow on it, which its origin and index tell. There is none
+// where other writes stand there or the list of the origin ends earlier. `NoMemory` leaves the table as it was.
+fn span_of(written: &mut Vec<Items<Write>>, writes: &[Write]) -> Result<Option<Span>, NoMemory>
+    requires { 0 < length writes.now }
     ensures grown { HasGrown written.old.items written.new.items }
-    ensures ok { IfOk result (λ found. IfSome found (λ spot. write_at written.new.items spot ≡ Some write.now)) }
+    ensures ok { IfOk result (λ found. IfSome found (IsSpanOf written.new.items writes.now)) }
 {
-    let origin = write.origin as usize;
-    if origin >= written.len() || write.index >= HISTORY_MAX {
+    let (origin, first) = (writes[0].origin, writes[0].index);
+    if origin as usize >= written.len() || first >= HISTORY_MAX {
         return Ok(None);
     }
-    let spot = Spot {
-        origin: write.origin,
-        index: write.index as u32,
-    };
-    if spot.index as usize == written[origin].len() {
-        put_at(written, spot, *write)?;
-        return Ok(Some(spot));
-    }
-    if !is_at(written, spot, write) {
+    if first as usize > written[origin as usize].len() {
         return Ok(None);
     }
-    Ok(Some(spot))
+    let count = count_of_one(writes);
+    if !put_told(written, origin as usize, first as usize, &writes[..count])? {
+        return Ok(None);
+    }
+    Ok(Some(Span {
+        origin,
+        first: first as u32,
+        past: first as u32 + count as u32,
+    }))
 }
 
-// The spots of writes, in order, where each gets one.
-fn spots_of(
+// The spans of writes, in order, where each write is in one.
+fn spans_of(
     alloc: Global,
     written: &mut Vec<Items<Write>>,
     writes: &[Write],
-) -> Result<Option<Items<Spot>>, NoMemory>
+) -> Result<Option<Items<Span>>, NoMemory>
     ensures grown { HasGrown written.old.items written.new.items }
-    ensures ok { IfOk result (λ found. IfSome found (λ spots. map (write_at written.new.items) spots ≡ map Some writes.now)) }
+    ensures within { IfOk result (λ found. IfSome found (All (IsSpanIn written.new.items))) }
+    ensures ok { IfOk result (λ found. IfSome found
+        (λ spans. flat_map (writes_of written.new.items) spans ≡ writes.now)) }
 {
-    let mut spots = Items::with_capacity(alloc, writes.len())?;
-    for write in writes {
-        match spot_of(written, write)? {
-            Some(spot) => spots.push(spot)?,
+    let mut spans = Items::with_capacity(alloc, writes.len().min(written.len()))?;
+    let mut rest = writes;
+    while !rest.is_empty() {
+        match span_of(written, rest)? {
+            Some(span) => {
+                spans.push(span)?;
+                rest = &rest[(span.past - span.first) as usize..];
+            }
             None => return Ok(None),
         }
     }
-    Ok(Some(spots))
+    Ok(Some(spans))
 }
 
-/// A message to be kept. Those of its writes that aren't in the table are put there; where one has no spot, the message
-/// stays whole. What stood in the table stays where it is, also where memory is wanting.
+/// A message to be kept. Those of its writes that aren't in the table are put there; where one is in no span, the
+/// message stays whole. What stood in the table stays where it is, also where memory is wanting.
 pub(crate) fn kept_of(
     alloc: Global,
     written: &mut Vec<Items<Write>>,
@@ -154,29 +210,46 @@ pub(crate) fn kept_of(
     ensures ok { IfOk result (λ kept. whole_of written.new.items kept ≡ message) }
 {
     let mut message = message;
-    let spots = match spots_of(alloc, written, message.writes.items()) {
-        Ok(Some(spots)) => spots,
+    let spans = match spans_of(alloc, written, message.writes.items()) {
+        Ok(Some(spans)) => spans,
         Ok(None) => {
             return Ok(Kept {
                 message,
-                spots: Items::new(alloc),
+                spans: Items::new(alloc),
             });
         }
         Err(fault) => return Err(fault),
     };
     message.writes = SharedWrites::new(alloc, Items::new(alloc))?;
-    Ok(Kept { message, spots })
+    Ok(Kept { message, spans })
 }
 
-// The writes at spots, in memory of `alloc`.
-fn writes_at(alloc: Global, written: &[Items<Write>], spots: &[Spot]) -> Result<WriteList, NoMemory>
-    ensures { IfOk result (λ writes. writes ≡ filter_map (write_at written.now) spots.now) }
+// The writes of a span.
+fn writes_of(written: &[Items<Write>], span: Span) -> &[Write]
+    requires { IsSpanIn written.now span }
+    ensures { result.now ≡ writes_of written.now span }
 {
-    let mut writes = Items::with_capacity(alloc, spots.len())?;
-    for spot in spots {
-        if let Some(write) = write_at(written, *spot) {
-            writes.push(*write)?;
-        }
+    let list = written[span.origin as usize].items();
+    &list[span.first as usize..span.past as usize]
+}
+
+// How many writes spans have: how much memory they want.
+fn count_of(spans: &[Span]) -> usize {
+    let mut count = 0usize;
+    for span in spans {
+        count = count.saturating_add(span.past.saturating_sub(span.first) as usize);
+    }
+    count
+}
+
+// The writes of spans, in memory of `alloc`.
+fn writes_at(alloc: Global, written: &[Items<Write>], spans: &[Span]) -> Result<WriteList, NoMemory>
+    requires { All (IsSpanIn written.now) spans.now }
+    ensures { IfOk result (λ writes. writes ≡ flat_map (writes_of written.now) spans.now) }
+{
+    let mut writes = Items::with_capacity(alloc, count_of(spans))?;
+    for span in spans {
+        writes.append(writes_of(written, *span))?;
     }
     Ok(writes)
 }
@@ -187,13 +260,14 @@ pub(crate) fn made_whole(
     written: &[Items<Write>],
     kept: &Kept,
 ) -> Result<Message, NoMemory>
+    requires { IsPlaced written.now kept.now }
     ensures { IfOk result (λ message. message ≡ whole_of written.now kept.now) }
 {
     let mut message = match kept.message.clone() {
         Ok(message) => message,
         Err(fault) => return Err(fault.into()),
     };
-    let mut writes = writes_at(alloc, written, kept.spots.items())?;
+    let mut writes = writes_at(alloc, written, kept.spans.items())?;
     writes.append(kept.message.writes.items())?;
     message.writes = SharedWrites::new(alloc, writes)?;
     Ok(message)

@@ -1,7 +1,7 @@
 use Rattle.std.proofs.Common.{◌≡◌, take}
-use Rattle.std.specs.List.{filter_map}
-use Rattle.run_check.specs.Keeping.{write_at}
+use Rattle.std.specs.List.{flat_map}
+use Rattle.run_check.specs.Keeping.{writes_of}
 use Rattle.run_check.proofs.kept.writes_at.Given as goal
 
-abbrev pub invariant-loop-spot : goal.invariant-loop-spot
-invariant-loop-spot l = l.writes ≡ filter_map (write_at l.written) (take l.spot-index l.spots)
+abbrev pub invariant-loop-span : goal.invariant-loop-span
+invariant-loop-span l = l.writes ≡ flat_map (writes_of l.written) (take l.span-index l.spans)
