@@ -2,13 +2,14 @@
 
 ghost use Rattle.std.specs.Prelude.{◌≡◌, ◌+◌, ◌<◌, ◌≤◌, ◌^◌, vec_len, length, OnOk};
 
-use crate::cases::{halves, named_op, number, signed};
 use rollback_apply::{Image, value_after};
 use std::alloc::Global;
 use std::process::Abort;
 use std::test::Fail;
 use tact_base::{Op, Weights, Write};
 use test_draws::next;
+
+const MOST: i64 = 1_000_000_000_000_000;
 
 fn put(key: u64, value: i64) -> Op {
     Op::Put { key, value }
@@ -22,46 +23,6 @@ fn shift(from: u64, to: u64, amount: u64) -> Op {
     Op::Shift { from, to, amount }
 }
 
-// Operations, and what a key holds after them: an absent key, and one that is 0; the caps, which hold for sums alone;
-// exactly the amount held, and one more; between equal keys, and more than any key holds; the key that receives stops
-// at the cap; the amount 0 acts, also on an absent key.
-const FOLDED: &str = "7 0
-7 0 put 7 0
-7 0 put 7 3; put 7 0
-8 0 put 7 3
-1 1000000000000000 put 1 1000000000000000; add 1 1
-1 -1000000000000000 put 1 -1000000000000000; add 1 -1
-1 1000000000000000 put 1 999999999999999; add 1 1
-1 9223372036854775807 put 1 9223372036854775807
-1 1000000000000000 put 1 9223372036854775807; add 1 0
-1 -9223372036854775808 put 1 -9223372036854775808
-1 -1000000000000000 put 1 -9223372036854775808; add 1 -9223372036854775808
-1 1000000000000000 add 1 9223372036854775807
-1 0 put 1 5; shift 1 2 5
-2 5 put 1 5; shift 1 2 5
-1 5 put 1 5; shift 1 2 6
-2 0 put 1 5; shift 1 2 6
-1 -1 put 1 -1; shift 1 2 0
-1 5 put 1 5; shift 1 1 5
-1 9223372036854775807 put 1 9223372036854775807; shift 1 2 18446744073709551615
-2 0 put 1 9223372036854775807; shift 1 2 18446744073709551615
-1 0 put 1 5; put 2 999999999999999; shift 1 2 5
-2 1000000000000000 put 1 5; put 2 999999999999999; shift 1 2 5
-1 0 shift 1 2 0
-2 0 shift 1 2 0
-2 1000000000000000 put 2 9223372036854775807; shift 1 2 0";
-
-// Operations apart by semicolons.
-fn ops_of(alloc: Global, text: &str) -> Result<Vec<Op>, Fail> {
-    let mut ops = Vec::new(alloc);
-    for part in text.split("; ") {
-        if let Some((name, rest)) = part.split_once(' ') {
-            ops.push(named_op(name, rest)?)?;
-        }
-    }
-    Ok(ops)
-}
-
 // The image of operations, each put in at the end.
 fn folded(alloc: Global, ops: &[Op]) -> Result<Image, Fail> {
     let mut image = Image::new(alloc);
@@ -72,21 +33,56 @@ fn folded(alloc: Global, ops: &[Op]) -> Result<Image, Fail> {
     Ok(image)
 }
 
-fn judge_fold(rt: &impl Abort, alloc: Global, case: &str) -> Result<(), Fail> {
-    let (key, rest) = halves(case, " ")?;
-    let (value, text) = rest.split_once(' ').unwrap_or((rest, ""));
-    let ops = ops_of(alloc, text)?;
-    let (key, value) = (number(key)?, signed(value)?);
-    let image = folded(alloc, &ops)?;
-    assert_eq!(rt; image.get(key), value, "{case}");
-    assert_eq!(rt; value_after(alloc, &ops, key), Ok(value));
-    Ok(())
-}
-
 #[test]
 fn folds_operations(rt: HostRuntime) -> Result<(), Fail> {
-    for case in FOLDED.lines() {
-        judge_fold(&rt, rt.alloc(), case)?;
+    for (ops, key, value) in [
+        // An absent key, and one that is 0.
+        ([].as_slice(), 7, 0),
+        ([put(7, 0)].as_slice(), 7, 0),
+        ([put(7, 3), put(7, 0)].as_slice(), 7, 0),
+        ([put(7, 3)].as_slice(), 8, 0),
+        // The caps, which hold for sums alone.
+        ([put(1, MOST), add(1, 1)].as_slice(), 1, MOST),
+        ([put(1, -MOST), add(1, -1)].as_slice(), 1, -MOST),
+        ([put(1, MOST - 1), add(1, 1)].as_slice(), 1, MOST),
+        ([put(1, i64::MAX)].as_slice(), 1, i64::MAX),
+        ([put(1, i64::MAX), add(1, 0)].as_slice(), 1, MOST),
+        ([put(1, i64::MIN)].as_slice(), 1, i64::MIN),
+        ([put(1, i64::MIN), add(1, i64::MIN)].as_slice(), 1, -MOST),
+        ([add(1, i64::MAX)].as_slice(), 1, MOST),
+        // Exactly the amount held, and one more.
+        ([put(1, 5), shift(1, 2, 5)].as_slice(), 1, 0),
+        ([put(1, 5), shift(1, 2, 5)].as_slice(), 2, 5),
+        ([put(1, 5), shift(1, 2, 6)].as_slice(), 1, 5),
+        ([put(1, 5), shift(1, 2, 6)].as_slice(), 2, 0),
+        ([put(1, -1), shift(1, 2, 0)].as_slice(), 1, -1),
+        // Between equal keys, and more than any key holds.
+        ([put(1, 5), shift(1, 1, 5)].as_slice(), 1, 5),
+        (
+            [put(1, i64::MAX), shift(1, 2, u64::MAX)].as_slice(),
+            1,
+            i64::MAX,
+        ),
+        ([put(1, i64::MAX), shift(1, 2, u64::MAX)].as_slice(), 2, 0),
+        // The key that receives stops at the cap.
+        (
+            [put(1, 5), put(2, MOST - 1), shift(1, 2, 5)].as_slice(),
+            1,
+            0,
+        ),
+        (
+            [put(1, 5), put(2, MOST - 1), shift(1, 2, 5)].as_slice(),
+            2,
+            MOST,
+        ),
+        // The amount 0 acts, also on an absent key.
+        ([shift(1, 2, 0)].as_slice(), 1, 0),
+        ([shift(1, 2, 0)].as_slice(), 2, 0),
+        ([put(2, i64::MAX), shift(1, 2, 0)].as_slice(), 2, MOST),
+    ] {
+        let image = folded(rt.alloc(), ops)?;
+        assert_eq!(rt; image.get(key), value, "{key} after {ops:?}");
+        assert_eq!(rt; value_after(rt.alloc(), ops, key), Ok(value));
     }
     Ok(())
 }

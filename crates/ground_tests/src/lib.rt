@@ -5,8 +5,6 @@
 #[cfg(test)]
 mod budgets;
 #[cfg(test)]
-mod cases;
-#[cfg(test)]
 mod drawn_budgets;
 #[cfg(test)]
 mod images;

@@ -1,13 +1,11 @@
-//! Inboxes behind a link that loses, doubles and turns round by a plan.
+//! Links that lose, repeat and reorder: the fate of each item, and what comes out.
 
 ghost use Rattle.std.specs.Prelude.{◌≡◌, ℕ, ⊤};
 
-use crate::cases::{assert_shown, halves, number, numbers};
 use link_faults::{
     Counts, Fate, INBOX_MAX, Inbox, LinkPlan, Twin, counts_add_up, first_in_first_out,
 };
 use std::alloc::Global;
-use std::process::Abort;
 use std::test::Fail;
 use tact_base::NoMemory;
 
@@ -76,63 +74,34 @@ fn taken(alloc: Global, inbox: &mut Inbox<Parcel>) -> Result<Vec<u64>, Fail> {
     Ok(numbers)
 }
 
-// The plan of a text: which items are lost, doubled and turned.
-fn plan_of(alloc: Global, text: &str) -> Result<LinkPlan, Fail> {
-    let numbers = numbers(alloc, text)?;
-    match numbers.items() {
-        [lose, double, turn] => Ok(plan(*lose, *double, *turn)),
-        _ => Err(Fail::from("not a plan")),
-    }
-}
-
-// The counts of a text: puts, copies, items lost, and items that wait. None are taken yet.
-fn counts_of(alloc: Global, text: &str) -> Result<Counts, Fail> {
-    let numbers = numbers(alloc, text)?;
-    match numbers.items() {
-        [puts, copies, lost, waiting] => Ok(counts(*puts, *copies, 0, *lost, *waiting)),
-        _ => Err(Fail::from("not counts")),
-    }
-}
-
-// A plan, the counts when so many items were put in, and the items that come out.
-const OUTCOMES: &str = "5 7 0; 7 1 1 7: 1 2 3 4 6 7 7
-0 0 2; 4 0 0 4: 4 2 1 3
-0 0 0; 4 0 0 4: 1 2 3 4
-1 0 0; 3 0 3 0: 
-0 1 0; 3 3 0 6: 1 1 2 2 3 3
-0 3 3; 3 1 0 4: 3 3 1 2
-0 0 1; 3 0 0 3: 3 2 1
-2 2 2; 4 0 2 2: 1 3";
-
-fn judge_outcome(rt: &impl Abort, alloc: Global, case: &str) -> Result<(), Fail> {
-    let (plan, rest) = halves(case, "; ")?;
-    let (total, order) = halves(rest, ": ")?;
-    let total = counts_of(alloc, total)?;
-    let mut inbox = filled(alloc, plan_of(alloc, plan)?, total.puts)?;
-    assert_eq!(rt; inbox.counts(), total, "{case}");
-    let numbers = taken(alloc, &mut inbox)?;
-    assert_order(rt, alloc, &numbers, order)?;
-    assert_emptied(rt, &mut inbox, &total);
-    Ok(())
-}
-
-fn assert_order(rt: &impl Abort, alloc: Global, found: &[u64], order: &str) -> Result<(), Fail> {
-    assert_eq!(rt; found, numbers(alloc, order)?.items());
-    Ok(())
-}
-
-// All that waited was taken, and nothing more comes out.
-fn assert_emptied(rt: &impl Abort, inbox: &mut Inbox<Parcel>, total: &Counts) {
-    let after = counts(total.puts, total.copies, total.waiting, total.lost, 0);
-    assert_eq!(rt; inbox.counts(), after);
-    assert!(rt; inbox.next().is_none());
-    assert_eq!(rt; inbox.counts(), after);
-}
-
 #[test]
 fn loses_doubles_and_turns(rt: HostRuntime) -> Result<(), Fail> {
-    for case in OUTCOMES.lines() {
-        judge_outcome(&rt, rt.alloc(), case)?;
+    for (plan, total, order) in [
+        (
+            plan(5, 7, 0),
+            counts(7, 1, 0, 1, 7),
+            &[1, 2, 3, 4, 6, 7, 7][..],
+        ),
+        (plan(0, 0, 2), counts(4, 0, 0, 0, 4), &[4, 2, 1, 3][..]),
+        (plan(0, 0, 0), counts(4, 0, 0, 0, 4), &[1, 2, 3, 4][..]),
+        (plan(1, 0, 0), counts(3, 0, 0, 3, 0), &[][..]),
+        (
+            plan(0, 1, 0),
+            counts(3, 3, 0, 0, 6),
+            &[1, 1, 2, 2, 3, 3][..],
+        ),
+        (plan(0, 3, 3), counts(3, 1, 0, 0, 4), &[3, 3, 1, 2][..]),
+        (plan(0, 0, 1), counts(3, 0, 0, 0, 3), &[3, 2, 1][..]),
+        (plan(2, 2, 2), counts(4, 0, 0, 2, 2), &[1, 3][..]),
+    ] {
+        let mut inbox = filled(rt.alloc(), plan, total.puts)?;
+        assert_eq!(rt; inbox.counts(), total, "{plan:?}");
+        let numbers = taken(rt.alloc(), &mut inbox)?;
+        assert_eq!(rt; numbers.as_slice(), order, "{plan:?}");
+        let after = counts(total.puts, total.copies, total.waiting, total.lost, 0);
+        assert_eq!(rt; inbox.counts(), after, "{plan:?}");
+        assert!(rt; inbox.next().is_none());
+        assert_eq!(rt; inbox.counts(), after, "{plan:?}");
     }
     Ok(())
 }
@@ -154,30 +123,26 @@ fn answers_each_fate(rt: HostRuntime) -> Result<(), Fail> {
     Ok(())
 }
 
-// A plan, after how many puts the next comes, how many items wait then, and its fate.
-const FULL: &str = "0 0 0; 1023; 1024: Queued
-0 0 0; 1024; 1024: LostFull
-0 1024 0; 1023; 1024: Queued
-0 1023 0; 1022; 1024: Doubled
-0 1025 0; 1024; 1024: LostFull
-1025 0 0; 1024; 1024: Lost
-1023 1023 0; 1022; 1022: Lost
-1025 1025 1025; 1024; 1024: Lost";
-
-fn judge_full(rt: &impl Abort, alloc: Global, case: &str) -> Result<(), Fail> {
-    let (plan, rest) = halves(case, "; ")?;
-    let (before, rest) = halves(rest, "; ")?;
-    let (waiting, due) = halves(rest, ": ")?;
-    let mut inbox = filled(alloc, plan_of(alloc, plan)?, number(before)?)?;
-    let fate = inbox.put(&true, parcel_of(0))?;
-    assert_eq!(rt; inbox.counts().waiting, number(waiting)?, "{case}");
-    assert_shown(rt, alloc, &fate, due, case)
-}
-
+// The fate of the put that comes after so many, and how many items wait then.
 #[test]
 fn holds_no_more_than_1024(rt: HostRuntime) -> Result<(), Fail> {
-    for case in FULL.lines() {
-        judge_full(&rt, rt.alloc(), case)?;
+    for (plan, before, fate, waiting) in [
+        (plan(0, 0, 0), 1_023, Fate::Queued, 1_024),
+        (plan(0, 0, 0), 1_024, Fate::LostFull, 1_024),
+        (plan(0, 1_024, 0), 1_023, Fate::Queued, 1_024),
+        (plan(0, 1_023, 0), 1_022, Fate::Doubled, 1_024),
+        (plan(0, 1_025, 0), 1_024, Fate::LostFull, 1_024),
+        (plan(1_025, 0, 0), 1_024, Fate::Lost, 1_024),
+        (plan(1_023, 1_023, 0), 1_022, Fate::Lost, 1_022),
+        (plan(1_025, 1_025, 1_025), 1_024, Fate::Lost, 1_024),
+    ] {
+        let mut inbox = filled(rt.alloc(), plan, before)?;
+        assert_eq!(rt;
+            inbox.put(&true, parcel_of(0))?,
+            fate,
+            "{plan:?} after {before}"
+        );
+        assert_eq!(rt; inbox.counts().waiting, waiting, "{plan:?} after {before}");
     }
     Ok(())
 }

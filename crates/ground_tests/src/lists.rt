@@ -1,13 +1,11 @@
 //! Lists, weights and needs.
 
-use crate::cases::{assert_shown, halves, narrow, numbers, signed_numbers};
-use std::alloc::Global;
 use std::fmt::Debug;
 use std::process::Abort;
 use std::test::Fail;
 use tact_base::{
-    ConitList, Cover, Items, ListFault, Need, Needs, Numbers, OnConit, Op, Place, Row, Weight,
-    Weights, Write, WriteList, first_index,
+    ConitList, Cover, ListFault, Need, Needs, Numbers, OnConit, Op, Place, Row, Weight, Weights,
+    Write, WriteList, first_index,
 };
 
 fn weight(conit: u32, nweight: i64, oweight: u64) -> Weight {
@@ -18,99 +16,106 @@ fn weight(conit: u32, nweight: i64, oweight: u64) -> Weight {
     }
 }
 
-// Weights, by conit, nweight and oweight, and why they are refused.
-const WEIGHTS: &str = ": none
-9 1000000 1000000: none
-0 0 0 2 -1000000 0 4 1 1 9 1000000 1000000: none
-9 1000000 1000000 9 1000000 1000000 9 1000000 1000000 9 1000000 1000000 3 1000001 0: TooMany
-9 1000000 1000000 9 1000000 1000000: Unordered { place: 1 }
-3 1000001 0 9 1000000 1000000 2 -1000000 0: Unordered { place: 2 }
-1 0 0 2 -1000000 0 0 0 0 2 -1000000 0: Unordered { place: 2 }
-2 -1000000 0 3 1000001 0 4 -9223372036854775808 0: Range { place: 1 }
-0 -1000001 0: Range { place: 0 }
-0 -9223372036854775808 0: Range { place: 0 }
-0 9223372036854775807 0: Range { place: 0 }
-2 -1000000 0 3 0 1000001: Range { place: 1 }";
-
-// Weights by their numbers.
-fn weights(alloc: Global, numbers: &Items<i64>) -> Result<Items<Weight>, Fail> {
-    let mut weights = Items::new(alloc);
-    for three in numbers.items().chunks_exact(3) {
-        if let [conit, nweight, oweight] = three {
-            weights.push(weight(
-                narrow(conit.unsigned_abs())?,
-                *nweight,
-                oweight.unsigned_abs(),
-            ))?;
-        }
+#[test]
+fn refuses_weights(rt: HostRuntime) {
+    let good = weight(9, 1_000_000, 1_000_000);
+    let least = weight(2, -1_000_000, 0);
+    let over = weight(3, 1_000_001, 0);
+    let cases: [(&[Weight], Option<ListFault>); 12] = [
+        (&[], None),
+        (&[good], None),
+        (&[weight(0, 0, 0), least, weight(4, 1, 1), good], None),
+        (&[good, good, good, good, over], Some(ListFault::TooMany)),
+        (&[good, good], Some(ListFault::Unordered { place: 1 })),
+        (
+            &[over, good, least],
+            Some(ListFault::Unordered { place: 2 }),
+        ),
+        (
+            &[weight(1, 0, 0), least, weight(0, 0, 0), least],
+            Some(ListFault::Unordered { place: 2 }),
+        ),
+        (
+            &[least, over, weight(4, i64::MIN, 0)],
+            Some(ListFault::Range { place: 1 }),
+        ),
+        (
+            &[weight(0, -1_000_001, 0)],
+            Some(ListFault::Range { place: 0 }),
+        ),
+        (
+            &[weight(0, i64::MIN, 0)],
+            Some(ListFault::Range { place: 0 }),
+        ),
+        (
+            &[weight(0, i64::MAX, 0)],
+            Some(ListFault::Range { place: 0 }),
+        ),
+        (
+            &[least, weight(3, 0, 1_000_001)],
+            Some(ListFault::Range { place: 1 }),
+        ),
+    ];
+    for (items, want) in cases {
+        assert_made(&rt, Weights::new(items), items, want);
     }
-    Ok(weights)
+}
+
+fn need(conit: u32, num: u64, order: u64, stale: u64) -> Need {
+    Need {
+        conit,
+        num,
+        order,
+        stale,
+    }
 }
 
 #[test]
-fn refuses_weights(rt: HostRuntime) -> Result<(), Fail> {
-    let alloc = rt.alloc();
-    for case in WEIGHTS.lines() {
-        let (given, due) = halves(case, ": ")?;
-        let items = weights(alloc, &signed_numbers(alloc, given)?)?;
-        assert_made(&rt, alloc, Weights::new(items.items()), items.items(), due)?;
+fn refuses_needs(rt: HostRuntime) {
+    let most = 1_000_000_000_000;
+    let good = need(5, most, most, 1_152_921_504_606_846_976);
+    let late = need(6, 0, 0, 1_152_921_504_606_846_977);
+    let cases: [(&[Need], Option<ListFault>); 9] = [
+        (&[], None),
+        (
+            &[need(0, 0, 0, 0), need(1, 1, 1, 1), need(2, 0, 0, 0), good],
+            None,
+        ),
+        (&[late, good, good, good, good], Some(ListFault::TooMany)),
+        (&[good, good], Some(ListFault::Unordered { place: 1 })),
+        (&[late, good], Some(ListFault::Unordered { place: 1 })),
+        (&[good, late], Some(ListFault::Range { place: 1 })),
+        (
+            &[need(0, most + 1, 0, 0)],
+            Some(ListFault::Range { place: 0 }),
+        ),
+        (
+            &[need(0, 0, most + 1, 0)],
+            Some(ListFault::Range { place: 0 }),
+        ),
+        (
+            &[need(0, 0, 0, u64::MAX)],
+            Some(ListFault::Range { place: 0 }),
+        ),
+    ];
+    for (items, want) in cases {
+        assert_made(&rt, Needs::new(items), items, want);
     }
-    Ok(())
-}
-
-// Needs, by conit, num, order and stale, and why they are refused.
-const NEEDS: &str = ": none
-0 0 0 0 1 1 1 1 2 0 0 0 5 1000000000000 1000000000000 1152921504606846976: none
-6 0 0 1152921504606846977 5 1000000000000 1000000000000 1152921504606846976 5 1000000000000 1000000000000 1152921504606846976 5 1000000000000 1000000000000 1152921504606846976 5 1000000000000 1000000000000 1152921504606846976: TooMany
-5 1000000000000 1000000000000 1152921504606846976 5 1000000000000 1000000000000 1152921504606846976: Unordered { place: 1 }
-6 0 0 1152921504606846977 5 1000000000000 1000000000000 1152921504606846976: Unordered { place: 1 }
-5 1000000000000 1000000000000 1152921504606846976 6 0 0 1152921504606846977: Range { place: 1 }
-0 1000000000001 0 0: Range { place: 0 }
-0 0 1000000000001 0: Range { place: 0 }
-0 0 0 18446744073709551615: Range { place: 0 }";
-
-// Needs by their numbers.
-fn needs(alloc: Global, numbers: &Numbers) -> Result<Items<Need>, Fail> {
-    let mut needs = Items::new(alloc);
-    for four in numbers.items().chunks_exact(4) {
-        if let [conit, num, order, stale] = four {
-            needs.push(Need {
-                conit: narrow(*conit)?,
-                num: *num,
-                order: *order,
-                stale: *stale,
-            })?;
-        }
-    }
-    Ok(needs)
-}
-
-#[test]
-fn refuses_needs(rt: HostRuntime) -> Result<(), Fail> {
-    let alloc = rt.alloc();
-    for case in NEEDS.lines() {
-        let (given, due) = halves(case, ": ")?;
-        let items = needs(alloc, &numbers(alloc, given)?)?;
-        assert_made(&rt, alloc, Needs::new(items.items()), items.items(), due)?;
-    }
-    Ok(())
 }
 
 // A list was made of these items, or refused for the wanted fault.
 fn assert_made<T: OnConit + PartialEq + Debug>(
     rt: &impl Abort,
-    alloc: Global,
     made: Result<ConitList<T>, ListFault>,
     items: &[T],
-    due: &str,
-) -> Result<(), Fail> {
+    want: Option<ListFault>,
+) {
     match made {
         Ok(list) => {
-            assert_eq!(rt; "none", due);
+            assert_eq!(rt; None, want);
             assert_eq!(rt; list.items(), items);
-            Ok(())
         }
-        Err(fault) => assert_shown(rt, alloc, &fault, due, due),
+        Err(fault) => assert_eq!(rt; Some(fault), want),
     }
 }
 

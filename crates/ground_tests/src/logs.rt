@@ -1,4 +1,4 @@
-//! Logs of writes by origin, of which the first are given up.
+//! Logs by origin: what they take of what is told, and what they lend once the first are given up.
 
 use std::test::Fail;
 use tact_base::{Op, Weights, Write};

@@ -1,12 +1,19 @@
-//! Messages in range of a setup, and each way in which one isn't. The cases are text: each says how a message differs
-//! from one that is in range.
+//! Messages in range of a setup, and each way in which one isn't.
 
-use crate::cases::{halves, named_op, narrow, number, numbers, small};
 use run_model::{Config, Message, is_message_in_range};
 use std::alloc::Global;
-use std::process::Abort;
 use std::test::Fail;
-use tact_base::{Cover, Covers, Numbers, Op, SharedWrites, Weight, Weights, Write, WriteList};
+use tact_base::{
+    Cover, Covers, Items, Numbers, Op, SharedWrites, Weight, Weights, Write, WriteList,
+};
+
+const ADD: Op = Op::Add { key: 7, delta: 1 };
+
+const COVER: Cover = Cover {
+    count: 1,
+    stamp: 12,
+    moment: 30,
+};
 
 // A told write with one weight.
 #[derive(Clone, Copy)]
@@ -18,8 +25,6 @@ struct Told {
     conit: u32,
     op: Op,
 }
-
-const ADD: Op = Op::Add { key: 7, delta: 1 };
 
 const FIRST: Told = Told {
     origin: 0,
@@ -48,136 +53,18 @@ const THIRD: Told = Told {
     op: ADD,
 };
 
-const COVER: Cover = Cover {
-    count: 1,
-    stamp: 12,
-    moment: 30,
-};
-
-// A message, and what its writes are made of.
-#[derive(Drop)]
-struct Made {
-    message: Message,
-    told: Vec<Told>,
-}
-
-// Replica 0 of 3 replicas and 2 conits tells replica 1 two of its own writes and one of replica 2.
-fn good(alloc: Global) -> Result<Box<Made>, Fail> {
-    let message = Message {
-        from: 0,
-        to: 1,
-        number: 3,
-        haves: Numbers::from_slice(alloc, &[6, 2, 1])?,
-        covers: Covers::filled(alloc, COVER, 3)?,
-        firsts: Numbers::from_slice(alloc, &[4, 2, 0])?,
-        writes: SharedWrites::new(alloc, WriteList::new(alloc))?,
-        lent: Numbers::from_slice(alloc, &[5, 0])?,
-        returned: Numbers::from_slice(alloc, &[0, 2])?,
-    };
-    let told = Vec::from_array(alloc, [FIRST, SECOND, THIRD])?;
-    Ok(Box::new(alloc, Made { message, told })?)
-}
-
-// Changes it as a text says: a list of changes apart by semicolons.
-fn change_all(alloc: Global, made: &mut Made, mut text: &str) -> Result<(), Fail> {
-    for _ in 0..text.len() {
-        let Some((first, rest)) = text.split_once("; ") else {
-            break;
-        };
-        change(alloc, made, first)?;
-        text = rest;
-    }
-    change(alloc, made, text)
-}
-
-// Makes one change: the name of a part, and what it is then.
-fn change(alloc: Global, made: &mut Made, text: &str) -> Result<(), Fail> {
-    let (part, value) = halves(text, " ")?;
-    if change_ends(&mut made.message, part, value)?
-        || change_list(alloc, &mut made.message, part, value)?
-    {
-        return Ok(());
-    }
-    if part == "writes" {
-        return tell(&mut made.told, &numbers(alloc, value)?);
-    }
-    let first = made.told.first_mut().ok_or("no write")?;
-    change_write(first, part, value)
-}
-
-// Whether the part is an end or the number of a message, which is then this.
-fn change_ends(message: &mut Message, part: &str, value: &str) -> Result<bool, Fail> {
-    match part {
-        "from" => message.from = small(value)?,
-        "to" => message.to = small(value)?,
-        "number" => message.number = number(value)?,
-        _ => return Ok(false),
-    }
-    Ok(true)
-}
-
-// Whether the part is a list of a message, which is then this.
-fn change_list(
-    alloc: Global,
-    message: &mut Message,
-    part: &str,
-    value: &str,
-) -> Result<bool, Fail> {
-    match part {
-        "haves" => message.haves = numbers(alloc, value)?,
-        "covers" => message.covers = covers(alloc, &numbers(alloc, value)?)?,
-        "firsts" => message.firsts = numbers(alloc, value)?,
-        "lent" => message.lent = numbers(alloc, value)?,
-        "returned" => message.returned = numbers(alloc, value)?,
-        _ => return Ok(false),
-    }
-    Ok(true)
-}
-
-// Covers by their counts, stamps and moments.
-fn covers(alloc: Global, numbers: &Numbers) -> Result<Covers, Fail> {
-    let mut covers = Covers::new(alloc);
-    for three in numbers.items().chunks_exact(3) {
-        if let [count, stamp, moment] = three {
-            covers.push(Cover {
-                count: *count,
-                stamp: *stamp,
-                moment: *moment,
-            })?;
-        }
-    }
-    Ok(covers)
-}
-
-// The writes are these, by their origins and indices.
-fn tell(told: &mut Vec<Told>, numbers: &Numbers) -> Result<(), Fail> {
-    told.clear();
-    for two in numbers.items().chunks_exact(2) {
-        let like = match told.len() {
-            0 => FIRST,
-            1 => SECOND,
-            _ => THIRD,
-        };
-        if let [origin, index] = two {
-            told.push(Told {
-                origin: narrow(*origin)?,
-                index: *index,
-                ..like
-            })?;
-        }
-    }
-    Ok(())
-}
-
-// A part of a write is then this.
-fn change_write(told: &mut Told, part: &str, value: &str) -> Result<(), Fail> {
-    match part {
-        "stamp" => told.stamp = number(value)?,
-        "moment" => told.moment = number(value)?,
-        "conit" => told.conit = small(value)?,
-        _ => told.op = named_op(part, value)?,
-    }
-    Ok(())
+// What a message is made of.
+#[derive(Clone, Copy)]
+struct Parts<'a> {
+    from: u32,
+    to: u32,
+    number: u64,
+    haves: &'a [u64],
+    covers: &'a [Cover],
+    firsts: &'a [u64],
+    writes: &'a [Told],
+    lent: &'a [u64],
+    returned: &'a [u64],
 }
 
 fn write_of(told: &Told) -> Result<Write, Fail> {
@@ -196,130 +83,293 @@ fn write_of(told: &Told) -> Result<Write, Fail> {
     })
 }
 
-// Whether the message with these writes is in range of 3 replicas and 2 conits.
-fn is_good(alloc: Global, made: &mut Made) -> Result<bool, Fail> {
+fn message_of(alloc: Global, parts: &Parts) -> Result<Message, Fail> {
     let mut writes = WriteList::new(alloc);
-    for told in &made.told {
+    for told in parts.writes {
         writes.push(write_of(told)?)?;
     }
-    made.message.writes = SharedWrites::new(alloc, writes)?;
-    let config = Config::new(alloc, 3, 2, &[9; 6], &[0; 18])?;
-    Ok(is_message_in_range(&config, &made.message))
+    Ok(Message {
+        from: parts.from,
+        to: parts.to,
+        number: parts.number,
+        haves: Numbers::from_slice(alloc, parts.haves)?,
+        covers: Covers::from_slice(alloc, parts.covers)?,
+        firsts: Numbers::from_slice(alloc, parts.firsts)?,
+        writes: SharedWrites::new(alloc, writes)?,
+        lent: Numbers::from_slice(alloc, parts.lent)?,
+        returned: Numbers::from_slice(alloc, parts.returned)?,
+    })
 }
 
-// A case: whether a message is in range, and in what it differs from the good one.
-fn judge(rt: &impl Abort, alloc: Global, case: &str) -> Result<(), Fail> {
-    let (due, changes) = halves(case, ": ")?;
-    let mut made = good(alloc)?;
-    change_all(alloc, &mut made, changes)?;
-    let found = if is_good(alloc, &mut made)? {
-        "good"
-    } else {
-        "bad"
-    };
-    assert_eq!(rt; found, due, "{case}");
-    Ok(())
+// Replica 0 of 3 replicas and 2 conits tells replica 1 two of its own writes and one of replica 2.
+const GOOD: Parts<'static> = Parts {
+    from: 0,
+    to: 1,
+    number: 3,
+    haves: &[6, 2, 1],
+    covers: &[COVER, COVER, COVER],
+    firsts: &[4, 2, 0],
+    writes: &[FIRST, SECOND, THIRD],
+    lent: &[5, 0],
+    returned: &[0, 2],
+};
+
+fn of_number(number: u64) -> Parts<'static> {
+    Parts { number, ..GOOD }
 }
 
-// Cases, a line each.
-fn judge_all(rt: &impl Abort, alloc: Global, cases: &str) -> Result<(), Fail> {
-    for case in cases.lines() {
-        judge(rt, alloc, case)?;
+fn of_haves(haves: &[u64]) -> Parts<'_> {
+    Parts { haves, ..GOOD }
+}
+
+fn of_covers(covers: &[Cover]) -> Parts<'_> {
+    Parts { covers, ..GOOD }
+}
+
+fn of_firsts(firsts: &[u64]) -> Parts<'_> {
+    Parts { firsts, ..GOOD }
+}
+
+fn of_lent(lent: &[u64]) -> Parts<'_> {
+    Parts { lent, ..GOOD }
+}
+
+fn of_returned(returned: &[u64]) -> Parts<'_> {
+    Parts { returned, ..GOOD }
+}
+
+// The message with these writes, of a sender that has more of replicas 0 and 2.
+fn of_writes(writes: &[Told]) -> Parts<'_> {
+    Parts {
+        writes,
+        haves: &[9, 2, 9],
+        ..GOOD
     }
-    Ok(())
 }
 
-// As it is; the last sender, and a sender and a receiver past the count; to itself; the last number, and one too many;
-// lists that are too short or too long; the most that is lent, and too much lent and returned.
-const ENDS_AND_LISTS: &str = "good: number 3
-good: from 2
-bad: from 3
-bad: to 3
-bad: from 1
-good: number 19999
-bad: number 20000
-bad: haves 6 2
-bad: haves 6 2 1 0
-bad: covers 1 12 30 1 12 30
-bad: firsts 4 2
-bad: lent 5
-good: lent 5 100000000000000000
-bad: lent 5 100000000000000001
-bad: returned 0 0 2
-bad: returned 100000000000000001 0";
+fn indexed(index: u64, told: Told) -> Told {
+    Told { index, ..told }
+}
 
-// The most writes, and too many; more told than had; a first within, past all, and past the told.
-const OF_ORIGINS: &str = "good: haves 6 20000 1
-bad: haves 6 20001 1
-bad: haves 5 2 1
-good: firsts 4 1 0
-bad: firsts 4 3 0
-bad: firsts 4 2 1";
+fn of_origin(origin: u32, told: Told) -> Told {
+    Told { origin, ..told }
+}
 
-// The second cover vouches for as much as it can, and for one write, stamp or moment more.
-const COVERS: &str = "good: covers 1 12 30 2 1099511627776 1152921504606846976 1 12 30
-bad: covers 1 12 30 3 1099511627776 1152921504606846976 1 12 30
-bad: covers 1 12 30 2 1099511627777 1152921504606846976 1 12 30
-bad: covers 1 12 30 2 1099511627776 1152921504606846977 1 12 30";
+fn stamped(stamp: u64) -> Told {
+    Told { stamp, ..FIRST }
+}
 
-// Of a sender that has more of replicas 0 and 2, writes by origin and index: in order; an index skipped, told twice,
-// before the first, and of another origin; origins that fall, an origin that is parted, and one past the count; none.
-const ORDERS: &str = "good: haves 9 2 9; writes 0 4 0 5 2 0
-bad: haves 9 2 9; writes 0 4 0 6 2 0
-bad: haves 9 2 9; writes 0 4 0 4 2 0
-bad: haves 9 2 9; writes 0 3 0 4 2 0
-bad: haves 9 2 9; writes 0 4 0 5 2 6
-bad: haves 9 2 9; writes 2 0 0 4 0 5
-bad: haves 9 2 9; writes 0 4 2 0 0 5
-bad: haves 9 2 9; writes 0 4 0 5 3 0
-good: haves 9 2 9; writes ";
+fn accepted_at(moment: u64) -> Told {
+    Told { moment, ..FIRST }
+}
 
-// A write of replica 1, told to it and to replica 2.
-const OWN: &str = "bad: to 1; haves 9 2 9; firsts 4 1 0; writes 0 4 0 5 1 1
-good: to 2; haves 9 2 9; firsts 4 1 0; writes 0 4 0 5 1 1";
+fn put(key: u64, value: i64) -> Told {
+    let op = Op::Put { key, value };
+    Told { op, ..FIRST }
+}
 
-// Of the first write: the first stamp, none, the last, and one too late; the last moment, and one too late; a conit past
-// the count; the last key, and one too great, of each operation; the most that is added, put or shifted, and too much.
-const WRITES: &str = "good: haves 9 2 9; stamp 1
-bad: haves 9 2 9; stamp 0
-good: haves 9 2 9; stamp 1099511627776
-bad: haves 9 2 9; stamp 1099511627777
-good: haves 9 2 9; moment 1152921504606846976
-bad: haves 9 2 9; moment 1152921504606846977
-bad: haves 9 2 9; conit 2
-good: haves 9 2 9; add 1000000000 1
-bad: haves 9 2 9; add 1000000001 1
-bad: haves 9 2 9; add 1 1000000000000001
-bad: haves 9 2 9; put 1000000001 1
-good: haves 9 2 9; put 1 -1000000000000000
-bad: haves 9 2 9; put 1 -1000000000000001
-bad: haves 9 2 9; shift 1000000001 1 1
-bad: haves 9 2 9; shift 1 1000000001 1
-good: haves 9 2 9; shift 1 2 1000000000000000
-bad: haves 9 2 9; shift 1 2 1000000000000001";
+fn add(key: u64, delta: i64) -> Told {
+    let op = Op::Add { key, delta };
+    Told { op, ..FIRST }
+}
+
+fn shift(from: u64, to: u64, amount: u64) -> Told {
+    let op = Op::Shift { from, to, amount };
+    Told { op, ..FIRST }
+}
+
+// Whether the message is in range of 3 replicas and 2 conits.
+fn is_good(alloc: Global, parts: &Parts) -> Result<bool, Fail> {
+    let config = Config::new(alloc, 3, 2, &[9; 6], &[0; 18])?;
+    Ok(is_message_in_range(&config, &message_of(alloc, parts)?))
+}
 
 #[test]
-fn knows_what_is_in_range(rt: HostRuntime) -> Result<(), Fail> {
-    for cases in [ENDS_AND_LISTS, OF_ORIGINS, COVERS, ORDERS, OWN, WRITES] {
-        judge_all(&rt, rt.alloc(), cases)?;
+fn knows_the_ends_and_the_lists(rt: HostRuntime) -> Result<(), Fail> {
+    let cases = [
+        (GOOD, true, "in range"),
+        (Parts { from: 2, ..GOOD }, true, "the last sender"),
+        (Parts { from: 3, ..GOOD }, false, "a sender past the count"),
+        (Parts { to: 3, ..GOOD }, false, "a receiver past the count"),
+        (Parts { from: 1, ..GOOD }, false, "to itself"),
+        (of_number(19_999), true, "the last number"),
+        (of_number(20_000), false, "a number too many"),
+        (of_haves(&[6, 2]), false, "haves too short"),
+        (of_haves(&[6, 2, 1, 0]), false, "haves too long"),
+        (of_covers(&[COVER; 2]), false, "covers too short"),
+        (of_firsts(&[4, 2]), false, "firsts too short"),
+        (of_lent(&[5]), false, "lent too short"),
+        (
+            of_lent(&[5, 100_000_000_000_000_000]),
+            true,
+            "the most lent",
+        ),
+        (
+            of_lent(&[5, 100_000_000_000_000_001]),
+            false,
+            "too much lent",
+        ),
+        (of_returned(&[0, 0, 2]), false, "returned too long"),
+        (
+            of_returned(&[100_000_000_000_000_001, 0]),
+            false,
+            "too much returned",
+        ),
+    ];
+    for (parts, due, text) in cases {
+        assert_eq!(rt; is_good(rt.alloc(), &parts)?, due, "{text}");
     }
     Ok(())
 }
 
-// The good message with so many writes of replica 0 in place of its own, from the first on.
-fn tells_many(alloc: Global, count: u64) -> Result<bool, Fail> {
-    let mut made = good(alloc)?;
-    change_all(alloc, &mut made, "haves 65 2 1; firsts 0 2 0; writes ")?;
-    for index in 0..count {
-        made.told.push(Told { index, ..FIRST })?;
+#[test]
+fn knows_what_is_told_of_an_origin(rt: HostRuntime) -> Result<(), Fail> {
+    let cases = [
+        (of_haves(&[6, 20_000, 1]), true, "the most writes"),
+        (of_haves(&[6, 20_001, 1]), false, "too many writes"),
+        (of_haves(&[5, 2, 1]), false, "more told than had"),
+        (of_firsts(&[4, 1, 0]), true, "a first within"),
+        (of_firsts(&[4, 3, 0]), false, "a first past all"),
+        (of_firsts(&[4, 2, 1]), false, "a first past the told"),
+    ];
+    for (parts, due, text) in cases {
+        assert_eq!(rt; is_good(rt.alloc(), &parts)?, due, "{text}");
     }
-    is_good(alloc, &mut made)
+    Ok(())
+}
+
+#[test]
+fn knows_what_a_cover_vouches_for(rt: HostRuntime) -> Result<(), Fail> {
+    let cases = [
+        (2, 1_099_511_627_776, 1_152_921_504_606_846_976, true),
+        (3, 1_099_511_627_776, 1_152_921_504_606_846_976, false),
+        (2, 1_099_511_627_777, 1_152_921_504_606_846_976, false),
+        (2, 1_099_511_627_776, 1_152_921_504_606_846_977, false),
+    ];
+    for (count, stamp, moment, due) in cases {
+        let cover = Cover {
+            count,
+            stamp,
+            moment,
+        };
+        let covers = [COVER, cover, COVER];
+        assert_eq!(rt; is_good(rt.alloc(), &of_covers(&covers))?, due, "{cover:?}");
+    }
+    Ok(())
+}
+
+#[test]
+fn knows_the_order_of_writes(rt: HostRuntime) -> Result<(), Fail> {
+    let skipped = indexed(6, SECOND);
+    let twice = indexed(4, SECOND);
+    let early = indexed(3, FIRST);
+    let of_another = indexed(6, THIRD);
+    let past = of_origin(3, THIRD);
+    let cases = [
+        ([FIRST, SECOND, THIRD], true, "by origin and index"),
+        ([FIRST, skipped, THIRD], false, "an index skipped"),
+        ([FIRST, twice, THIRD], false, "an index twice"),
+        ([early, twice, THIRD], false, "an index before the first"),
+        (
+            [FIRST, SECOND, of_another],
+            false,
+            "an index of another origin",
+        ),
+        ([THIRD, FIRST, SECOND], false, "origins fall"),
+        ([FIRST, THIRD, SECOND], false, "an origin parted"),
+        ([FIRST, SECOND, past], false, "an origin past the count"),
+    ];
+    for (writes, due, text) in cases {
+        assert_eq!(rt; is_good(rt.alloc(), &of_writes(&writes))?, due, "{text}");
+    }
+    assert!(rt; is_good(rt.alloc(), &of_writes(&[]))?);
+    Ok(())
+}
+
+#[test]
+fn knows_the_receivers_own_writes(rt: HostRuntime) -> Result<(), Fail> {
+    let writes = [FIRST, SECOND, of_origin(1, indexed(1, FIRST))];
+    let cases = [(0, 1, false), (0, 2, true)];
+    for (from, to, due) in cases {
+        let parts = Parts {
+            from,
+            to,
+            firsts: &[4, 1, 0],
+            ..of_writes(&writes)
+        };
+        assert_eq!(rt; is_good(rt.alloc(), &parts)?, due, "to {to}");
+    }
+    Ok(())
+}
+
+#[test]
+fn knows_the_numbers_of_a_write(rt: HostRuntime) -> Result<(), Fail> {
+    let cases = [
+        (stamped(1), true, "the first stamp"),
+        (stamped(0), false, "no stamp"),
+        (stamped(1_099_511_627_776), true, "the last stamp"),
+        (stamped(1_099_511_627_777), false, "a stamp too late"),
+        (
+            accepted_at(1_152_921_504_606_846_976),
+            true,
+            "the last moment",
+        ),
+        (
+            accepted_at(1_152_921_504_606_846_977),
+            false,
+            "a moment too late",
+        ),
+        (Told { conit: 2, ..FIRST }, false, "a conit past the count"),
+        (add(1_000_000_000, 1), true, "the last key"),
+        (add(1_000_000_001, 1), false, "a key too great"),
+        (add(1, 1_000_000_000_000_001), false, "too much added"),
+        (put(1_000_000_001, 1), false, "a key too great to put"),
+        (put(1, -1_000_000_000_000_000), true, "the least value"),
+        (put(1, -1_000_000_000_000_001), false, "a value too small"),
+        (
+            shift(1_000_000_001, 1, 1),
+            false,
+            "a key too great to shift from",
+        ),
+        (
+            shift(1, 1_000_000_001, 1),
+            false,
+            "a key too great to shift to",
+        ),
+        (shift(1, 2, 1_000_000_000_000_000), true, "the most shifted"),
+        (
+            shift(1, 2, 1_000_000_000_000_001),
+            false,
+            "too much shifted",
+        ),
+    ];
+    for (told, due, text) in cases {
+        let writes = [told, SECOND, THIRD];
+        assert_eq!(rt; is_good(rt.alloc(), &of_writes(&writes))?, due, "{text}");
+    }
+    Ok(())
+}
+
+// So many writes of replica 0, from its first on.
+fn many(alloc: Global, count: u64) -> Result<Items<Told>, Fail> {
+    let mut writes = Items::new(alloc);
+    for index in 0..count {
+        writes.push(indexed(index, FIRST))?;
+    }
+    Ok(writes)
 }
 
 #[test]
 fn knows_how_many_writes_a_message_has(rt: HostRuntime) -> Result<(), Fail> {
     for (count, due) in [(64, true), (65, false)] {
-        assert_eq!(rt; tells_many(rt.alloc(), count)?, due, "{count}");
+        let writes = many(rt.alloc(), count)?;
+        let parts = Parts {
+            haves: &[65, 2, 1],
+            firsts: &[0, 2, 0],
+            writes: writes.items(),
+            ..GOOD
+        };
+        assert_eq!(rt; is_good(rt.alloc(), &parts)?, due, "{count}");
     }
     Ok(())
 }

@@ -1,98 +1,105 @@
 //! Numbers in text.
 
-use crate::cases::{assert_shown, halves, number, small};
-use std::alloc::Global;
-use std::process::Abort;
 use std::test::Fail;
-use tact_base::{Bytes, print_number, print_signed, read_number, whole_number, whole_signed};
+use tact_base::{
+    Bytes, NumberFault, TokenFault, print_number, print_signed, read_number, whole_number,
+    whole_signed,
+};
 
-// What is read of a text at a place, and the place after it. The bars stand right beside the text.
-const AT_PLACES: &str = "|18446744073709551615|0 20 Ok(18446744073709551615)
-|18446744073709551616|0 0 Err(TooLarge(19))
-|a 99999999999999999999|2 2 Err(TooLarge(21))
-|x|0 0 Err(NotDigit(0))
-|-1|0 0 Err(NotDigit(0))
-||0 0 Err(Empty)
-|12|2 2 Err(Empty)
-|0000000000000000000000001|0 25 Ok(1)
-|007x|1 3 Ok(7)
-|7:8|2 3 Ok(8)";
-
-// The text of a case, and what stands after it.
-fn opened(case: &str) -> Result<(&str, &str), Fail> {
-    let (_, rest) = halves(case, "|")?;
-    halves(rest, "|")
-}
-
-fn judge_at_place(rt: &impl Abort, alloc: Global, case: &str) -> Result<(), Fail> {
-    let (text, rest) = opened(case)?;
-    let (start, rest) = halves(rest, " ")?;
-    let (after, due) = halves(rest, " ")?;
-    let mut place = small(start)? as usize;
-    assert!(rt; place <= text.len());
-    let found = read_number(text.as_bytes(), &mut place);
-    assert_eq!(rt; place, small(after)? as usize, "{case}");
-    assert_shown(rt, alloc, &found, due, case)
+#[test]
+fn reads_a_number_at_a_place(rt: HostRuntime) {
+    let cases: [(&[u8], usize, Result<u64, NumberFault>, usize); 10] = [
+        (
+            b"18446744073709551615",
+            0,
+            Ok(18_446_744_073_709_551_615),
+            20,
+        ),
+        (
+            b"18446744073709551616",
+            0,
+            Err(NumberFault::TooLarge(19)),
+            0,
+        ),
+        (
+            b"a 99999999999999999999",
+            2,
+            Err(NumberFault::TooLarge(21)),
+            2,
+        ),
+        (b"x", 0, Err(NumberFault::NotDigit(0)), 0),
+        (b"-1", 0, Err(NumberFault::NotDigit(0)), 0),
+        (b"", 0, Err(NumberFault::Empty), 0),
+        (b"12", 2, Err(NumberFault::Empty), 2),
+        (b"0000000000000000000000001", 0, Ok(1), 25),
+        (b"007x", 1, Ok(7), 3),
+        (b"7:8", 2, Ok(8), 3),
+    ];
+    for (bytes, start, want, after) in cases {
+        assert!(rt; start <= bytes.len());
+        let mut place = start;
+        assert_eq!(rt; read_number(bytes, &mut place), want);
+        assert_eq!(rt; place, after);
+    }
 }
 
 #[test]
-fn reads_a_number_at_a_place(rt: HostRuntime) -> Result<(), Fail> {
-    for case in AT_PLACES.lines() {
-        judge_at_place(&rt, rt.alloc(), case)?;
+fn reads_a_whole_token(rt: HostRuntime) {
+    let cases: [(&[u8], u64, Result<u64, TokenFault>); 10] = [
+        (b"0", 0, Ok(0)),
+        (b"0010", 10, Ok(10)),
+        (b"11", 10, Err(TokenFault::OutOfRange)),
+        (b"18446744073709551615", u64::MAX, Ok(u64::MAX)),
+        (
+            b"18446744073709551616",
+            u64::MAX,
+            Err(TokenFault::OutOfRange),
+        ),
+        (
+            b"99999999999999999999x",
+            u64::MAX,
+            Err(TokenFault::NotNumber),
+        ),
+        (b"", 9, Err(TokenFault::NotNumber)),
+        (b"-0", 9, Err(TokenFault::NotNumber)),
+        (b"+1", 9, Err(TokenFault::NotNumber)),
+        (b"1 ", 9, Err(TokenFault::NotNumber)),
+    ];
+    for (token, most, want) in cases {
+        assert_eq!(rt; whole_number(token, most), want);
     }
-    Ok(())
 }
 
-// Tokens, the most that they may be, and what is read.
-const TOKENS: &str = "|0|0 Ok(0)
-|0010|10 Ok(10)
-|11|10 Err(OutOfRange)
-|18446744073709551615|18446744073709551615 Ok(18446744073709551615)
-|18446744073709551616|18446744073709551615 Err(OutOfRange)
-|99999999999999999999x|18446744073709551615 Err(NotNumber)
-||9 Err(NotNumber)
-|-0|9 Err(NotNumber)
-|+1|9 Err(NotNumber)
-|1 |9 Err(NotNumber)";
-
 #[test]
-fn reads_a_whole_token(rt: HostRuntime) -> Result<(), Fail> {
-    for case in TOKENS.lines() {
-        let (token, rest) = opened(case)?;
-        let (most, due) = halves(rest, " ")?;
-        let found = whole_number(token.as_bytes(), number(most)?);
-        assert_shown(&rt, rt.alloc(), &found, due, case)?;
+fn reads_a_whole_signed_token(rt: HostRuntime) {
+    let cases: [(&[u8], i64, Result<i64, TokenFault>); 14] = [
+        (b"1000000", 1_000_000, Ok(1_000_000)),
+        (b"-1000000", 1_000_000, Ok(-1_000_000)),
+        (b"1000001", 1_000_000, Err(TokenFault::OutOfRange)),
+        (b"-1000001", 1_000_000, Err(TokenFault::OutOfRange)),
+        (b"9223372036854775807", i64::MAX, Ok(i64::MAX)),
+        (b"-9223372036854775807", i64::MAX, Ok(-i64::MAX)),
+        (
+            b"-9223372036854775808",
+            i64::MAX,
+            Err(TokenFault::OutOfRange),
+        ),
+        (
+            b"-18446744073709551616",
+            i64::MAX,
+            Err(TokenFault::OutOfRange),
+        ),
+        (b"-0", 0, Ok(0)),
+        (b"-007", 7, Ok(-7)),
+        (b"-", 9, Err(TokenFault::NotNumber)),
+        (b"--1", 9, Err(TokenFault::NotNumber)),
+        (b"1-", 9, Err(TokenFault::NotNumber)),
+        (b"", 9, Err(TokenFault::NotNumber)),
+    ];
+    for (token, size, want) in cases {
+        assert!(rt; size >= 0);
+        assert_eq!(rt; whole_signed(token, size as u64), want);
     }
-    Ok(())
-}
-
-// Tokens with a sign, the greatest size that they may have, and what is read.
-const SIGNED: &str = "|1000000|1000000 Ok(1000000)
-|-1000000|1000000 Ok(-1000000)
-|1000001|1000000 Err(OutOfRange)
-|-1000001|1000000 Err(OutOfRange)
-|9223372036854775807|9223372036854775807 Ok(9223372036854775807)
-|-9223372036854775807|9223372036854775807 Ok(-9223372036854775807)
-|-9223372036854775808|9223372036854775807 Err(OutOfRange)
-|-18446744073709551616|9223372036854775807 Err(OutOfRange)
-|-0|0 Ok(0)
-|-007|7 Ok(-7)
-|-|9 Err(NotNumber)
-|--1|9 Err(NotNumber)
-|1-|9 Err(NotNumber)
-||9 Err(NotNumber)";
-
-#[test]
-fn reads_a_whole_signed_token(rt: HostRuntime) -> Result<(), Fail> {
-    for case in SIGNED.lines() {
-        let (token, rest) = opened(case)?;
-        let (size, due) = halves(rest, " ")?;
-        let size = number(size)?;
-        assert!(rt; size <= i64::MAX as u64);
-        let found = whole_signed(token.as_bytes(), size);
-        assert_shown(&rt, rt.alloc(), &found, due, case)?;
-    }
-    Ok(())
 }
 
 #[test]
