@@ -63,6 +63,7 @@ module _ (old : Stage) (keeps : Keeps old) (replica : ℕ) (within : replica < (
 -- The entry is kept.
 module _ (old mid new : Stage) (keeps : Keeps old) (entry : Entry) (text text' : List ℕ) (same : setup_in mid ≡ setup_in old)
     (entries : mid.entries ≡ old.entries) (handed : mid.handed ≡ old.handed) (none : mid.zeros ≡ old.zeros)
+    (prints : mid.prints ≡ old.prints)
     (made : IsMade mid entry) (entered : Entered mid new entry text text') where
   new_entries : new.entries ≡ old.entries ++ entry ∷ []
   new_entries = ap (λ (s : Stage). s.entries) entered.stage ∙ ap (λ (es : List Entry). es ++ entry ∷ []) entries
@@ -102,10 +103,11 @@ module _ (old mid new : Stage) (keeps : Keeps old) (entry : Entry) (text text' :
       keeps = new_keeps sized sends;
       setup = new_setup;
       played = played_is;
+      prints = ap (λ (s : Stage). s.prints) entered.stage ∙ prints;
     };
     made = entry ∷ [];
     history = ap (λ (e : Entry). old.entries ++ e ∷ []) (sym is);
-    text = entered.text ∙ same_text;
+    text = λ yes. entered.text (prints ∙ yes) ∙ same_text;
   }
     where
       end : Played
@@ -130,14 +132,15 @@ pub enters_quiet : (old mid new : Stage) (keeps : Keeps old) (entry : Entry) (te
     → mid.entries ≡ old.entries
     → mid.handed ≡ old.handed
     → mid.zeros ≡ old.zeros
+    → mid.prints ≡ old.prints
     → mid.sends.items ≡ old.sends.items
     → sent_by entry ≡ None
     → entry ≡ entry_of old.entries replica old.handed (does (part_of old.entries replica) (moment_at (part_of old.entries replica) old.handed))
     → IsMade mid entry
     → Entered mid new entry text text'
     → Enters old new (enters (played_in old) replica does) text text'
-enters_quiet old mid new keeps entry text text' replica does same entries handed none sends quiet is made entered =
-    enters_one old mid new keeps entry text text' same entries handed none made entered
+enters_quiet old mid new keeps entry text text' replica does same entries handed none prints sends quiet is made entered =
+    enters_one old mid new keeps entry text text' same entries handed none prints made entered
     (ap length sends ∙ keeps.sized)
     (subst (AreSends (setup_in old) (old.entries ++ entry ∷ [])) (sym sends) (sends_stay old.entries entry (setup_in old) old.sends.items keeps.sized keeps.sends quiet))
     replica does is
@@ -149,4 +152,4 @@ pub same_set : (old : Stage) (set : SetState)
     → GoesOnTo old (record old { set = set }) (played_in old)
 same_set old set same keeps =
     subst (λ (s : SetState). GoesOnTo old (record old { set = s }) (played_in old)) (sym same)
-    (record { keeps = keeps; setup = refl; played = refl })
+    (record { keeps = keeps; setup = refl; played = refl; prints = refl })

@@ -35,12 +35,17 @@ pub enters_twice : (old mid new : Stage) (first second : Played) (a b c : List �
 enters_twice old mid new first second a b c one two =
     let mid_entries : mid.entries ≡ old.entries ++ one.made = ap (λ (p : Played). p.history) one.goes.played ∙ one.history in
     record {
-      goes = record { keeps = two.goes.keeps; setup = two.goes.setup ∙ one.goes.setup; played = two.goes.played };
+      goes = record {
+        keeps = two.goes.keeps;
+        setup = two.goes.setup ∙ one.goes.setup;
+        played = two.goes.played;
+        prints = two.goes.prints ∙ one.goes.prints;
+      };
       made = one.made ++ two.made;
       history = two.history ∙ ap (λ (h : List Entry). h ++ two.made) mid_entries ∙ append_assoc old.entries one.made two.made;
-      text =
-          two.text
-          ∙ ap (λ (text : List ℕ). text ++ entries_text (setup_in mid) mid.entries two.made) one.text
+      text = λ prints.
+          two.text (one.goes.prints ∙ prints)
+          ∙ ap (λ (text : List ℕ). text ++ entries_text (setup_in mid) mid.entries two.made) (one.text prints)
           ∙ append_assoc a (entries_text (setup_in old) old.entries one.made) (entries_text (setup_in mid) mid.entries two.made)
           ∙ ap (λ (rest : List ℕ). a ++ (entries_text (setup_in old) old.entries one.made ++ rest))
           (ap₂ (λ (s : Setup) (h : List Entry). entries_text s h two.made) one.goes.setup mid_entries)
@@ -64,7 +69,8 @@ module _ (old new : Stage) (l : Line) (out out' : List ℕ) where
       ap (drop (length old.entries)) enters.history ∙ drop-append_seam old.entries enters.made in
       record {
         goes = enters.goes;
-        text = enters.text
+        text = λ prints.
+            enters.text prints
             ∙ ap₂ (λ (c : List ℕ) (more : List Entry). out ++ (c ++ entries_text setup old.entries more)) (sym nothing) (sym made);
       }
 
@@ -77,8 +83,9 @@ module _ (old new : Stage) (l : Line) (out out' : List ℕ) where
       let made : drop (length old.entries) (after_line setup before l).history ≡ [] =
       ap (λ (p : Played). drop (length old.entries) p.history) same ∙ drop-length old.entries in
       record {
-        goes = record { keeps = goes.keeps; setup = goes.setup; played = goes.played ∙ sym same };
-        text = text
+        goes = record { keeps = goes.keeps; setup = goes.setup; played = goes.played ∙ sym same; prints = goes.prints };
+        text = λ prints.
+            text
             ∙ ap (λ (c : List ℕ). out ++ c) (sym (append-nil (line_comment setup old.entries l)))
             ∙ ap (λ (more : List Entry). out ++ (line_comment setup old.entries l ++ entries_text setup old.entries more)) (sym made);
       }

@@ -1,5 +1,5 @@
 -- What a script plays on: what it keeps of what was played, and what a step of it leaves.
-use Rattle.std.specs.Prelude.{◌≡◌, ℕ, ◌<◌, ◌≤◌, List, ◌∷◌, [], ◌++◌, length, map, slice_get, slice_index_or, Option, Some}
+use Rattle.std.specs.Prelude.{◌≡◌, ℕ, ◌<◌, ◌≤◌, true, List, ◌∷◌, [], ◌++◌, length, map, slice_get, slice_index_or, Option, Some}
 use Rattle.std.specs.Option.{option_and_then}
 use Rattle.tact_base.specs.Setup.{Setup}
 use Rattle.tact_base.specs.declared.conit_list.Need.{Need}
@@ -56,23 +56,24 @@ pub record IsMade (stage : Stage) (entry : Entry) : Type 0 where
   pub run : IsRun (setup_in stage) (stage.entries ++ entry ∷ [])
   pub book : IsBookOf (setup_in stage) (stage.entries ++ entry ∷ []) stage.book
 
--- It is kept, and the text gained its line and the comments on it.
+-- It is kept, and where the stage prints, the text gained its line and the comments on it.
 pub record Entered (old new : Stage) (entry : Entry) (out out' : List ℕ) : Type 0 where
   pub stage : new ≡ record old { entries = old.entries ++ entry ∷ [] }
-  pub text : out' ≡ out ++ entries_text (setup_in old) old.entries (entry ∷ [])
+  pub text : old.prints ≡ true → out' ≡ out ++ entries_text (setup_in old) old.entries (entry ∷ [])
 
--- It goes on to something played, under its setup.
+-- It goes on to something played, under its setup, and prints as before.
 pub record GoesOnTo (old new : Stage) (end : Played) : Type 0 where
   pub keeps : Keeps new
   pub setup : setup_in new ≡ setup_in old
   pub played : played_in new ≡ end
+  pub prints : new.prints ≡ old.prints
 
--- It does so by entries, and the text gained their lines and the comments on them.
+-- It does so by entries, and where it prints, the text gained their lines and the comments on them.
 pub record Enters (old new : Stage) (end : Played) (out out' : List ℕ) : Type 0 where
   pub goes : GoesOnTo old new end
   pub made : List Entry
   pub history : end.history ≡ old.entries ++ made
-  pub text : out' ≡ out ++ entries_text (setup_in old) old.entries made
+  pub text : old.prints ≡ true → out' ≡ out ++ entries_text (setup_in old) old.entries made
 
 -- the needs of a read that was answered with a value
 abbrev pub needs_met : Request → Reply → List Need
@@ -88,7 +89,7 @@ abbrev pub IsReadyFor : Setup → List Entry → Line → Type 0
 IsReadyFor setup history (line.Start replicas conits alpha loan) = Unit {0}
 IsReadyFor setup history other = IsLineInRange setup other × HasItsMessage setup history other
 
--- It does what a line says, and the text gained what the line prints.
+-- It does what a line says, and where it prints, the text gained what the line prints.
 pub record Steps (old new : Stage) (line : Line) (out out' : List ℕ) : Type 0 where
   pub goes : GoesOnTo old new (after_line (setup_in old) (played_in old) line)
-  pub text : out' ≡ out ++ text_after (setup_in old) (played_in old) line
+  pub text : old.prints ≡ true → out' ≡ out ++ text_after (setup_in old) (played_in old) line

@@ -1,5 +1,5 @@
 -- The world of a script: the lines that it stepped, and which may come next.
-use Rattle.std.specs.Prelude.{◌≡◌, ◌≤◌, Bool, false, List, ◌++◌, length}
+use Rattle.std.specs.Prelude.{◌≡◌, ◌≤◌, Bool, true, false, List, ◌++◌, length}
 use Rattle.tact_base.specs.Setup.{Setup}
 use Rattle.tact_base.specs.declared.limits.TheConstants.{SCRIPT_LINES}
 use Rattle.run_model.specs.ScriptRuns.{played_by}
@@ -22,10 +22,11 @@ pub record AreFirstLines (setup : Setup) (lines : List Line) : Type 0 where
   pub few : length (lines ++ rest) ≤ SCRIPT_LINES
   pub setup_is : setup ≡ setup_of (lines ++ rest)
 
--- Unless it is spent, a world has played its lines.
+-- Unless it is spent, a world has played its lines, and is ready to print what comes.
 pub record HasPlayed (stage : Stage) (lines : List Line) : Type 0 where
   pub keeps : Keeps stage
   pub played : played_in stage ≡ played_by (setup_in stage) lines
+  pub prints : stage.prints ≡ true
 
 abbrev pub PlaysOn : Stage → WorldState → Type 0
 PlaysOn stage state = state.spent ≡ false → HasPlayed stage state.lines

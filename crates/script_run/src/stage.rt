@@ -1,9 +1,9 @@
 //! What a script plays on: the replicas, what they have done, and where the messages among it are.
-ghost use Rattle.std.specs.Prelude.{◌≡◌, ◌≢◌, ◌<◌, ◌≤◌, [], ◌∷◌, ◌++◌, length, slice_get, slice_set, slice_index_or, Some, IfOk, OnOk};
+ghost use Rattle.std.specs.Prelude.{◌≡◌, ◌≢◌, ◌<◌, ◌≤◌, true, [], ◌∷◌, ◌++◌, length, slice_get, slice_set, slice_index_or, Some, IfOk, OnOk};
 ghost use Rattle.tact_base.specs.declared.limits.TheConstants.{CLIENTS};
 ghost use Rattle.run_model.specs.Histories.{part_of, moment_at, sent_in};
 ghost use Rattle.run_model.specs.Ranges.{IsRequestInRange};
-ghost use Rattle.run_model.specs.ScriptRuns.{not_played, calls, sends, takes, passes, enters, entries_text, act_comments};
+ghost use Rattle.run_model.specs.ScriptRuns.{not_played, after_line, calls, sends, takes, passes, enters, entries_text, act_comments};
 ghost use Rattle.run_model.specs.Text.{entry_text};
 ghost use Rattle.run_model.specs.declared.entry.Act.TheVariants as act;
 
@@ -33,16 +33,19 @@ pub(crate) struct Stage {
     handed: u64,
     /// A zero for each replica: the firsts where none are given.
     zeros: Numbers,
+    /// Whether the entries that are made are printed, with the comments on them.
+    prints: bool,
 }
 
 impl Stage {
-    ghost use Rattle.script_run.specs.Stages.{Keeps, IsMade, Entered, Enters, Steps, IsReadyFor, setup_in, played_in};
+    ghost use Rattle.script_run.specs.Stages.{Keeps, IsMade, Entered, Enters, GoesOnTo, Steps, IsReadyFor, setup_in, played_in};
 
-    /// A stage of a setup, on which nothing has happened.
+    /// A stage of a setup, on which nothing has happened. It prints.
     pub(crate) fn new(alloc: Global, config: &Config) -> Result<Stage, NoMemory>
         ensures keeps { IfOk result Keeps }
         ensures setup { IfOk result (λ stage. setup_in stage ≡ config.now) }
         ensures played { IfOk result (λ stage. played_in stage ≡ not_played) }
+        ensures prints { IfOk result (λ stage. stage.prints ≡ true) }
     {
         let mut sends = Vec::new(alloc);
         for _replica in 0..config.replicas() {
@@ -55,6 +58,7 @@ impl Stage {
             sends,
             handed: 0,
             zeros: Numbers::filled(alloc, 0, config.replicas())?,
+            prints: true,
         })
     }
 
@@ -65,7 +69,7 @@ impl Stage {
         self.entries.items()
     }
 
-    /// Does what a line says, and appends what it prints.
+    /// Does what a line says, and appends what it prints, where the stage prints.
     pub(crate) fn step(&mut self, line: &Line, out: &mut Bytes) -> Result<(), NoMemory>
         requires keeps { Keeps self.old }
         requires ready { IsReadyFor (setup_in self.old) self.old.entries line.now }
@@ -169,6 +173,20 @@ impl Stage {
         }
     }
 
+    /// Does what a line says, and prints no entry. What it appends to `scratch` is for nobody.
+    pub(crate) fn step_silently(&mut self, line: &Line, scratch: &mut Bytes) -> Result<(), NoMemory>
+        requires keeps { Keeps self.old }
+        requires ready { IsReadyFor (setup_in self.old) self.old.entries line.now }
+        requires prints { self.old.prints ≡ true }
+        ensures goes { OnOk result (GoesOnTo self.old self.new (after_line (setup_in self.old) (played_in self.old) line.now)) }
+        ensures setup { setup_in self.new ≡ setup_in self.old }
+    {
+        self.prints = false;
+        let done = self.step(line, scratch);
+        self.prints = true;
+        done
+    }
+
     // The moment of the next entry of a replica.
     fn moment_of(&self, replica: u32) -> u64
         requires keeps { Keeps self.now }
@@ -178,14 +196,16 @@ impl Stage {
         self.handed.max(self.set.at(replica).last())
     }
 
-    // Keeps an entry that was made, and appends its line and the comments on it.
+    // Keeps an entry that was made, and appends its line and the comments on it, where the stage prints.
     fn enter(&mut self, entry: Entry, out: &mut Bytes) -> Result<(), NoMemory>
         requires made { IsMade self.old entry }
         ensures entered { OnOk result (Entered self.old self.new entry out.old out.new) }
         ensures set { self.new.set ≡ self.old.set }
     {
-        line_of(&entry, out)?;
-        self.comment_on(&entry, out)?;
+        if self.prints {
+            line_of(&entry, out)?;
+            self.comment_on(&entry, out)?;
+        }
         self.entries.push(entry)
     }
 

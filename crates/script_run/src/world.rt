@@ -71,6 +71,26 @@ impl World {
         Ok(())
     }
 
+    /// Does what the next line of a script says, as [`World::step`], and prints nothing.
+    pub fn step_silently(&mut self, line: &Line) -> Result<(), NoMemory>
+        requires first { self.old.spent ≡ false → AreFirstLines self.old.setup (self.old.lines ++ line.now ∷ []) }
+        ensures setup { self.new.setup ≡ self.old.setup }
+        ensures unspent { OnOk result ((self.old.spent ≡ false) × (self.new.spent ≡ false)) }
+        ensures lines { OnOk result (self.new.lines ≡ self.old.lines ++ line.now ∷ []) }
+        ensures spent { OnErr result (self.new.spent ≡ true) }
+        ensures stays { self.old.spent ≡ true → IsErr result }
+    {
+        if self.spent {
+            return Err(NoMemory);
+        }
+        self.spent = true;
+        self.lines = self.lines.and(line);
+        self.text.truncate(0);
+        self.stage.step_silently(line, &mut self.text)?;
+        self.spent = false;
+        Ok(())
+    }
+
     /// What happened, in order, unless the world is spent.
     pub fn entries(&self) -> &[Entry]
         ensures { self.now.spent ≡ false → result.now ≡ history_of self.now.setup self.now.lines }

@@ -49,16 +49,16 @@ fn summary_of(alloc: Global, number: u64) -> Result<Bytes, NoMemory>
     let script = drill_script(alloc, number)?;
     let replicas = script.config().replicas();
     let mut world = World::new(alloc, script.config())?;
-    let mut scratch = Bytes::new(alloc);
-    step_all(&mut world, script.lines(), &mut scratch)?;
+    step_all(&mut world, script.lines())?;
     let mut text = Bytes::new(alloc);
     put_counts(number, world.entries(), &mut text)?;
+    let mut scratch = Bytes::new(alloc);
     put_replicas(&mut world, replicas, &mut scratch, &mut text)?;
     Ok(text)
 }
 
-// Does what the lines of a script say, in a world in which nothing has happened. What they print goes nowhere.
-fn step_all(world: &mut World, lines: &[Line], scratch: &mut Bytes) -> Result<(), NoMemory>
+// Does what the lines of a script say, in a world in which nothing has happened, and prints nothing.
+fn step_all(world: &mut World, lines: &[Line]) -> Result<(), NoMemory>
     requires script { IsScript lines.now }
     requires few { length lines.now ≤ SCRIPT_LINES }
     requires setup { world.old.setup ≡ setup_of lines.now }
@@ -69,8 +69,7 @@ fn step_all(world: &mut World, lines: &[Line], scratch: &mut Bytes) -> Result<()
     ensures unspent { OnOk result (world.new.spent ≡ false) }
 {
     for line in lines {
-        scratch.truncate(0);
-        world.step(line, scratch)?;
+        world.step_silently(line)?;
     }
     Ok(())
 }

@@ -29,7 +29,7 @@ returns-in-Show-clause-steps c =
     subst (λ (l : Line). OnOk c.show.result (Steps old old l c.args.out.now c.show.new.out)) (sym c.in-Show.is)
     (on_ok_weaker c.show.result
     (λ told. steps_by_comment old old (line.Show c.in-Show.replica) c.args.out.now c.show.new.out refl
-    (record { keeps = keeps; setup = refl; played = refl })
+    (record { keeps = keeps; setup = refl; played = refl; prints = refl })
     (told old.entries (keeps.stands.parts c.in-Show.replica c.at-view.result.now.core c.at-view.ensures)
     ∙ ap (λ (s : Setup). c.args.out.now ++ show_text s old.entries c.in-Show.replica) c.config.ensures))
     c.show.ensures.of_history)
