@@ -268,34 +268,43 @@ applied-next base old found new undos ops count op d undo values more there appl
     (applied-more base old found undos (take count ops) extends applied) places
     (holds ∙ ap (λ image. key_values image op) (sym same)) after stay sets)
 
--- the last operation that is applied, read with any default
-last-applied : (base : Image) (recent : RecentState) (undos : List Undo) (ops : List Op) (count : ℕ) (d : Op) (undo : Undo)
-    → count < length ops
-    → IsApplied base recent (undos ++ undo ∷ []) (take (count + 1) ops)
+-- the last operation that is applied, read with any default, beside its undo
+last-applied : (base : Image) (recent : RecentState) (all undos : List Undo) (ops : List Op) (undo : Undo) (d : Op) (total count : ℕ)
+    → all ≡ undos ++ undo ∷ []
+    → count + 1 ≡ total
+    → total ≤ length ops
+    → IsApplied base recent all (take total ops)
     → IsApplied base recent (undos ++ undo ∷ []) (take count ops ++ get_or ops count d ∷ [])
-last-applied base recent undos ops count d undo more applied = rw (take_more ops count d more) at applied
+last-applied base recent all undos ops undo d total count split more within applied =
+    rw (split, ← more, take_more ops count d (omega (arith, more, within))) at applied
 
--- its keys have the places of the last undo
-pub last-places : (base : Image) (recent : RecentState) (undos : List Undo) (ops : List Op) (count : ℕ) (d : Op) (undo : Undo)
-    → count < length ops
-    → IsApplied base recent (undos ++ undo ∷ []) (take (count + 1) ops)
+-- its keys have the places of that undo
+pub last-places : (base : Image) (recent : RecentState) (all undos : List Undo) (ops : List Op) (undo : Undo) (d : Op) (total count : ℕ)
+    → all ≡ undos ++ undo ∷ []
+    → count + 1 ≡ total
+    → total ≤ length ops
+    → IsApplied base recent all (take total ops)
     → HasPlaces recent undo.places (get_or ops count d)
-last-places base recent undos ops count d undo more applied =
-    let all = last-applied base recent undos ops count d undo more applied in
-    (AllZip-last (λ undo op. HasPlaces recent undo.places op) undos (take count ops) undo (get_or ops count d) all.places).1
+last-places base recent all undos ops undo d total count split more within applied =
+    let last = last-applied base recent all undos ops undo d total count split more within applied in
+    let has = λ (undo : Undo) (op : Op). HasPlaces recent undo.places op in
+    (AllZip-last has undos (take count ops) undo (get_or ops count d) last.places).1
 
 -- and it undone
-pub applied-last : (base : Image) (old new : RecentState) (undos : List Undo) (ops : List Op) (count : ℕ) (undo : Undo)
-    → count < length ops
-    → IsApplied base old (undos ++ undo ∷ []) (take (count + 1) ops)
+pub applied-last : (base : Image) (old new : RecentState) (all undos : List Undo) (ops : List Op) (undo : Undo) (total count : ℕ)
+    → all ≡ undos ++ undo ∷ []
+    → count + 1 ≡ total
+    → total ≤ length ops
+    → IsApplied base old all (take total ops)
     → new.places ≡ old.places
     → ((op : Op) → HasPlaces old undo.places op → SetsKeys old new op undo.held)
     → IsApplied base new undos (take count ops)
-applied-last base old new undos ops count undo more applied stay sets =
+applied-last base old new all undos ops undo total count split more within applied stay sets =
     let d : Op = Put 0 (pos 0) in
     let op = get_or ops count d in
-    applied-pop base old new undos (take count ops) op undo (last-applied base old undos ops count d undo more applied) stay
-    (sets op (last-places base old undos ops count d undo more applied))
+    let last = last-applied base old all undos ops undo d total count split more within applied in
+    let places = last-places base old all undos ops undo d total count split more within applied in
+    applied-pop base old new undos (take count ops) op undo last stay (sets op places)
 
 -- more memory changes nothing
 pub applied-same : (base settled : Image) (old new : RecentState) (undos kept : List Undo) (ops : List Op)
