@@ -269,7 +269,8 @@ applied-next base old found new undos ops count op d undo values more there appl
     (holds ∙ ap (λ image. key_values image op) (sym same)) after stay sets)
 
 -- the last operation that is applied, read with any default, beside its undo
-last-applied : (base : Image) (recent : RecentState) (all undos : List Undo) (ops : List Op) (undo : Undo) (d : Op) (total count : ℕ)
+last-applied : (base : Image) (recent : RecentState) (all undos : List Undo) (ops : List Op) (undo : Undo) (d : Op)
+    (total count : ℕ)
     → all ≡ undos ++ undo ∷ []
     → count + 1 ≡ total
     → total ≤ length ops
@@ -279,7 +280,8 @@ last-applied base recent all undos ops undo d total count split more within appl
     rw (split, ← more, take_more ops count d (omega (arith, more, within))) at applied
 
 -- its keys have the places of that undo
-pub last-places : (base : Image) (recent : RecentState) (all undos : List Undo) (ops : List Op) (undo : Undo) (d : Op) (total count : ℕ)
+pub last-places : (base : Image) (recent : RecentState) (all undos : List Undo) (ops : List Op) (undo : Undo) (d : Op)
+    (total count : ℕ)
     → all ≡ undos ++ undo ∷ []
     → count + 1 ≡ total
     → total ≤ length ops
@@ -291,7 +293,8 @@ last-places base recent all undos ops undo d total count split more within appli
     (AllZip-last has undos (take count ops) undo (get_or ops count d) last.places).1
 
 -- and it undone
-pub applied-last : (base : Image) (old new : RecentState) (all undos : List Undo) (ops : List Op) (undo : Undo) (total count : ℕ)
+pub applied-last : (base : Image) (old new : RecentState) (all undos : List Undo) (ops : List Op) (undo : Undo)
+    (total count : ℕ)
     → all ≡ undos ++ undo ∷ []
     → count + 1 ≡ total
     → total ≤ length ops

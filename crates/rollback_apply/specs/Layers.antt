@@ -56,8 +56,8 @@ pub record KeepsMemory (old new : Layers) : Type 0 where
   pub recent : room_of old.recent ≤ room_of new.recent
   pub undos : vec_capacity old.undos ≤ vec_capacity new.undos
 
--- The tentative operations are applied over the committed ones, none is recalled, and there is memory for as many more as
--- the room says.
+-- The tentative operations are applied over the committed ones, none is recalled, and there is memory for as many more
+-- as the room says.
 pub record IsKept (layers : Layers) (ops : List Op) (capacity room : ℕ) : Type 0 where
   pub applied : Applies layers ops
   pub all : vec_len layers.undos ≡ length ops
