@@ -5,7 +5,7 @@ use Rattle.std.proofs.Common.{Option, Some, None, unwrap_or, refl, sym, ap, ◌�
 use Rattle.std.specs.List.{AllZip}
 use Rattle.std.proofs.lemmas.Bool.{or_parts, eqb-true, le-leb}
 use Rattle.std.proofs.lemmas.List.{same_from_push, take_more, map-append, drop-map}
-use Rattle.std.proofs.lemmas.List.Elements.{All-head, All-tail, All-append}
+use Rattle.std.proofs.lemmas.List.Elements.{All-head, All-tail, All-append, All-weaker}
 use Rattle.std.proofs.lemmas.List.Sums.{fold-append}
 use Rattle.std.proofs.lemmas.Option.{slice_get-map}
 use Rattle.std.specs.Option.{option_map}
@@ -17,9 +17,11 @@ use Rattle.tact_base.specs.declared.write.Op.TheVariants.{Put, Add, Shift}
 use Rattle.rollback_apply.specs.Image.{ImageState, base_of, value_before}
 use Rattle.rollback_apply.specs.Keys.{first_key, second_key, names, key_values, with_key_values, value_among, undos_of}
 use Rattle.rollback_apply.specs.Recent.{RecentState, place_of, has, over, Extends}
-use Rattle.rollback_apply.specs.Layers.{HasPlaces, SetsKeys, IsApplied}
+use Rattle.rollback_apply.specs.Layers.{HasPlaces, Recalls, SetsKeys, IsApplied}
 use Rattle.rollback_apply.specs.declared.keys.KeyValues.{KeyValues}
 use Rattle.rollback_apply.specs.declared.layers.Undo.{Undo}
+use Rattle.rollback_apply.specs.declared.recalled.Places.{Places}
+use Rattle.rollback_apply.specs.declared.recalled.Recalled.{Recalled}
 
 -- images that agree at each key are one
 pub same_image : (f g : Image) → ((key : ℕ) → f key ≡ g key) → f ≡ g
@@ -132,21 +134,35 @@ AllZip-drop R xs [] rest zip = zip
 AllZip-drop R [] (y ∷ front) rest zip = absurd zip
 AllZip-drop R (x ∷ xs) (y ∷ front) rest zip = AllZip-drop R xs front rest zip.1
 
--- places that stay
+-- the places of an operation stay
+pub has_places-stay : (old new : RecentState) (places : Places) (op : Op)
+    → ((key place : ℕ) → place_of old key ≡ Some place → place_of new key ≡ Some place)
+    → HasPlaces old places op
+    → HasPlaces new places op
+has_places-stay old new places op stay has = record {
+  first = stay (first_key op) places.first has.first;
+  second = stay (second_key op) places.second has.second;
+}
+
+-- and so do those of each that is recalled
+pub recalls-stay : (old new : RecentState) (recalled : List Recalled)
+    → ((key place : ℕ) → place_of old key ≡ Some place → place_of new key ≡ Some place)
+    → Recalls old recalled
+    → Recalls new recalled
+recalls-stay old new recalled stay all =
+    All-weaker (λ one. HasPlaces old one.places one.op) (λ one. HasPlaces new one.places one.op)
+    (λ one has. has_places-stay old new one.places one.op stay has) recalled all
+
+-- and those of each that is applied
 pub places-stay : (old new : RecentState) (undos : List Undo) (ops : List Op)
     → ((key place : ℕ) → place_of old key ≡ Some place → place_of new key ≡ Some place)
-    → AllZip (HasPlaces old) undos ops
-    → AllZip (HasPlaces new) undos ops
+    → AllZip (λ undo op. HasPlaces old undo.places op) undos ops
+    → AllZip (λ undo op. HasPlaces new undo.places op) undos ops
 places-stay old new [] [] stay zip = tt
 places-stay old new [] (op ∷ ops) stay zip = absurd zip
 places-stay old new (undo ∷ undos) [] stay zip = absurd zip
-places-stay old new (undo ∷ undos) (op ∷ ops) stay zip = (
-  record {
-    first = stay (first_key op) undo.first zip.0.first;
-    second = stay (second_key op) undo.second zip.0.second;
-  },
-  places-stay old new undos ops stay zip.1,
-)
+places-stay old new (undo ∷ undos) (op ∷ ops) stay zip =
+    (has_places-stay old new undo.places op stay zip.0, places-stay old new undos ops stay zip.1)
 
 -- the same places are the places of the same keys
 pub same-places : (old new : RecentState)
@@ -171,7 +187,7 @@ applied-more base old new undos ops more applied = record {
 -- one operation more
 pub applied-push : (base : Image) (old new : RecentState) (undos : List Undo) (ops : List Op) (op : Op) (undo : Undo) (values : KeyValues)
     → IsApplied base old undos ops
-    → HasPlaces old undo op
+    → HasPlaces old undo.places op
     → undo.held ≡ key_values (over base old) op
     → ((image : Image) → key_values image op ≡ undo.held → key_values (after_op image op) op ≡ values)
     → new.places ≡ old.places
@@ -190,7 +206,7 @@ applied-push base old new undos ops op undo values applied places holds after st
           ∙ sym (undos_of-append base ops (op ∷ []));
       places =
           places-stay old new (undos ++ undo ∷ []) (ops ++ op ∷ []) (same-places old new stay)
-          (AllZip-more (HasPlaces old) undos ops undo op applied.places places);
+          (AllZip-more (λ undo op. HasPlaces old undo.places op) undos ops undo op applied.places places);
       fold = λ key.
           over-set base old new op values sets key
           ∙ ap (λ image. with_key_values image op values key) same
@@ -220,7 +236,7 @@ applied-pop base old new undos ops op undo applied stay sets =
       undone = both.0;
       places =
           places-stay old new undos ops (same-places old new stay)
-          (AllZip-last (HasPlaces old) undos ops undo op applied.places).0;
+          (AllZip-last (λ undo op. HasPlaces old undo.places op) undos ops undo op applied.places).0;
       fold = λ key.
           over-set base old new op undo.held sets key
           ∙ ap (λ image. with_key_values image op undo.held key) same
@@ -237,7 +253,7 @@ pub applied-next : (base : Image) (old found new : RecentState) (undos : List Un
     → op ≡ get_or ops count d
     → IsApplied base old undos (take count ops)
     → Extends base old found
-    → HasPlaces found undo op
+    → HasPlaces found undo.places op
     → undo.held ≡ key_values (over base old) op
     → ((image : Image) → key_values image op ≡ undo.held → key_values (after_op image op) op ≡ values)
     → new.places ≡ found.places
@@ -252,27 +268,46 @@ applied-next base old found new undos ops count op d undo values more there appl
     (applied-more base old found undos (take count ops) extends applied) places
     (holds ∙ ap (λ image. key_values image op) (sym same)) after stay sets)
 
--- the last operation that is applied
-pub last-applied : (base : Image) (recent : RecentState) (undos : List Undo) (ops : List Op) (count : ℕ) (undo : Undo)
-    → count < length ops
-    → IsApplied base recent (undos ++ undo ∷ []) (take (count + 1) ops)
-    → (op : Op) × (HasPlaces recent undo op × IsApplied base recent (undos ++ undo ∷ []) (take count ops ++ op ∷ []))
-last-applied base recent undos ops count undo more applied =
-    let d : Op = Put 0 (pos 0) in
-    let op = get_or ops count d in
-    let all : IsApplied base recent (undos ++ undo ∷ []) (take count ops ++ op ∷ []) = rw (take_more ops count d more) at applied in
-    (op, ((AllZip-last (HasPlaces recent) undos (take count ops) undo op all.places).1, all))
+-- the last operation that is applied, read with any default, beside its undo
+last-applied : (base : Image) (recent : RecentState) (all undos : List Undo) (ops : List Op) (undo : Undo) (d : Op)
+    (total count : ℕ)
+    → all ≡ undos ++ undo ∷ []
+    → count + 1 ≡ total
+    → total ≤ length ops
+    → IsApplied base recent all (take total ops)
+    → IsApplied base recent (undos ++ undo ∷ []) (take count ops ++ get_or ops count d ∷ [])
+last-applied base recent all undos ops undo d total count split more within applied =
+    rw (split, ← more, take_more ops count d (omega (arith, more, within))) at applied
+
+-- its keys have the places of that undo
+pub last-places : (base : Image) (recent : RecentState) (all undos : List Undo) (ops : List Op) (undo : Undo) (d : Op)
+    (total count : ℕ)
+    → all ≡ undos ++ undo ∷ []
+    → count + 1 ≡ total
+    → total ≤ length ops
+    → IsApplied base recent all (take total ops)
+    → HasPlaces recent undo.places (get_or ops count d)
+last-places base recent all undos ops undo d total count split more within applied =
+    let last = last-applied base recent all undos ops undo d total count split more within applied in
+    let has = λ (undo : Undo) (op : Op). HasPlaces recent undo.places op in
+    (AllZip-last has undos (take count ops) undo (get_or ops count d) last.places).1
 
 -- and it undone
-pub applied-last : (base : Image) (old new : RecentState) (undos : List Undo) (ops : List Op) (count : ℕ) (undo : Undo)
-    → count < length ops
-    → IsApplied base old (undos ++ undo ∷ []) (take (count + 1) ops)
+pub applied-last : (base : Image) (old new : RecentState) (all undos : List Undo) (ops : List Op) (undo : Undo)
+    (total count : ℕ)
+    → all ≡ undos ++ undo ∷ []
+    → count + 1 ≡ total
+    → total ≤ length ops
+    → IsApplied base old all (take total ops)
     → new.places ≡ old.places
-    → ((op : Op) → HasPlaces old undo op → SetsKeys old new op undo.held)
+    → ((op : Op) → HasPlaces old undo.places op → SetsKeys old new op undo.held)
     → IsApplied base new undos (take count ops)
-applied-last base old new undos ops count undo more applied stay sets =
-    let last = last-applied base old undos ops count undo more applied in
-    applied-pop base old new undos (take count ops) last.0 undo last.1.1 stay (sets last.0 last.1.0)
+applied-last base old new all undos ops undo total count split more within applied stay sets =
+    let d : Op = Put 0 (pos 0) in
+    let op = get_or ops count d in
+    let last = last-applied base old all undos ops undo d total count split more within applied in
+    let places = last-places base old all undos ops undo d total count split more within applied in
+    applied-pop base old new undos (take count ops) op undo last stay (sets op places)
 
 -- more memory changes nothing
 pub applied-same : (base settled : Image) (old new : RecentState) (undos kept : List Undo) (ops : List Op)
@@ -304,7 +339,7 @@ applied-settle base settled recent undos front rest applied is = record {
       ∙ ap (λ count. drop count (first ++ last)) (sym (length-undos_of base front))
       ∙ drop-append_seam first last
       ∙ ap (λ image. undos_of image rest) (sym is);
-  places = AllZip-drop (HasPlaces recent) undos front rest applied.places;
+  places = AllZip-drop (λ undo op. HasPlaces recent undo.places op) undos front rest applied.places;
   fold = λ key.
       stays key (has recent key) refl
       ∙ applied.fold key

@@ -4,6 +4,7 @@
 mod image;
 mod keys;
 mod layers;
+mod recalled;
 mod recent;
 mod values;
 

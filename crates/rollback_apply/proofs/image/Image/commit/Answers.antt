@@ -17,4 +17,5 @@ invariant_of-self c =
         recent = rw c.settle.ensures.recent (omega (arith, left, was.memory.recent));
         undos = omega (arith, left, was.memory.undos, c.settle.ensures.capacity);
       };
+      recalled = rw c.settle.ensures.recalled was.recalled;
     }
