@@ -52,8 +52,9 @@ impl<T> RoomyList<T> {
         &mut self.items
     }
 
-    /// Makes room for at least `count` more items, without memory where there is so much. `NoMemory`
-    /// leaves the list as it was.
+    /// Makes room for at least `count` more items, without memory where there is so much. A list that takes memory
+    /// takes it for four times its items, if it can, so that what it holds is seldom moved. `NoMemory` leaves the list
+    /// as it was.
     pub fn reserve(&mut self, count: u64) -> Result<(), NoMemory>
         ensures items { self.new.items ≡ self.old.items }
         ensures kept { self.old.room ≤ self.new.room }
@@ -61,7 +62,14 @@ impl<T> RoomyList<T> {
         ensures enough { count ≤ self.old.room → IsOk result }
         ensures err { OnErr result (self.new ≡ self.old) }
     {
-        self.items.reserve(count as usize)?;
+        let count = count as usize;
+        if count <= self.items.capacity() - self.items.len() {
+            return Ok(());
+        }
+        let ample = self.items.len().saturating_mul(3).max(count);
+        if self.items.reserve(ample).is_err() {
+            self.items.reserve(count)?;
+        }
         Ok(())
     }
 }
