@@ -194,8 +194,8 @@ fn row_fault(owner: u32, conit: u32, alpha: u64, loans: &[u64]) -> Option<Config
     }
 }
 
-// Whether the loans add up to more than alpha. Their sum may pass what a u64 holds.
-fn is_passed_by(loans: &[u64], alpha: u64) -> bool
+/// Whether loans add up to more than alpha. Their sum may pass what a u64 holds. Takes no memory.
+pub fn is_passed_by(loans: &[u64], alpha: u64) -> bool
     ensures { result ≡ nat_lt alpha (sum loans.now) }
 {
     let mut left = alpha;

@@ -22,7 +22,7 @@ mod worked;
 
 pub use call::{Reply, Request, Sums};
 pub use cause::Cause;
-pub use config::Config;
+pub use config::{Config, is_passed_by};
 pub use entry::{Act, Entry, Message};
 pub use fields::{
     FieldFault, any_number_at, any_signed_at, append_byte, append_number, append_numbers,

@@ -1,7 +1,7 @@
 //! The setup of a record in bytes, read field by field: each reader is given the bytes and a place, and answers
 //! its value and the place after it, or the first fault.
 
-ghost use Rattle.std.specs.Prelude.{◌≡◌, ◌≤◌, ◌+◌, ◌*◌, IfErr, IfOk, Err, Ok, drop, length, nat_lt, sum, take};
+ghost use Rattle.std.specs.Prelude.{◌≡◌, ◌≤◌, ◌+◌, ◌*◌, IfErr, IfOk, Err, Ok, drop, length, take};
 ghost use Rattle.std.specs.Int.{w32, from_be_bytes};
 ghost use Rattle.tact_base.specs.declared.limits.TheConstants.{REPLICAS_MAX};
 ghost use Rattle.tact_base.specs.Setup.{IsSetup, setup};
@@ -10,7 +10,9 @@ ghost use Rattle.run_record.specs.RecordAt.{Tells, bound_at, bounds_at, part_of,
 
 use crate::RecordFault;
 use crate::parts::{Bound, Counts};
-use run_model::{ByteKind, Config, ConfigFault, FieldFault, byte_at, number_at};
+use run_model::{
+    ByteKind, Config, ConfigFault, FieldFault, byte_at, is_passed_by, number_at,
+};
 use std::alloc::Global;
 use tact_base::{ALPHA_MAX, CONITS_MAX, Items, NoMemory, Numbers, REPLICAS_MAX, REPLICAS_MIN, Row};
 
@@ -233,18 +235,4 @@ fn loan_bound(owner: u32, holder: u32) -> u64
     ensures { result ≡ loan_bound owner holder }
 {
     if holder == owner { 1 } else { ALPHA_MAX + 1 }
-}
-
-// Whether the loans add up to more than alpha. Their sum may pass what a u64 holds.
-pub(crate) fn is_passed_by(loans: &[u64], alpha: u64) -> bool
-    ensures { result ≡ nat_lt alpha (sum loans.now) }
-{
-    let mut left = alpha;
-    for loan in loans {
-        match left.checked_sub(*loan) {
-            Some(less) => left = less,
-            None => return true,
-        }
-    }
-    false
 }

@@ -8,10 +8,9 @@ ghost use Rattle.run_record.specs.RecordLines.{header_line, says, number_due, lo
 
 use crate::call_tokens::word_due;
 use crate::fields::{count_at, end_at, number_at, token_at};
-use crate::get_setup::is_passed_by;
 use crate::line_fault::LineFault;
 use crate::parts::{Bound, Counts};
-use run_model::LineKind;
+use run_model::{LineKind, is_passed_by};
 use tact_base::{ALPHA_MAX, CONITS_MAX, REPLICAS_MAX, REPLICAS_MIN, Row, whole_number};
 
 /// `tact 1 REPLICAS CONITS`
