@@ -37,7 +37,8 @@ pub record HasLeft (node : NodeView) (before : LockedView) (old new : SessionVie
       → IsLoanFaultOf before.core (part_in before) asked told
       → IsLoanFaultSeen node.desk.setup new asked told
 
--- A refused step, which left the core and the stored entries as they were, and whose note has seen what the clerk then has.
+-- A refused step, which left the core and the stored entries as they were, and whose note has seen what the clerk then
+-- has.
 module _ (node node_as : NodeView) (held : HeldView Label) (before after : LockedView) (session : SessionView) (tally now : TallyView) (note : NoteView)
     (agrees : Agreed node held before session tally now) (kept : IsLocked after) (core : after.core ≡ before.core) (stored : after.stored ≡ before.stored)
     (seen : (note.table ≡ session.desk) × (note.seen ≡ after.clerk.seen)) (learnt : IsPrefix session.seen note.seen)

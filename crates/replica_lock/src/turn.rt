@@ -117,7 +117,8 @@ impl<'n, 'd, G: Gate> Turn<'n, 'd, G> {
     }
 }
 
-// Counts a call among a client's turns and among the entries made for it, in the totals and in the tally that owns them.
+// Counts a call among a client's turns and among the entries made for it, in the totals and in the tally that owns
+// them.
 pub(crate) fn count(
     held: &mut Held<'_, LockedBox>,
     tally: &mut Tally<Label>,
