@@ -194,22 +194,10 @@ impl<'n, 'd, G: Gate> Turn<'n, 'd, G> {
         let node = self.node;
         stand(&self.locked);
         self.held.agree(&mut session.tally);
-        let answer = self
-            .locked
-            .lend(node.desk, &mut session.note, moment, session.client, loan);
-        match answer {
-            Ok(()) => {
-                count_made(
-                    &mut self.held,
-                    &mut session.tally,
-                    session.conits,
-                    session.client,
-                );
-                session.made += 1;
-                Ok(())
-            }
-            Err(fault) => Err(fault),
-        }
+        self.locked
+            .lend(node.desk, &mut session.note, moment, session.client, loan)?;
+        count_made(&mut self.held, session);
+        Ok(())
     }
 }
 

@@ -87,22 +87,11 @@ impl<'n, 'd, G: Gate> Turn<'n, 'd, G> {
         let node = self.node;
         stand(&self.locked);
         self.held.agree(&mut session.tally);
-        let answer = self
+        let parcel = self
             .locked
-            .send(node.desk, &mut session.note, moment, session.client, to);
-        match answer {
-            Ok(parcel) => {
-                count_made(
-                    &mut self.held,
-                    &mut session.tally,
-                    session.conits,
-                    session.client,
-                );
-                session.made += 1;
-                Ok(parcel)
-            }
-            Err(fault) => Err(fault),
-        }
+            .send(node.desk, &mut session.note, moment, session.client, to)?;
+        count_made(&mut self.held, session);
+        Ok(parcel)
     }
 }
 
@@ -130,8 +119,8 @@ impl Locked {
     }
 
     /// Sends a message to another replica, for a session that has seen what a note has. The clerk learns the note;
-    /// where it isn't refused the sending is drawn and stored; then the note sees what the clerk has seen, and so has
-    /// the parcel.
+    /// where it isn't refused the sending is drawn and stored; then the note sees what the clerk has seen,
+    /// and so has the parcel.
     pub fn send(
         &mut self,
         desk: &Desk,
