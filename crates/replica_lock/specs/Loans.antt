@@ -16,8 +16,8 @@ use Rattle.replica_lock.specs.declared.fault.NodeLoanFault.TheVariants as fault
 use Rattle.replica_lock.specs.declared.loan.Loan.{Loan}
 use Rattle.replica_lock.specs.declared.loan.Loan.TheVariants as loan
 
--- the act of a loan, and what its amount is at most after a part of a replica: what is at home, or what is free of a
--- share
+-- the act of a loan, and what its amount is at most after a part of a replica: what is at home,
+-- or what is free of a share
 abbrev pub act_of : Loan → Act
 act_of (loan.Out holder conit amount) = act.Lend holder conit amount
 act_of (loan.Back owner conit amount) = act.Back owner conit amount

@@ -25,8 +25,8 @@ pub record LockedView : Type 0 where
   pub spare : ℕ
   pub room : ℕ
 
--- where the totals of a client's turns stand, and those of the entries made for it; those of allowances stand first, by
--- conit
+-- where the totals of a client's turns stand, and those of the entries made for it; those of allowances stand first,
+-- by conit
 abbrev pub turns_place : ℕ → ℕ → ℕ
 turns_place conits client = conits + client
 

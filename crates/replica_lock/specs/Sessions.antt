@@ -125,8 +125,8 @@ pub record HasHeard (setup : Setup) (before after : SessionView) : Type 0 where
   pub run : IsRun setup after.seen
   pub promised : IsKept setup after.seen
 
--- what a refusal says of what its session has seen: full, where the replica made as many entries as it may, with both
--- numbers
+-- what a refusal says of what its session has seen: full, where the replica made as many entries as it may,
+-- with both numbers
 abbrev pub IsFaultSeen : SessionView → NodeFault → Type 0
 IsFaultSeen session (fault.Full count stamp) =
     let part = part_of session.seen session.replica in

@@ -44,8 +44,8 @@ impl<'d, G: Gate> Model for Node<'d, G> {
 
 impl<'d, G: Gate> Node<'d, G> {
     /// The node of a clerk that drew nothing, and its roster. The setup is that of the clerk's desk. Each call of a
-    /// client passes the gate once. Want of memory is the only error, and gives the clerk back, which may have seen
-    /// more.
+    /// client passes the gate once. Want of memory is the only error, and gives the clerk back,
+    /// which may have seen more.
     pub fn new(
         alloc: Global,
         desk: &'d Desk,

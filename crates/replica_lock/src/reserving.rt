@@ -38,8 +38,8 @@ pub struct Accepted {
 
 impl<'n, 'd, G: Gate> Turn<'n, 'd, G> {
     /// Reserves an amount on a conit for a session's client: as much of each share as its later held writes may weigh,
-    /// of either sign. The amount is a plain count. It is a call of the client, which is drawn and stored with its
-    /// reply.
+    /// of either sign. The amount is a plain count. It is a call of the client,
+    /// which is drawn and stored with its reply.
     pub fn reserve(
         &mut self,
         session: &mut Session,
@@ -198,8 +198,8 @@ impl<'d, G: Gate> Node<'d, G> {
     }
 
     /// Writes with a weight that an allowance covers, in a turn of its own. It waits for the lock, and for nothing
-    /// else. `Full` and `NoMemory` make no entry, and leave the allowance as it was, and the session, but for what it
-    /// has seen.
+    /// else. `Full` and `NoMemory` make no entry, and leave the allowance as it was, and the session,
+    /// but for what it has seen.
     pub fn write_held<R: Wait>(
         &self,
         rt: &R,
