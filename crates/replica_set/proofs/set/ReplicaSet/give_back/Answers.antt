@@ -25,7 +25,8 @@ returns-clause-err c =
 
 pub returns-clause-may : goal.returns-clause-may
 returns-clause-may c =
-    may_at _ _ c.self.view_is c.self.invariant _ c.requires.holder c.index_mut-one.ensures.value c.give_back.result (λ core. MayReturn core c.args.owner c.args.conit c.args.amount) c.give_back.ensures.may
+    may_at _ _ c.self.view_is c.self.invariant _ c.requires.holder c.index_mut-one.ensures.value c.give_back.result
+    (λ core. MayReturn core c.args.owner c.args.conit c.args.amount) c.give_back.ensures.may
 
 pub give_back-requires-clause-owner : goal.give_back-requires-clause-owner
 give_back-requires-clause-owner c =
