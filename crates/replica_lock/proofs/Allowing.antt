@@ -1,4 +1,5 @@
--- What allowances rest on: in a run what is reserved is within a share, and it moves by what a call is granted and uses.
+-- What allowances rest on: in a run what is reserved is within a share,
+-- and it moves by what a call is granted and uses.
 use Rattle.std.proofs.Common.{◌≡◌, ℕ, ◌+◌, ◌<◌, ◌≤◌, List, [], ◌∷◌, ◌++◌, All, sum_by, unsigned_abs, sym, ap, ◌∙◌, subst, ⊎_elim, arith}
 use Rattle.std.proofs.lemmas.Bool.{cases_eq}
 use Rattle.std.proofs.lemmas.List.Elements.{All-from_get_or}

@@ -194,7 +194,8 @@ module _ (before after : LockedView) (setup : Setup) (client : ℕ) (entry : Ent
             ap (λ t. get_or t one 0) totals ∙ there ∙ still ∙ were ∙ sym same_there ∙ sym (ap (λ part. reserved part one) part-after))
             (cases_eq one conit);
         turns = λ one within. turns-after one within on.calls
-            (λ place other. ap (λ t. get_or t place 0) totals ∙ answered-else conits client before.totals kept.places among conit number here place (λ e. absurd (omega (arith, e, here, other)))) width;
+            (λ place other. ap (λ t. get_or t place 0) totals
+            ∙ answered-else conits client before.totals kept.places among conit number here place (λ e. absurd (omega (arith, e, here, other)))) width;
         made =
             ap (λ n. sum (drop (n + CLIENTS) after.totals)) width
             ∙ ap (λ t. sum (drop (conits + CLIENTS) t)) totals

@@ -69,4 +69,5 @@ module _ (setup : Setup) (sound : IsSetup setup) (before after : LockedView) (ol
   -- the part before the entry is the one that stood behind the lock
   pub HasMade-part : (made : HasMade setup old new moment done) → part_of made.front old.replica ≡ part_in before
   HasMade-part made =
-      ap (λ h. part_of h old.replica) (same_from_push made.front entered.front (entry_after old made.front moment done) (entry_after old entered.front moment done) (sym made.seen ∙ seen_is)).0 ∙ part_is
+      ap (λ h. part_of h old.replica) (same_from_push made.front entered.front (entry_after old made.front moment done)
+      (entry_after old entered.front moment done) (sym made.seen ∙ seen_is)).0 ∙ part_is

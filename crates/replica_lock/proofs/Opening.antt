@@ -69,7 +69,8 @@ module _ (conits client : ℕ) (before left gone : TallyView) where
 
   pub owns-both : HasPlacesOf conits client before → All (λ p. get_or before.owns p 0 ≢ 0) own_places
   owns-both has =
-      All-cons (λ p. get_or before.owns p 0 ≢ 0) _ (made_place conits client ∷ []) has.owns_turns (All-cons (λ p. get_or before.owns p 0 ≢ 0) _ [] has.owns_made (All-nil (λ p. get_or before.owns p 0 ≢ 0)))
+      All-cons (λ p. get_or before.owns p 0 ≢ 0) _ (made_place conits client ∷ []) has.owns_turns
+      (All-cons (λ p. get_or before.owns p 0 ≢ 0) _ [] has.owns_made (All-nil (λ p. get_or before.owns p 0 ≢ 0)))
 
   pub places-moved : HasPlacesOf conits client before
       → All (IsMoved before left gone) own_places

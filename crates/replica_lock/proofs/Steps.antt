@@ -37,7 +37,8 @@ pub record HasLeft (node : NodeView) (before : LockedView) (old new : SessionVie
       → IsLoanFaultOf before.core (part_in before) asked told
       → IsLoanFaultSeen node.desk.setup new asked told
 
--- A refused step, which left the core and the stored entries as they were, and whose note has seen what the clerk then has.
+-- A refused step, which left the core and the stored entries as they were,
+-- and whose note has seen what the clerk then has.
 module _ (node node_as : NodeView) (held : HeldView Label) (before after : LockedView) (session : SessionView) (tally now : TallyView) (note : NoteView)
     (agrees : Agreed node held before session tally now) (kept : IsLocked after) (core : after.core ≡ before.core) (stored : after.stored ≡ before.stored)
     (seen : (note.table ≡ session.desk) × (note.seen ≡ after.clerk.seen)) (learnt : IsPrefix session.seen note.seen)
@@ -85,20 +86,20 @@ module _ (node node_as : NodeView) (held : HeldView Label) (before after : Locke
   pub left : HasLeft node before session (noted session now note)
   left = record { heard = heard; fault = fault_seen; loan_fault = loan_fault_seen }
 
--- A step that made an entry that is no call, and counted it.
-module _ (node : NodeView) (held : HeldView Label) (before after : LockedView) (session : SessionView) (tally now counted : TallyView) (note : NoteView)
-    (moment : ℕ) (done : Act) (agrees : Agreed node held before session tally now) (counts : counted ≡ record now { amounts = counted.amounts })
+-- A step that made an entry that is no call.
+module _ (node : NodeView) (held : HeldView Label) (before after : LockedView) (session : SessionView) (tally now : TallyView) (note : NoteView)
+    (moment : ℕ) (done : Act) (agrees : Agreed node held before session tally now)
     (seen : (note.table ≡ session.desk) × (note.seen ≡ after.clerk.seen)) (entered : HasEntered before after session.seen (entry_in before moment done))
     (quiet : is_call_of session.client done ≡ false) where
   tells_made : Tells node before session
   tells_made = tells node held before session tally now agrees
 
-  value_made : noted_made session counted note ≡ record session { made = session.made + 1; seen = after.clerk.seen }
-  value_made = let cells = ap (λ (t : TallyView). t.id) counts ∙ agrees.cell in let desks = seen.0 in let seens = seen.1 in cc
+  value_made : noted_made session now note ≡ record session { made = session.made + 1; seen = after.clerk.seen }
+  value_made = let cells = agrees.cell in let desks = seen.0 in let seens = seen.1 in cc
 
-  pub made : HasMade node.desk.setup session (noted_made session counted note) moment done
+  pub made : HasMade node.desk.setup session (noted_made session now note) moment done
   made =
-      HasMade-entered node.desk.setup agrees.turn.keeps.sound before after session (noted_made session counted note) moment done
+      HasMade-entered node.desk.setup agrees.turn.keeps.sound before after session (noted_made session now note) moment done
       tells_made.setup tells_made.replica entered value_made tells_made.calls tells_made.known quiet
 
   -- a message that was due behind the lock is due in what the session has seen
@@ -107,7 +108,7 @@ module _ (node : NodeView) (held : HeldView Label) (before after : LockedView) (
       → message ≡ message_to node.desk.setup session.replica (part_of made.front session.replica) moment to
   message_made to message is =
       let part =
-      HasMade-part node.desk.setup agrees.turn.keeps.sound before after session (noted_made session counted note) moment done
+      HasMade-part node.desk.setup agrees.turn.keeps.sound before after session (noted_made session now note) moment done
       tells_made.setup tells_made.replica entered value_made made in
       is ∙ sym (ap (λ s. message_to s session.replica (part_of made.front session.replica) moment to) tells_made.setup
       ∙ ap (λ r. message_to before.core.setup r (part_of made.front session.replica) moment to) tells_made.replica

@@ -19,8 +19,8 @@ use Rattle.replica_lock.specs.declared.fault.NodeFault.{NodeFault}
 use Rattle.replica_lock.specs.declared.reserving.Reserving.{Reserving}
 use Rattle.replica_lock.specs.declared.reserving.Reserving.TheVariants as reserving
 
--- What may be asked with an amount on a conit: a held write and a release take no more than it out of what is reserved there. So a
--- release is in range wherever what is reserved is.
+-- What may be asked with an amount on a conit: a held write and a release take no more than it out of what is reserved
+-- there. So a release is in range wherever what is reserved is.
 abbrev pub MayAskWith : Setup → ℕ → ℕ → Request → Type 0
 MayAskWith setup conit amount (request.Held weight op) =
     IsWeightInRange setup weight × IsOpInRange op × (weight.conit ≡ conit) × (unsigned_abs weight.nweight ≤ amount)
@@ -29,8 +29,9 @@ MayAskWith setup conit amount (request.Release at back) = (at ≡ conit) × (bac
 MayAskWith setup conit amount (request.Write weights op) = IsRequestInRange setup (request.Write weights op)
 MayAskWith setup conit amount (request.Read key needs) = IsRequestInRange setup (request.Read key needs)
 
--- After a call of a session's client was answered: it is entered, with the reply that is due there. Of the totals, the client's turns and
--- the entries made for it have one more, and that of the conit asked for is what is reserved there then. And what the session has seen.
+-- After a call of a session's client was answered: it is entered, with the reply that is due there. Of the totals, the
+-- client's turns and the entries made for it have one more, and that of the conit asked for is what is reserved there
+-- then. And what the session has seen.
 pub record HasAnswered (before after : TurnView) (old new : SessionView) (moment conit : ℕ) (asked : Request) (given : Reply) : Type 0 where
   pub entered : HasEntered before.state after.state old.seen
       (entry_in before.state moment (act.Call old.client (calls_in (part_in before.state) old.client) asked given))
@@ -49,14 +50,16 @@ pub record HasRefused (before after : TurnView) (old new : SessionView) (told : 
   pub fault : IsNodeFaultOf before.state.core told
   pub fault_seen : IsFaultSeen new told
 
--- a reply to a reserve that grants nothing: the amount passes a share by itself, with what is reserved, or with what a peer may miss
+-- a reply to a reserve that grants nothing: the amount passes a share by itself, with what is reserved, or with what a
+-- peer may miss
 abbrev pub IsReserveWait : Reply → Type 0
 IsReserveWait (reply.TooHeavy conit peer weight share) = Unit {0}
 IsReserveWait (reply.WaitHeld conit peer held weight share) = Unit {0}
 IsReserveWait (reply.WaitShare conit peer missing held weight share) = Unit {0}
 IsReserveWait other = ⊥
 
--- A reserve of an amount on a conit of a node, where it was answered: an allowance of just that amount, or the reply that grants none.
+-- A reserve of an amount on a conit of a node, where it was answered: an allowance of just that amount, or the reply
+-- that grants none.
 abbrev pub IsReserved : NodeView → ℕ → ℕ → (Reply → Type 0) → Reserving → Type 0
 IsReserved node conit amount Answered (reserving.Granted allowance) = Answered reply.Granted × (allowance ≡ allowance_of node conit amount)
 IsReserved node conit amount Answered (reserving.Waiting given) = Answered given × IsReserveWait given

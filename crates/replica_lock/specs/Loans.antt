@@ -16,7 +16,8 @@ use Rattle.replica_lock.specs.declared.fault.NodeLoanFault.TheVariants as fault
 use Rattle.replica_lock.specs.declared.loan.Loan.{Loan}
 use Rattle.replica_lock.specs.declared.loan.Loan.TheVariants as loan
 
--- the act of a loan, and what its amount is at most after a part of a replica: what is at home, or what is free of a share
+-- the act of a loan, and what its amount is at most after a part of a replica: what is at home,
+-- or what is free of a share
 abbrev pub act_of : Loan → Act
 act_of (loan.Out holder conit amount) = act.Lend holder conit amount
 act_of (loan.Back owner conit amount) = act.Back owner conit amount
@@ -37,8 +38,8 @@ abbrev pub IsLoanInRange : Setup → ℕ → Loan → Type 0
 IsLoanInRange setup replica (loan.Out holder conit amount) = IsBetween setup replica holder conit amount
 IsLoanInRange setup replica (loan.Back owner conit amount) = IsBetween setup replica owner conit amount
 
--- Why a loan was refused after a part of a replica, and what a node then says: an amount on a conit that passes what is at home, or what
--- is free of the share of an owner's bound.
+-- Why a loan was refused after a part of a replica, and what a node then says: an amount on a conit that passes what is
+-- at home, or what is free of the share of an owner's bound.
 abbrev pub PassesMost : Setup → ℕ → List Entry → Loan → NodeLoanFault → Type 0
 PassesMost setup replica part (loan.Out holder conit amount) (fault.Home at most) =
     (at ≡ conit) × (most ≡ home setup replica part conit) × (most < amount)

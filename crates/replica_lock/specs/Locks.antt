@@ -14,9 +14,9 @@ use Rattle.run_history.specs.Ticks.{entries_of}
 use Rattle.replica_core.specs.States.{Core}
 use Rattle.replica_core.specs.Stands.{Stands}
 
--- What stands behind the lock: what the replica keeps, its clerk, the stored entries with their ticks, and the totals by place: of the
--- allowances out on each conit, of each client's turns, and of the entries made for each client. And for how many more own writes and
--- stored entries there surely is room.
+-- What stands behind the lock: what the replica keeps, its clerk, the stored entries with their ticks, and the totals
+-- by place: of the allowances out on each conit, of each client's turns, and of the entries made for each client. And
+-- for how many more own writes and stored entries there surely is room.
 pub record LockedView : Type 0 where
   pub core : Core
   pub clerk : ClerkView
@@ -25,7 +25,8 @@ pub record LockedView : Type 0 where
   pub spare : ℕ
   pub room : ℕ
 
--- where the totals of a client's turns stand, and those of the entries made for it; those of allowances stand first, by conit
+-- where the totals of a client's turns stand, and those of the entries made for it; those of allowances stand first,
+-- by conit
 abbrev pub turns_place : ℕ → ℕ → ℕ
 turns_place conits client = conits + client
 
@@ -40,9 +41,9 @@ part_in locked = entries_of locked.stored
 abbrev pub entry_in : LockedView → ℕ → Act → Entry
 entry_in locked moment done = record { replica = locked.core.replica; moment = moment_at (part_in locked) moment; act = done }
 
--- What the lock keeps, whenever the value behind it can be got: the replica stands for the stored entries; these are the clerk's part,
--- and all that it has seen of its replica; what is reserved on each conit is the total of the allowances out; the calls of each client
--- are its turns; and the entries are those made for all clients.
+-- What the lock keeps, whenever the value behind it can be got: the replica stands for the stored entries; these are
+-- the clerk's part, and all that it has seen of its replica; what is reserved on each conit is the total of the
+-- allowances out; the calls of each client are its turns; and the entries are those made for all clients.
 pub record IsLocked (locked : LockedView) : Type 0 where
   pub replica : locked.clerk.replica ≡ locked.core.replica
   pub stands : Stands (part_in locked) locked.core
@@ -69,8 +70,8 @@ pub record HasDrawn (setup : Setup) (before after : ClerkView) (entry : Entry) :
 abbrev pub one_more_at : ℕ → List ℕ → List ℕ
 one_more_at place totals = slice_set totals place (slice_index totals place + 1)
 
--- The lock's value after one more entry, which comes behind all that was seen: by the clerk, and by a session. It is drawn once, at its
--- place in the history, and stored with it.
+-- The lock's value after one more entry, which comes behind all that was seen: by the clerk, and by a session. It is
+-- drawn once, at its place in the history, and stored with it.
 pub record HasEntered (before after : LockedView) (known : List Entry) (entry : Entry) : Type 0 where
   pub front : List Entry
   pub seen : after.clerk.seen ≡ front ++ entry ∷ []

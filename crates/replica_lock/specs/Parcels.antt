@@ -19,11 +19,13 @@ pub record ParcelView : Type 0 where
 abbrev pub HasSending : List Entry → Message → Type 0
 HasSending history message = Contains (sent_in (part_of history message.from)) message
 
--- the message that a replica sends to another after a part of its own, at the moment that follows a handed one, where no firsts are given
+-- the message that a replica sends to another after a part of its own, at the moment that follows a handed one, where
+-- no firsts are given
 abbrev pub message_to : Setup → ℕ → List Entry → ℕ → ℕ → Message
 message_to setup replica part moment to = message_of setup replica part (moment_at part moment) to (zeros setup)
 
--- A message is to be answered by a replica that did a part: it has writes, or of some origin the replica has more writes than it tells of.
+-- A message is to be answered by a replica that did a part: it has writes, or of some origin the replica has more
+-- writes than it tells of.
 abbrev pub IsAnswerDue : Setup → ℕ → List Entry → Message → Type 0
 IsAnswerDue setup replica part message =
     (message.writes ≢ []) ⊎ ((origin : ℕ) × (origin < setup.replicas) × (told_have message origin < have replica part origin))

@@ -10,7 +10,8 @@ use Rattle.replica_lock.specs.Sessions.{NodeView}
 use Rattle.replica_lock.specs.declared.fault.SessionFault.{SessionFault}
 use Rattle.replica_lock.specs.declared.fault.SessionFault.TheVariants as fault
 
--- which node it is of (its cell, the table of its desk, the count of its conits, its replica), and the clients that have a session
+-- which node it is of (its cell, the table of its desk, the count of its conits, its replica), and the clients that
+-- have a session
 pub record RosterView : Type 0 where
   pub cell : TableId
   pub desk : TableId

@@ -32,8 +32,8 @@ pub record TurnView : Type 0 where
   pub node : NodeView
   pub state : LockedView
 
--- Which node a session is of (its cell, the table of its desk, the count of its conits, its replica), which client it has, its turns and
--- the entries made for it, and what it has seen of the history.
+-- Which node a session is of (its cell, the table of its desk, the count of its conits, its replica), which client it
+-- has, its turns and the entries made for it, and what it has seen of the history.
 pub record SessionView : Type 0 where
   pub cell : TableId
   pub desk : TableId
@@ -59,8 +59,8 @@ calls_of history replica client = filter (λ entry. is_call_of client entry.act)
 abbrev pub own_calls : SessionView → List Entry
 own_calls session = calls_of session.seen session.replica session.client
 
--- What a session's tally keeps: it owns the places of its client's turns and of the entries made for it, with these numbers there; and
--- its turns are the calls of its client that it has seen.
+-- What a session's tally keeps: it owns the places of its client's turns and of the entries made for it, with these
+-- numbers there; and its turns are the calls of its client that it has seen.
 pub record KeepsSession (session : SessionView) (tally : TallyView) : Type 0 where
   pub among : session.client < CLIENTS
   pub few : session.conits ≤ CONITS_MAX
@@ -78,9 +78,9 @@ call_after session front moment asked given = record {
   act = act.Call session.client session.calls asked given;
 }
 
--- What a session has seen after a call of its client that was answered: a run that keeps its promises, begins with all that the session
--- had seen and ends with this call, whose reply is the one that is due there. Of the client's calls it has those that the session had
--- seen, followed by this one.
+-- What a session has seen after a call of its client that was answered: a run that keeps its promises, begins with all
+-- that the session had seen and ends with this call, whose reply is the one that is due there. Of the client's calls it
+-- has those that the session had seen, followed by this one.
 pub record HasCalled (setup : Setup) (before after : SessionView) (moment : ℕ) (asked : Request) (given : Reply) : Type 0 where
   pub front : List Entry
   pub seen : after.seen ≡ front ++ call_after before front moment asked given ∷ []
@@ -99,8 +99,8 @@ entry_after session front moment done = record {
   act = done;
 }
 
--- What a session has seen after an entry was made for its client that is no call: a run that keeps its promises, begins with all that
--- the session had seen and ends with this entry, which is due there. It has the same calls of the client.
+-- What a session has seen after an entry was made for its client that is no call: a run that keeps its promises, begins
+-- with all that the session had seen and ends with this entry, which is due there. It has the same calls of the client.
 pub record HasMade (setup : Setup) (before after : SessionView) (moment : ℕ) (done : Act) : Type 0 where
   pub front : List Entry
   pub seen : after.seen ≡ front ++ entry_after before front moment done ∷ []
@@ -116,8 +116,8 @@ pub record HasSent (setup : Setup) (before after : SessionView) (moment to : ℕ
   pub made : HasMade setup before after moment (act.Send message)
   pub message_is : message ≡ message_to setup before.replica (part_of made.front before.replica) moment to
 
--- What a session has seen after a call that was refused: a run that begins with all that it had seen, and has the same calls of the
--- client.
+-- What a session has seen after a call that was refused: a run that begins with all that it had seen, and has the same
+-- calls of the client.
 pub record HasHeard (setup : Setup) (before after : SessionView) : Type 0 where
   pub value : after ≡ record before { seen = after.seen }
   pub told : IsPrefix before.seen after.seen
@@ -125,7 +125,8 @@ pub record HasHeard (setup : Setup) (before after : SessionView) : Type 0 where
   pub run : IsRun setup after.seen
   pub promised : IsKept setup after.seen
 
--- what a refusal says of what its session has seen: full, where the replica made as many entries as it may, with both numbers
+-- what a refusal says of what its session has seen: full, where the replica made as many entries as it may,
+-- with both numbers
 abbrev pub IsFaultSeen : SessionView → NodeFault → Type 0
 IsFaultSeen session (fault.Full count stamp) =
     let part = part_of session.seen session.replica in

@@ -90,8 +90,8 @@ impl<'d, G: Gate> Node<'d, G> {
         }
     }
 
-    /// Moves all that another allowance has to this one. The other comes back exactly where their conits differ, and both
-    /// are as they were. It makes no entry, takes no memory and waits for nobody.
+    /// Moves all that another allowance has to this one. The other comes back exactly where their conits differ, and
+    /// both are as they were. It makes no entry, takes no memory and waits for nobody.
     pub fn join(&self, allowance: &mut Allowance, other: Allowance) -> Result<(), Allowance>
         requires allowance { IsAllowanceOf self.now allowance.old }
         requires other { IsAllowanceOf self.now other }

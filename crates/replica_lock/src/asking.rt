@@ -18,8 +18,8 @@ use tact_io::Gate;
 use weight_ledger::Held;
 
 impl<'n, 'd, G: Gate> Turn<'n, 'd, G> {
-    // Answers a call of a session's client, as `Replica::call` does; draws it and stores it. The allowance is more by what
-    // is granted, and less by what is used; a refusal leaves it as it was.
+    // Answers a call of a session's client, as `Replica::call` does; draws it and stores it. The allowance is more by
+    // what is granted, and less by what is used; a refusal leaves it as it was.
     pub(crate) fn ask(
         &mut self,
         session: &mut Session,

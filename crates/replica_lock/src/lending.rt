@@ -28,9 +28,9 @@ use tact_base::RoomyList;
 use tact_io::Gate;
 
 impl<'d, G: Gate> Node<'d, G> {
-    /// Lends a holder a further amount of its own bound on a conit, in a turn of its own. The moment of the entry is the
-    /// greater of the handed one and that of the replica's last entry. `Full` comes first, then `Home` exactly where the amount
-    /// passes what is at home, then `NoMemory`. None makes an entry.
+    /// Lends a holder a further amount of its own bound on a conit, in a turn of its own. The moment of the entry is
+    /// the greater of the handed one and that of the replica's last entry. `Full` comes first, then `Home` exactly
+    /// where the amount passes what is at home, then `NoMemory`. None makes an entry.
     pub fn lend<R: Wait>(
         &self,
         rt: &R,
@@ -56,9 +56,9 @@ impl<'d, G: Gate> Node<'d, G> {
         answer
     }
 
-    /// Gives back to an owner an amount of its share of that owner's bound on a conit, in a turn of its own. The moment of
-    /// the entry is the greater of the handed one and that of the replica's last entry. `Full` comes first, then `Free` exactly
-    /// where the amount passes what is free of the share, then `NoMemory`. None makes an entry.
+    /// Gives back to an owner an amount of its share of that owner's bound on a conit, in a turn of its own. The moment
+    /// of the entry is the greater of the handed one and that of the replica's last entry. `Full` comes first, then
+    /// `Free` exactly where the amount passes what is free of the share, then `NoMemory`. None makes an entry.
     pub fn give_back<R: Wait>(
         &self,
         rt: &R,
@@ -87,7 +87,8 @@ impl<'d, G: Gate> Node<'d, G> {
 
 impl<'n, 'd, G: Gate> Turn<'n, 'd, G> {
     /// Lends a holder a further amount of its own bound on a conit, as `Replica::lend` does; draws the entry and stores
-    /// it. The amount is a plain count. `Full` comes first, then `Home` exactly where the amount passes what is at home.
+    /// it. The amount is a plain count. `Full` comes first, then `Home` exactly where the amount passes what is at
+    /// home.
     pub fn lend(
         &mut self,
         session: &mut Session,
@@ -126,9 +127,9 @@ impl<'n, 'd, G: Gate> Turn<'n, 'd, G> {
         )
     }
 
-    /// Gives back to an owner an amount of its share of that owner's bound on a conit, as `Replica::give_back` does; draws
-    /// the entry and stores it. The amount is a plain count. `Full` comes first, then `Free` exactly where the amount
-    /// passes what is free of the share.
+    /// Gives back to an owner an amount of its share of that owner's bound on a conit, as `Replica::give_back` does;
+    /// draws the entry and stores it. The amount is a plain count. `Full` comes first, then `Free` exactly where the
+    /// amount passes what is free of the share.
     pub fn give_back(
         &mut self,
         session: &mut Session,
@@ -193,28 +194,16 @@ impl<'n, 'd, G: Gate> Turn<'n, 'd, G> {
         let node = self.node;
         stand(&self.locked);
         self.held.agree(&mut session.tally);
-        let answer = self
-            .locked
-            .lend(node.desk, &mut session.note, moment, session.client, loan);
-        match answer {
-            Ok(()) => {
-                count_made(
-                    &mut self.held,
-                    &mut session.tally,
-                    session.conits,
-                    session.client,
-                );
-                session.made += 1;
-                Ok(())
-            }
-            Err(fault) => Err(fault),
-        }
+        self.locked
+            .lend(node.desk, &mut session.note, moment, session.client, loan)?;
+        count_made(&mut self.held, session);
+        Ok(())
     }
 }
 
 impl Locked {
-    /// Makes the entry of a loan, for a session that has seen what a note has. The clerk learns the note; where it isn't
-    /// refused the loan is drawn and stored; then the note sees what the clerk has seen.
+    /// Makes the entry of a loan, for a session that has seen what a note has. The clerk learns the note; where it
+    /// isn't refused the loan is drawn and stored; then the note sees what the clerk has seen.
     pub fn lend(
         &mut self,
         desk: &Desk,

@@ -100,9 +100,9 @@ impl Locked {
         let _ = &self.conits;
     }
 
-    /// Answers a call of a client, for a session that has seen what a note has. It takes nothing out of what is reserved
-    /// but on the conit, and there no more than there is. The clerk learns the note; where it isn't refused the call is
-    /// drawn and stored; then the note sees what the clerk has seen.
+    /// Answers a call of a client, for a session that has seen what a note has. It takes nothing out of what is
+    /// reserved but on the conit, and there no more than there is. The clerk learns the note; where it isn't refused
+    /// the call is drawn and stored; then the note sees what the clerk has seen.
     pub fn call(
         &mut self,
         desk: &Desk,

@@ -23,8 +23,8 @@ use tact_base::{CLIENTS, Items};
 use tact_io::Gate;
 use weight_ledger::{Cell, CellFault};
 
-/// A replica that its clients share under a lock, with its part of the history. Its calls wait for the lock, and promise
-/// what they say where they return.
+/// A replica that its clients share under a lock, with its part of the history. Its calls wait for the lock, and
+/// promise what they say where they return.
 pub struct Node<'d, G: Gate> {
     pub(crate) desk: &'d Desk,
     pub(crate) cell: Cell<LockedBox>,
@@ -44,7 +44,8 @@ impl<'d, G: Gate> Model for Node<'d, G> {
 
 impl<'d, G: Gate> Node<'d, G> {
     /// The node of a clerk that drew nothing, and its roster. The setup is that of the clerk's desk. Each call of a
-    /// client passes the gate once. Want of memory is the only error, and gives the clerk back, which may have seen more.
+    /// client passes the gate once. Want of memory is the only error, and gives the clerk back,
+    /// which may have seen more.
     pub fn new(
         alloc: Global,
         desk: &'d Desk,
@@ -84,8 +85,8 @@ impl<'d, G: Gate> Node<'d, G> {
         }
     }
 
-    /// A session for a client that has none yet. `Taken` comes exactly where it has one. Both errors leave the roster as
-    /// it was.
+    /// A session for a client that has none yet. `Taken` comes exactly where it has one. Both errors leave the roster
+    /// as it was.
     pub fn session(&self, roster: &mut Roster, client: u32) -> Result<Session, SessionFault>
         requires roster { IsRosterOf self.now roster.old }
         requires client { client < CLIENTS }

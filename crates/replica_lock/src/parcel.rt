@@ -4,8 +4,8 @@ use run_model::Message;
 use std::marker::Model;
 use tact_base::NoMemory;
 
-/// A message on its way, with a note whose history has its sending. It may go to another thread. It is made by sending, or
-/// as the twin of another.
+/// A message on its way, with a note whose history has its sending. It may go to another thread. It is made by sending,
+/// or as the twin of another.
 #[derive(Drop)]
 pub struct Parcel {
     pub(crate) message: Message,
@@ -34,8 +34,8 @@ impl Parcel {
         &self.message
     }
 
-    /// Another parcel of the same message, whose note has seen the same; this one stays as it is. The desk is the parcel's.
-    /// `NoMemory` is its only error.
+    /// Another parcel of the same message, whose note has seen the same; this one stays as it is. The desk is the
+    /// parcel's. `NoMemory` is its only error.
     pub fn twin(&mut self, desk: &Desk) -> Result<Parcel, NoMemory>
         requires { self.old.desk ≡ desk.now.table }
         ensures kept { self.new ≡ self.old }

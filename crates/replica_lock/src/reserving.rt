@@ -37,8 +37,9 @@ pub struct Accepted {
 }
 
 impl<'n, 'd, G: Gate> Turn<'n, 'd, G> {
-    /// Reserves an amount on a conit for a session's client: as much of each share as its later held writes may weigh, of
-    /// either sign. The amount is a plain count. It is a call of the client, which is drawn and stored with its reply.
+    /// Reserves an amount on a conit for a session's client: as much of each share as its later held writes may weigh,
+    /// of either sign. The amount is a plain count. It is a call of the client,
+    /// which is drawn and stored with its reply.
     pub fn reserve(
         &mut self,
         session: &mut Session,
@@ -106,8 +107,8 @@ impl<'n, 'd, G: Gate> Turn<'n, 'd, G> {
         Ok(amount)
     }
 
-    /// Writes with a weight that an allowance covers, which never waits. The weight is on the allowance's conit and of at
-    /// most its size, which the allowance then is less by. It is a call of the session's client, which is drawn and
+    /// Writes with a weight that an allowance covers, which never waits. The weight is on the allowance's conit and of
+    /// at most its size, which the allowance then is less by. It is a call of the session's client, which is drawn and
     /// stored. A refusal leaves the allowance as it was.
     pub fn write_held(
         &mut self,
@@ -145,8 +146,8 @@ impl<'n, 'd, G: Gate> Turn<'n, 'd, G> {
 }
 
 impl<'d, G: Gate> Node<'d, G> {
-    /// Reserves an amount on a conit, a plain count, in a turn of its own. `Full` and `NoMemory` make no entry, and leave the
-    /// session as it was, but for what it has seen.
+    /// Reserves an amount on a conit, a plain count, in a turn of its own. `Full` and `NoMemory` make no entry, and
+    /// leave the session as it was, but for what it has seen.
     pub fn reserve<R: Wait>(
         &self,
         rt: &R,
@@ -170,8 +171,8 @@ impl<'d, G: Gate> Node<'d, G> {
         answer
     }
 
-    /// Gives back all that an allowance has, in a turn of its own, and tells how much that was. `Full` and `NoMemory` make no
-    /// entry, and leave the allowance as it was, and the session, but for what it has seen.
+    /// Gives back all that an allowance has, in a turn of its own, and tells how much that was. `Full` and `NoMemory`
+    /// make no entry, and leave the allowance as it was, and the session, but for what it has seen.
     pub fn release<R: Wait>(
         &self,
         rt: &R,
@@ -196,8 +197,9 @@ impl<'d, G: Gate> Node<'d, G> {
         answer
     }
 
-    /// Writes with a weight that an allowance covers, in a turn of its own. It waits for the lock, and for nothing else. `Full`
-    /// and `NoMemory` make no entry, and leave the allowance as it was, and the session, but for what it has seen.
+    /// Writes with a weight that an allowance covers, in a turn of its own. It waits for the lock, and for nothing
+    /// else. `Full` and `NoMemory` make no entry, and leave the allowance as it was, and the session,
+    /// but for what it has seen.
     pub fn write_held<R: Wait>(
         &self,
         rt: &R,

@@ -26,8 +26,8 @@ use tact_base::RoomyList;
 use tact_io::Gate;
 
 impl<'d, G: Gate> Node<'d, G> {
-    /// Sends a message to another replica, in a turn of its own: by origin its writes begin past those that the other is known
-    /// to have. The moment of the entry is the greater of the handed one and that of the replica's last entry.
+    /// Sends a message to another replica, in a turn of its own: by origin its writes begin past those that the other
+    /// is known to have. The moment of the entry is the greater of the handed one and that of the replica's last entry.
     pub fn send<R: Wait>(
         &self,
         rt: &R,
@@ -52,8 +52,8 @@ impl<'d, G: Gate> Node<'d, G> {
 }
 
 impl<'n, 'd, G: Gate> Turn<'n, 'd, G> {
-    /// Whether a message to a replica is due: of some other origin it has more writes than it knows that replica to have.
-    /// It makes no entry and takes no memory.
+    /// Whether a message to a replica is due: of some other origin it has more writes than it knows that replica to
+    /// have. It makes no entry and takes no memory.
     pub fn due(&self, to: u32) -> bool
         requires { to < self.now.node.desk.setup.replicas }
         ensures { IsTrue result ↔ IsBehind self.now.state.core.setup self.now.state.core.replica (part_in self.now.state) to }
@@ -61,8 +61,8 @@ impl<'n, 'd, G: Gate> Turn<'n, 'd, G> {
         self.locked.due(to)
     }
 
-    /// Sends a message to another replica, as `Replica::send` does where no firsts are given; draws the entry and stores it.
-    /// The parcel carries the same message.
+    /// Sends a message to another replica, as `Replica::send` does where no firsts are given; draws the entry and
+    /// stores it. The parcel carries the same message.
     pub fn send(&mut self, session: &mut Session, moment: u64, to: u32) -> Result<Parcel, NodeFault>
         requires session { IsSessionOf self.old.node session.old }
         requires moment { moment ≤ MOMENT_MAX }
@@ -87,22 +87,11 @@ impl<'n, 'd, G: Gate> Turn<'n, 'd, G> {
         let node = self.node;
         stand(&self.locked);
         self.held.agree(&mut session.tally);
-        let answer = self
+        let parcel = self
             .locked
-            .send(node.desk, &mut session.note, moment, session.client, to);
-        match answer {
-            Ok(parcel) => {
-                count_made(
-                    &mut self.held,
-                    &mut session.tally,
-                    session.conits,
-                    session.client,
-                );
-                session.made += 1;
-                Ok(parcel)
-            }
-            Err(fault) => Err(fault),
-        }
+            .send(node.desk, &mut session.note, moment, session.client, to)?;
+        count_made(&mut self.held, session);
+        Ok(parcel)
     }
 }
 
@@ -129,8 +118,9 @@ impl Locked {
         self.firsts.len() as u32
     }
 
-    /// Sends a message to another replica, for a session that has seen what a note has. The clerk learns the note; where it isn't
-    /// refused the sending is drawn and stored; then the note sees what the clerk has seen, and so has the parcel.
+    /// Sends a message to another replica, for a session that has seen what a note has. The clerk learns the note;
+    /// where it isn't refused the sending is drawn and stored; then the note sees what the clerk has seen,
+    /// and so has the parcel.
     pub fn send(
         &mut self,
         desk: &Desk,

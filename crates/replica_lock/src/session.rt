@@ -3,8 +3,8 @@ use run_history::Note;
 use std::marker::Model;
 use weight_ledger::Tally;
 
-/// A client's place at a node: the right to its calls, one after another, and what it has seen of the history. It may go
-/// to another thread, and can't be copied or made but by its node.
+/// A client's place at a node: the right to its calls, one after another, and what it has seen of the history. It may
+/// go to another thread, and can't be copied or made but by its node.
 #[derive(Drop)]
 pub struct Session {
     pub(crate) replica: u32,

@@ -29,8 +29,8 @@ use tact_base::RoomyList;
 use tact_io::Gate;
 
 impl<'d, G: Gate> Node<'d, G> {
-    /// Takes a parcel that is addressed to its replica, in a turn of its own. The moment of the entry is the greater of the
-    /// handed one and that of the replica's last entry. A refusal gives the parcel back, with the same message.
+    /// Takes a parcel that is addressed to its replica, in a turn of its own. The moment of the entry is the greater of
+    /// the handed one and that of the replica's last entry. A refusal gives the parcel back, with the same message.
     pub fn take<R: Wait>(
         &self,
         rt: &R,
@@ -56,16 +56,16 @@ impl<'d, G: Gate> Node<'d, G> {
 }
 
 impl<'n, 'd, G: Gate> Turn<'n, 'd, G> {
-    /// Whether a message is to be answered by one to its sender: it has writes, or of some origin the replica has more than
-    /// it tells of. It makes no entry and takes no memory.
+    /// Whether a message is to be answered by one to its sender: it has writes, or of some origin the replica has more
+    /// than it tells of. It makes no entry and takes no memory.
     pub fn answer_due(&self, message: &Message) -> bool
         ensures { IsTrue result ↔ IsAnswerDue self.now.state.core.setup self.now.state.core.replica (part_in self.now.state) message.now }
     {
         self.locked.answer_due(message)
     }
 
-    /// Takes a parcel that is addressed to its replica, as `Replica::take` does its message, which fits since it was sent;
-    /// draws the entry and stores it. A refusal gives the parcel back, with the same message.
+    /// Takes a parcel that is addressed to its replica, as `Replica::take` does its message, which fits since it was
+    /// sent; draws the entry and stores it. A refusal gives the parcel back, with the same message.
     pub fn take(
         &mut self,
         session: &mut Session,
@@ -94,20 +94,9 @@ impl<'n, 'd, G: Gate> Turn<'n, 'd, G> {
         let node = self.node;
         stand(&self.locked);
         self.held.agree(&mut session.tally);
-        let answer = self.locked.take(node.desk, &mut session.note, moment, session.client, parcel);
-        match answer {
-            Ok(()) => {
-                count_made(
-                    &mut self.held,
-                    &mut session.tally,
-                    session.conits,
-                    session.client,
-                );
-                session.made += 1;
-                Ok(())
-            }
-            Err(fault) => Err(fault),
-        }
+        self.locked.take(node.desk, &mut session.note, moment, session.client, parcel)?;
+        count_made(&mut self.held, session);
+        Ok(())
     }
 }
 
@@ -128,8 +117,9 @@ impl Locked {
         false
     }
 
-    /// Takes a parcel that is addressed to its replica, for a session that has seen what a note has. The clerk learns that note
-    /// and the parcel's; where it isn't refused the taking is drawn and stored; then the note sees what the clerk has seen.
+    /// Takes a parcel that is addressed to its replica, for a session that has seen what a note has. The clerk learns
+    /// that note and the parcel's; where it isn't refused the taking is drawn and stored; then the note sees what the
+    /// clerk has seen.
     pub fn take(
         &mut self,
         desk: &Desk,

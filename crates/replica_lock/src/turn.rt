@@ -117,7 +117,8 @@ impl<'n, 'd, G: Gate> Turn<'n, 'd, G> {
     }
 }
 
-// Counts a call among a client's turns and among the entries made for it, in the totals and in the tally that owns them.
+// Counts a call among a client's turns and among the entries made for it,
+// in the totals and in the tally that owns them.
 pub(crate) fn count(
     held: &mut Held<'_, LockedBox>,
     tally: &mut Tally<Label>,
@@ -140,22 +141,19 @@ pub(crate) fn count(
     held.raise(tally, place + CLIENTS, 1);
 }
 
-// Counts an entry that is no call among those made for a client, in the totals and in the tally that owns them.
-pub(crate) fn count_made(
-    held: &mut Held<'_, LockedBox>,
-    tally: &mut Tally<Label>,
-    conits: u32,
-    client: u32,
-)
-    requires cell { tally.old.id ≡ held.old.cell.id }
-    requires client { client < CLIENTS }
-    requires few { conits ≤ CONITS_MAX }
-    requires places { (held.old.cell.shared ≡ conits) × (held.old.cell.owned ≡ 2 * CLIENTS) }
-    requires made { (slice_index tally.old.owns (made_place conits client) ≢ 0) × (slice_index held.old.book (made_place conits client) + 1 < 2 ^ 64) }
-    ensures book { held.new ≡ record held.old { book = one_more_at (made_place conits client) held.old.book } }
-    ensures id { tally.new ≡ record tally.old { amounts = tally.new.amounts } }
-    ensures turns { slice_index tally.new.amounts (turns_place conits client) ≡ slice_index tally.old.amounts (turns_place conits client) }
-    ensures made { slice_index tally.new.amounts (made_place conits client) ≡ slice_index tally.old.amounts (made_place conits client) + 1 }
+// Counts an entry that is no call among those made for a session's client, in the totals and at the session.
+pub(crate) fn count_made(held: &mut Held<'_, LockedBox>, session: &mut Session)
+    requires cell { session.old.cell ≡ held.old.cell.id }
+    requires places { (held.old.cell.shared ≡ session.old.conits) × (held.old.cell.owned ≡ 2 * CLIENTS) }
+    requires agrees { slice_index held.old.book (made_place session.old.conits session.old.client) ≡ session.old.made }
+    requires room { session.old.made + 1 < 2 ^ 64 }
+    ensures book { held.new ≡ record held.old { book = one_more_at (made_place session.old.conits session.old.client) held.old.book } }
+    ensures session { session.new ≡ record session.old { made = session.old.made + 1 } }
 {
-    held.raise(tally, conits + CLIENTS + client, 1);
+    held.raise(
+        &mut session.tally,
+        session.conits + CLIENTS + session.client,
+        1,
+    );
+    session.made += 1;
 }

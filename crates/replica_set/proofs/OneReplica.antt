@@ -43,8 +43,8 @@ abbrev pub state_of : Setup → List ReplicaState → SetState
 state_of setup ones = record { setup = setup; cores = map core_of ones }
 
 -- One of a set.
-module _ (setup : Setup) (ones : List ReplicaState) (state : SetState) (view_is : state_of setup ones ≡ state) (is_set : IsSet (state_of setup ones))
-    (replica : ℕ) (within : replica < state.setup.replicas) (old : ReplicaState) (read : old ≡ get_or ones replica old) where
+module _ (setup : Setup) (ones : List ReplicaState) {state : SetState} (view_is : state_of setup ones ≡ state) (is_set : IsSet (state_of setup ones))
+    (replica : ℕ) (within : replica < state.setup.replicas) {old : ReplicaState} (read : old ≡ get_or ones replica old) where
   set_is : IsSet state
   set_is = subst IsSet view_is is_set
 

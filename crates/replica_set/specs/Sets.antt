@@ -31,7 +31,8 @@ pub record StandsFor (history : List Entry) (state : SetState) : Type 0 where
   pub is_set : IsSet state
   pub parts : (replica : ℕ) (core : Core) → IsAt state replica core → Stands (part_of history replica) core
 
--- the entry that a replica makes after a history with an act, at the moment that follows a handed one; and the history with it
+-- the entry that a replica makes after a history with an act, at the moment that follows a handed one;
+-- and the history with it
 abbrev pub entry_of : List Entry → ℕ → ℕ → Act → Entry
 entry_of history replica handed done =
     record { replica = replica; moment = moment_at (part_of history replica) handed; act = done }
@@ -39,7 +40,8 @@ entry_of history replica handed done =
 abbrev pub with_act : List Entry → ℕ → ℕ → Act → List Entry
 with_act history replica handed done = history ++ entry_of history replica handed done ∷ []
 
--- After an act of a replica at a handed moment they stand for each history that they stood for, with the act that it was there.
+-- After an act of a replica at a handed moment they stand for each history that they stood for,
+-- with the act that it was there.
 abbrev pub GoesOn : SetState → SetState → ℕ → ℕ → (List Entry → Act) → Type 0
 GoesOn old new replica handed done =
     (history : List Entry) → StandsFor history old → StandsFor (with_act history replica handed (done (part_of history replica))) new

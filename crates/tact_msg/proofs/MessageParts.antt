@@ -157,7 +157,8 @@ written conits to start room (told ∷ tolds) text writes spelled t s =
     flat_map_agree (λ o. from_one o others) (λ o. from_one o (ours ++ others)) (range_with_len (start + 1) (length tolds))
     (All-range (λ o. from_one o others ≡ from_one o (ours ++ others)) (start + 1) (length tolds) (λ o low high. sym (from_there start ours others are rest.later o (omega (arith, low))))) in
     let next : suc start ≡ start + 1 = omega arith in
-    let others_placed : others ≡ flat_map (λ o. from_one o others) (range_with_len (start + 1) (length tolds)) = subst (λ n. others ≡ flat_map (λ o. from_one o others) (range_with_len n (length tolds))) next rest.placed in
+    let others_placed : others ≡ flat_map (λ o. from_one o others) (range_with_len (start + 1) (length tolds)) =
+    subst (λ n. others ≡ flat_map (λ o. from_one o others) (range_with_len n (length tolds))) next rest.placed in
     subst (λ (ws : List Write). AreWritten conits start room (told ∷ tolds) ws spelled) (sym s.6) (record {
       spelled = rw (s.7, s.4.2, rest.spelled) (sym (flat_map-append write_bytes ours others));
       each = All-append (IsWriteOf conits) ours others s.4.1.each rest.each;

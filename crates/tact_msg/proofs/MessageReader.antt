@@ -131,7 +131,8 @@ module _ (head : Head) (tolds : List Told) (lent returned : List ℕ) (writes : 
           returned_most = are_returned.1;
           few = all.few;
           placed = subst (λ n. writes ≡ flat_map (λ o. from_one o writes) (range_with_len 0 n)) (sym replicas) all.placed;
-          writes = All-weaker (IsWriteOf head.conits) (IsWriteInRange (setup_of whole)) (λ write is. write_in_setup (setup_of whole) write (subst (λ n. IsWriteOf n write) (sym are_lent.0) is)) writes all.each;
+          writes = All-weaker (IsWriteOf head.conits) (IsWriteInRange (setup_of whole))
+              (λ write is. write_in_setup (setup_of whole) write (subst (λ n. IsWriteOf n write) (sym are_lent.0) is)) writes all.each;
         };
       }
 
@@ -180,7 +181,8 @@ module _ (message : Message) (is : IsMessage message) where
         told_bytes (told_of message start),
         flat_map told_bytes (map (told_of message) (range_with_len (start + 1) len)),
         is_told,
-        subst (λ n. Tolds message.to n (room - length here) (map (told_of message) (range_with_len (start + 1) len)) (flat_map told_bytes (map (told_of message) (range_with_len (start + 1) len)))) next others,
+        subst (λ n. Tolds message.to n (room - length here) (map (told_of message) (range_with_len (start + 1) len))
+            (flat_map told_bytes (map (told_of message) (range_with_len (start + 1) len)))) next others,
         flat_map-cons told_bytes (told_of message start) (map (told_of message) (range_with_len (start + 1) len)),
       )
 
@@ -265,7 +267,8 @@ Parts =
 pub message_reader : Reader (SpelledAs IsMessage message_bytes) message_at
 unfolding message_at
 message_reader =
-    said (and_then head_reader (λ head. and_then (tolds_reader head.to head.replicas 0 MESSAGE_WRITES) (λ tolds. and_then (numbers_reader LENT_MAX head.conits (omega arith)) (λ lent. and_then (numbers_reader LENT_MAX head.conits (omega arith)) (λ returned.
+    said (and_then head_reader (λ head. and_then (tolds_reader head.to head.replicas 0 MESSAGE_WRITES) (λ tolds.
+    and_then (numbers_reader LENT_MAX head.conits (omega arith)) (λ lent. and_then (numbers_reader LENT_MAX head.conits (omega arith)) (λ returned.
     making (writes_reader head.conits tolds) (λ writes. message_from head tolds lent returned writes)))))) to from
   where
     to : (message : Message) (text : List ℕ) → Parts message text → SpelledAs IsMessage message_bytes message text

@@ -25,8 +25,10 @@ head_from replicas conits from to number = record { replicas = replicas; conits 
 
 abbrev HeadFields : Head → List ℕ → Type 0
 HeadFields =
-    Then (IsByte 77 78) (λ mark. Then (IsByte 1 2) (λ version. Then (IsByte REPLICAS_MIN (suc REPLICAS_MAX)) (λ replicas. Then (IsByte 1 (suc CONITS_MAX)) (λ conits.
-    Then (IsByte 0 replicas) (λ from. Then (IsOther from replicas) (λ to. Made (IsNumber 0 HISTORY_MAX) (λ number. record { replicas = replicas; conits = conits; from = from; to = to; number = number })))))))
+    Then (IsByte 77 78) (λ mark. Then (IsByte 1 2) (λ version.
+    Then (IsByte REPLICAS_MIN (suc REPLICAS_MAX)) (λ replicas. Then (IsByte 1 (suc CONITS_MAX)) (λ conits.
+    Then (IsByte 0 replicas) (λ from. Then (IsOther from replicas) (λ to.
+    Made (IsNumber 0 HISTORY_MAX) (λ number. record { replicas = replicas; conits = conits; from = from; to = to; number = number })))))))
 
 is_one : (mark number : ℕ) → mark ≤ number → number < suc mark → number ≡ mark
 is_one mark number low high = omega arith
@@ -34,8 +36,10 @@ is_one mark number low high = omega arith
 pub head_reader : Reader IsHead head_at
 unfolding head_at head_from
 head_reader =
-    said (and_then (byte_field 77 78) (λ mark. and_then (byte_field 1 2) (λ version. and_then (byte_field REPLICAS_MIN (suc REPLICAS_MAX)) (λ replicas. and_then (byte_field 1 (suc CONITS_MAX)) (λ conits.
-    and_then (byte_field 0 replicas) (λ from. and_then (other_reader from replicas) (λ to. making (number_field 0 HISTORY_MAX (omega arith)) (head_from replicas conits from to)))))))) to_head from_head
+    said (and_then (byte_field 77 78) (λ mark. and_then (byte_field 1 2) (λ version.
+    and_then (byte_field REPLICAS_MIN (suc REPLICAS_MAX)) (λ replicas. and_then (byte_field 1 (suc CONITS_MAX)) (λ conits.
+    and_then (byte_field 0 replicas) (λ from. and_then (other_reader from replicas) (λ to.
+    making (number_field 0 HISTORY_MAX (omega arith)) (head_from replicas conits from to)))))))) to_head from_head
   where
     to_head : (head : Head) (text : List ℕ) → HeadFields head text → IsHead head text
     to_head head text s =
@@ -129,14 +133,18 @@ told_from origin have count stamp moment first told = record {
 
 abbrev ToldFields : ℕ → ℕ → ℕ → Told → List ℕ → Type 0
 ToldFields to origin room =
-    Then (IsNumber 0 (suc HISTORY_MAX)) (λ have. Then (IsNumber 0 (suc have)) (λ count. Then (IsNumber 0 (suc STAMP_MAX)) (λ stamp. Then (IsNumber 0 (suc MOMENT_MAX)) (λ moment.
-    Then (IsNumber 0 (suc have)) (λ first. Made (IsByte 0 (told_bound to origin (have - first) room)) (λ told. record { origin = origin; have = have; cover = record { count = count; stamp = stamp; moment = moment }; first = first; count = told }))))))
+    Then (IsNumber 0 (suc HISTORY_MAX)) (λ have. Then (IsNumber 0 (suc have)) (λ count.
+    Then (IsNumber 0 (suc STAMP_MAX)) (λ stamp. Then (IsNumber 0 (suc MOMENT_MAX)) (λ moment.
+    Then (IsNumber 0 (suc have)) (λ first. Made (IsByte 0 (told_bound to origin (have - first) room)) (λ told.
+    record { origin = origin; have = have; cover = record { count = count; stamp = stamp; moment = moment }; first = first; count = told }))))))
 
 pub told_reader : (to origin room : ℕ) → Reader (IsTold to origin room) (told_at to origin room)
 unfolding told_at told_from
 told_reader to origin room =
-    said (and_then_if (number_field 0 (suc HISTORY_MAX) (omega arith)) (λ have text is. and_then (number_field 0 (suc have) (omega (arith, is.1))) (λ count. and_then (number_field 0 (suc STAMP_MAX) (omega arith)) (λ stamp. and_then (number_field 0 (suc MOMENT_MAX) (omega arith)) (λ moment.
-    and_then (number_field 0 (suc have) (omega (arith, is.1))) (λ first. making (byte_field 0 (told_bound to origin (have - first) room)) (told_from origin have count stamp moment first))))))) to_told from_told
+    said (and_then_if (number_field 0 (suc HISTORY_MAX) (omega arith)) (λ have text is. and_then (number_field 0 (suc have) (omega (arith, is.1))) (λ count.
+    and_then (number_field 0 (suc STAMP_MAX) (omega arith)) (λ stamp. and_then (number_field 0 (suc MOMENT_MAX) (omega arith)) (λ moment.
+    and_then (number_field 0 (suc have) (omega (arith, is.1))) (λ first.
+    making (byte_field 0 (told_bound to origin (have - first) room)) (told_from origin have count stamp moment first))))))) to_told from_told
   where
     to_told : (told : Told) (text : List ℕ) → ToldFields to origin room told text → IsTold to origin room told text
     to_told told text s =

@@ -139,8 +139,13 @@ chunk_listed conits origin first (x ∷ xs) are =
       origins = All-tail (IsFrom origin) x xs are.origins;
       indices = rw on at others;
       each = All-tail (IsWriteOf conits) x xs are.each;
-    } in
-    (write_bytes x, flat_map write_bytes xs, (All-head (IsFrom origin) x xs are.origins, here, All-head (IsWriteOf conits) x xs are.each, refl), chunk_listed conits origin (suc x.index) xs rest, rw flat_map-cons refl)
+    } in (
+      write_bytes x,
+      flat_map write_bytes xs,
+      (All-head (IsFrom origin) x xs are.origins, here, All-head (IsWriteOf conits) x xs are.each, refl),
+      chunk_listed conits origin (suc x.index) xs rest,
+      rw flat_map-cons refl,
+    )
 
 pub chunk_reader : (conits : ℕ) (told : Told) → Reader (IsChunk conits told) (writes_of_at conits told)
 chunk_reader conits told =

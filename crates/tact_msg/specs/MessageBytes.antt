@@ -40,7 +40,8 @@ told_of message origin = record {
 abbrev pub tolds_of : Message → List Told
 tolds_of message = map (told_of message) (range_with_len 0 (length message.haves))
 
--- What is told of an origin: how many of its writes the sender has, the cover, the first told write, and how many are told, in one byte.
+-- What is told of an origin: how many of its writes the sender has, the cover, the first told write, and how many are
+-- told, in one byte.
 abbrev pub told_bytes : Told → List ℕ
 told_bytes told =
     number_bytes told.have ++ (number_bytes told.cover.count ++ (number_bytes told.cover.stamp
@@ -85,7 +86,8 @@ head_at bytes place = do
   number ← number_at 0 HISTORY_MAX bytes to.1
   Ok (record { replicas = replicas.0; conits = conits.0; from = from.0; to = to.0; number = number.0 }, number.1)
 
--- below it is how many writes are told of an origin: of the receiver none, else at most those that the sender has past the first, and as many as there is room for
+-- below it is how many writes are told of an origin: of the receiver none, else at most those that the sender has past
+-- the first, and as many as there is room for
 abbrev pub told_bound : ℕ → ℕ → ℕ → ℕ → ℕ
 told_bound to origin due room = if origin == to then 1 else suc (min due room)
 

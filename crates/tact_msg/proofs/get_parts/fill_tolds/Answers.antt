@@ -15,7 +15,8 @@ returns-in_err-told-clause-err c =
     let p = err_from_is_err_and c.from_residual.result c.from_residual.ensures.1 in
     let items = c.loop-item.items in
     let same : length c.args.items.now ≡ length items = omega arith in
-    rw (p.1, p.2, same) (told_ends c.args.to (take c.loop-item.item-index items) (length items) c.loop-item.item-index c.loop-item.origin c.loop-item.room c.args.bytes.now c.loop-item.place c.in_err-told.field-0.0
+    rw (p.1, p.2, same) (told_ends c.args.to (take c.loop-item.item-index items) (length items)
+    c.loop-item.item-index c.loop-item.origin c.loop-item.room c.args.bytes.now c.loop-item.place c.in_err-told.field-0.0
     (tolds_at c.args.to (length items) 0 MESSAGE_WRITES c.args.bytes.now c.args.start) (omega arith) (sym c.in_err-told.ensures.exact) c.loop-item.invariant.read)
 
 pub loop-item-preserved : goal.loop-item-preserved
@@ -30,7 +31,8 @@ loop-item-preserved c =
       within = omega (arith, c.in_ok-told.ensures.within);
       room = omega (arith, c.loop-item.invariant.room);
       origin = omega (arith, c.loop-item.invariant.origin);
-      small = subst (All is_small) (sym t) (All-append is_small (take i items) (w ∷ []) c.loop-item.invariant.small (All-cons is_small w [] (omega (arith, c.in_ok-told.ensures.within)) (All-nil is_small)));
+      small = subst (All is_small) (sym t) (All-append is_small (take i items) (w ∷ []) c.loop-item.invariant.small
+          (All-cons is_small w [] (omega (arith, c.in_ok-told.ensures.within)) (All-nil is_small)));
       read = rw (t, n) (told_goes_on c.args.to (take i items) (length items) i c.loop-item.origin c.loop-item.room c.args.bytes.now c.loop-item.place w c.in_ok-told.next
           (tolds_at c.args.to (length items) 0 MESSAGE_WRITES c.args.bytes.now c.args.start) (omega arith) (sym c.in_ok-told.ensures.exact) c.loop-item.invariant.read);
     }

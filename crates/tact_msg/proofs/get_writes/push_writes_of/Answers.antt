@@ -13,7 +13,8 @@ returns-in_err-write-clause-err c =
     let told = c.args.told.now in
     let read = writes_of_at c.args.conits told c.args.bytes.now c.args.start in
     let item = write_at c.args.conits told.origin in
-    let whole = ends item (λ (write : Write). suc write.index) c.loop-done.writes told.count c.loop-done.done (told.first + c.loop-done.done) c.args.bytes.now c.loop-done.place c.in_err-write.field-0.0
+    let whole = ends item (λ (write : Write). suc write.index) c.loop-done.writes told.count c.loop-done.done
+    (told.first + c.loop-done.done) c.args.bytes.now c.loop-done.place c.in_err-write.field-0.0
     (behind c.args.writes.now read) (omega arith) (rw c.from.ensures at (sym c.in_err-write.ensures.exact)) c.loop-done.invariant.read in
     rw (p.1, p.2) (field_fault read c.in_err-write.field-0.0 (fault_behind c.args.writes.now read c.in_err-write.field-0.0 whole))
 
@@ -25,7 +26,8 @@ loop-done-preserved c =
     let next_index : suc write.index ≡ told.first + (c.loop-done.done + 1) = omega (arith, c.in_ok-write.ensures.within) in
     record {
       within = omega (arith, c.in_ok-write.ensures.within);
-      read = rw (c.in_ok-push.ensures.ok, ← next_index) (goes_on item (λ (write : Write). suc write.index) c.loop-done.writes told.count c.loop-done.done (told.first + c.loop-done.done) c.args.bytes.now c.loop-done.place write c.in_ok-write.next
+      read = rw (c.in_ok-push.ensures.ok, ← next_index) (goes_on item (λ (write : Write). suc write.index) c.loop-done.writes told.count c.loop-done.done
+          (told.first + c.loop-done.done) c.args.bytes.now c.loop-done.place write c.in_ok-write.next
           (behind c.args.writes.now (writes_of_at c.args.conits told c.args.bytes.now c.args.start)) (omega arith) (rw c.from.ensures at (sym c.in_ok-write.ensures.exact)) c.loop-done.invariant.read);
     }
 

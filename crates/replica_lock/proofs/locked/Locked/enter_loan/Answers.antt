@@ -39,7 +39,8 @@ invariant_of-self-2 c =
     (c.replica_number-replica.ensures ∙ ap (λ (v : LockedView). v.core.replica) is)
     (c.moment_after-at.ensures ∙ ap (λ (v : LockedView). moment_at (part_in v) c.args.moment) is) in
     let totals = c.count_entry.ensures ∙ ap (λ n. one_more_at (made_place n c.args.client) c.self.inside.totals.items) c.self.invariant.1 in (
-      IsLocked-made _ _ _ c.args.client _ c.self.invariant.0 c.requires.client c.in_ok-move_loan.ensures.same c.draw.ensures.drawn c.draw.ensures.stored (subst IsQuietAct (sym c.act_of-done.ensures) (quiet-loan c.args.loan)) stands totals,
+      IsLocked-made _ _ _ c.args.client _ c.self.invariant.0 c.requires.client c.in_ok-move_loan.ensures.same c.draw.ensures.drawn c.draw.ensures.stored
+          (subst IsQuietAct (sym c.act_of-done.ensures) (quiet-loan c.args.loan)) stands totals,
       c.self.invariant.1 ∙ sym (ap (λ (s : Setup). s.conits) c.in_ok-move_loan.ensures.same.0),
       c.self.invariant.2 ∙ sym (ap (λ (s : Setup). replicate s.replicas 0) c.in_ok-move_loan.ensures.same.0),
     )
@@ -52,7 +53,8 @@ returns-clause-kept c =
     (c.replica_number-replica.ensures ∙ ap (λ (v : LockedView). v.core.replica) is)
     (c.moment_after-at.ensures ∙ ap (λ (v : LockedView). moment_at (part_in v) c.args.moment) is) in
     let totals = c.count_entry.ensures ∙ ap (λ n. one_more_at (made_place n c.args.client) c.self.inside.totals.items) c.self.invariant.1 in
-    IsLocked-made _ _ _ c.args.client _ c.self.invariant.0 c.requires.client c.in_ok-move_loan.ensures.same c.draw.ensures.drawn c.draw.ensures.stored (subst IsQuietAct (sym c.act_of-done.ensures) (quiet-loan c.args.loan)) stands totals
+    IsLocked-made _ _ _ c.args.client _ c.self.invariant.0 c.requires.client c.in_ok-move_loan.ensures.same c.draw.ensures.drawn c.draw.ensures.stored
+    (subst IsQuietAct (sym c.act_of-done.ensures) (quiet-loan c.args.loan)) stands totals
 
 pub returns-clause-entered : goal.returns-clause-entered
 returns-clause-entered c =
@@ -62,7 +64,14 @@ returns-clause-entered c =
     let same = made-spelled before c.move_loan.new.replica.core c.args.moment c.act_of-done.result _ _ c.self.invariant.0 goes
     (c.replica_number-replica.ensures ∙ ap (λ (v : LockedView). v.core.replica) is)
     (c.moment_after-at.ensures ∙ ap (λ (v : LockedView). moment_at (part_in v) c.args.moment) is) in
-    let after : LockedView = record { core = c.move_loan.new.replica.core; clerk = c.draw.new.clerk; stored = c.draw.new.stored.items; totals = c.count_entry.new.totals.items; spare = c.move_loan.new.replica.spare; room = c.draw.new.stored.room } in
+    let after : LockedView = record {
+      core = c.move_loan.new.replica.core;
+      clerk = c.draw.new.clerk;
+      stored = c.draw.new.stored.items;
+      totals = c.count_entry.new.totals.items;
+      spare = c.move_loan.new.replica.spare;
+      room = c.draw.new.stored.room;
+    } in
     let entered = HasEntered-drawn before after _ c.args.client _ c.self.invariant.0 c.requires.client c.in_ok-move_loan.ensures.same c.draw.ensures.drawn c.draw.ensures.stored
     (c.replica_number-replica.ensures ∙ ap (λ (v : LockedView). v.core.replica) is) (sym c.requires.desk.1 ∙ ap (λ (v : LockedView). v.core.setup) is) in
     rw (← c.self.view_is) (subst (λ (done : Act). HasEntered before after c.self.inside.clerk.seen (entry_in before c.args.moment done)) c.act_of-done.ensures

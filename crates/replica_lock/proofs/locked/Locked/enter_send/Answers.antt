@@ -37,7 +37,8 @@ invariant_of-self-2 c =
     (c.replica_number-replica.ensures ∙ ap (λ (v : LockedView). v.core.replica) is)
     (c.moment_after-at.ensures ∙ ap (λ (v : LockedView). moment_at (part_in v) c.args.moment) is) in
     let totals = c.count_entry.ensures ∙ ap (λ n. one_more_at (made_place n c.args.client) c.self.inside.totals.items) c.self.invariant.1 in (
-      IsLocked-made _ _ _ c.args.client _ c.self.invariant.0 c.requires.client c.in_ok-message.ensures.same c.draw_sending-parcel.ensures.drawn c.draw_sending-parcel.ensures.stored (quiet-send _) stands totals,
+      IsLocked-made _ _ _ c.args.client _ c.self.invariant.0 c.requires.client c.in_ok-message.ensures.same
+          c.draw_sending-parcel.ensures.drawn c.draw_sending-parcel.ensures.stored (quiet-send _) stands totals,
       c.self.invariant.1 ∙ sym (ap (λ (s : Setup). s.conits) c.in_ok-message.ensures.same.0),
       c.self.invariant.2 ∙ sym (ap (λ (s : Setup). replicate s.replicas 0) c.in_ok-message.ensures.same.0),
     )
@@ -49,7 +50,8 @@ returns-clause-kept c =
     (c.replica_number-replica.ensures ∙ ap (λ (v : LockedView). v.core.replica) is)
     (c.moment_after-at.ensures ∙ ap (λ (v : LockedView). moment_at (part_in v) c.args.moment) is) in
     let totals = c.count_entry.ensures ∙ ap (λ n. one_more_at (made_place n c.args.client) c.self.inside.totals.items) c.self.invariant.1 in
-    IsLocked-made _ _ _ c.args.client _ c.self.invariant.0 c.requires.client c.in_ok-message.ensures.same c.draw_sending-parcel.ensures.drawn c.draw_sending-parcel.ensures.stored (quiet-send _) stands totals
+    IsLocked-made _ _ _ c.args.client _ c.self.invariant.0 c.requires.client c.in_ok-message.ensures.same
+    c.draw_sending-parcel.ensures.drawn c.draw_sending-parcel.ensures.stored (quiet-send _) stands totals
 
 pub returns-clause-entered : goal.returns-clause-entered
 returns-clause-entered c =
@@ -59,11 +61,20 @@ returns-clause-entered c =
     let same = made-spelled before c.send.new.self.core c.args.moment (act.Send c.in_ok-message.message) _ _ c.self.invariant.0 c.in_ok-message.ensures.goes_on
     (c.replica_number-replica.ensures ∙ ap (λ (v : LockedView). v.core.replica) is)
     (c.moment_after-at.ensures ∙ ap (λ (v : LockedView). moment_at (part_in v) c.args.moment) is) in
-    let after : LockedView = record { core = c.send.new.self.core; clerk = c.draw_sending-parcel.new.clerk; stored = c.draw_sending-parcel.new.stored.items; totals = c.count_entry.new.totals.items; spare = c.send.new.self.spare; room = c.draw_sending-parcel.new.stored.room } in
-    let entered = HasEntered-drawn before after _ c.args.client _ c.self.invariant.0 c.requires.client c.in_ok-message.ensures.same c.draw_sending-parcel.ensures.drawn c.draw_sending-parcel.ensures.stored
+    let after : LockedView = record {
+      core = c.send.new.self.core;
+      clerk = c.draw_sending-parcel.new.clerk;
+      stored = c.draw_sending-parcel.new.stored.items;
+      totals = c.count_entry.new.totals.items;
+      spare = c.send.new.self.spare;
+      room = c.draw_sending-parcel.new.stored.room;
+    } in
+    let entered = HasEntered-drawn before after _ c.args.client _ c.self.invariant.0 c.requires.client
+    c.in_ok-message.ensures.same c.draw_sending-parcel.ensures.drawn c.draw_sending-parcel.ensures.stored
     (c.replica_number-replica.ensures ∙ ap (λ (v : LockedView). v.core.replica) is) (sym c.requires.desk.1 ∙ ap (λ (v : LockedView). v.core.setup) is) in
     rw (← c.self.view_is, c.draw_sending-parcel.ensures.parcel)
-    (subst (λ (m : Message). HasEntered before after c.self.inside.clerk.seen (entry_in before c.args.moment (act.Send m))) (c.in_ok-message.ensures.due _ stands ∙ sym (c.in_ok-carried.ensures.due _ stands))
+    (subst (λ (m : Message). HasEntered before after c.self.inside.clerk.seen (entry_in before c.args.moment (act.Send m)))
+    (c.in_ok-message.ensures.due _ stands ∙ sym (c.in_ok-carried.ensures.due _ stands))
     (subst (λ e. HasEntered before after c.self.inside.clerk.seen e) (sym same) entered))
 
 pub returns-clause-message : goal.returns-clause-message

@@ -68,7 +68,14 @@ returns-in-Ok-clause-entered c =
     let same = made-spelled before c.take_in.new.replica.core c.args.moment (act.Take c.parcel.inside.message) _ _ c.self.invariant.0 c.in-Ok.ensures.goes_on
     (c.replica_number-replica.ensures ∙ ap (λ (v : LockedView). v.core.replica) is)
     (c.moment_after-at.ensures ∙ ap (λ (v : LockedView). moment_at (part_in v) c.args.moment) is) in
-    let after : LockedView = record { core = c.take_in.new.replica.core; clerk = c.draw.new.clerk; stored = c.draw.new.stored.items; totals = c.count_entry.new.totals.items; spare = c.take_in.new.replica.spare; room = c.draw.new.stored.room } in
+    let after : LockedView = record {
+      core = c.take_in.new.replica.core;
+      clerk = c.draw.new.clerk;
+      stored = c.draw.new.stored.items;
+      totals = c.count_entry.new.totals.items;
+      spare = c.take_in.new.replica.spare;
+      room = c.draw.new.stored.room;
+    } in
     let entered = HasEntered-drawn before after _ c.args.client _ c.self.invariant.0 c.requires.client c.in-Ok.ensures.same c.draw.ensures.drawn c.draw.ensures.stored
     (c.replica_number-replica.ensures ∙ ap (λ (v : LockedView). v.core.replica) is) (sym c.requires.desk.1 ∙ ap (λ (v : LockedView). v.core.setup) is) in
     rw (← c.self.view_is, ← c.parcel.view_is) (subst (λ e. HasEntered before after c.self.inside.clerk.seen e) (sym same) entered)

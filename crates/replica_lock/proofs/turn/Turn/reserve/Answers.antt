@@ -19,7 +19,11 @@ returns-in_default g c =
       node = c.ask.ensures.node;
       kept = c.ask.ensures.kept;
       seen = c.ask.ensures.seen;
-      reserved = (answered, reserve-waits locked.core.setup locked.core.replica (part_in locked) (moment_at (part_in locked) c.args.moment) given c.args.conit c.args.amount answered.due c.in_default.not-Granted);
+      reserved = (
+        answered,
+        reserve-waits locked.core.setup locked.core.replica (part_in locked)
+            (moment_at (part_in locked) c.args.moment) given c.args.conit c.args.amount answered.due c.in_default.not-Granted,
+      );
       refused = tt;
       spare = c.ask.ensures.spare;
       room = c.ask.ensures.room;

@@ -9,24 +9,26 @@ use Rattle.replica_set.proofs.set.ReplicaSet.call.Goals as goal
 
 pub invariant_of-self : goal.invariant_of-self
 invariant_of-self c =
-    is_set_after c.self.inside.config c.self.inside.replicas.items c.args.self.now c.self.view_is c.self.invariant c.args.replica c.requires.replica c.index_mut-one.result.now c.index_mut-one.ensures.value c.call.new.self c.call.ensures.same
+    is_set_after _ _ c.self.view_is c.self.invariant _ c.requires.replica c.index_mut-one.ensures.value c.call.new.self c.call.ensures.same
 
 pub returns-clause-goes_on : goal.returns-clause-goes_on
 returns-clause-goes_on c =
-    goes_on_if c.self.inside.config c.self.inside.replicas.items c.args.self.now c.self.view_is c.self.invariant c.args.replica c.requires.replica c.index_mut-one.result.now c.index_mut-one.ensures.value c.call.new.self c.call.ensures.same c.call.result c.args.moment (λ given part. act.Call c.args.client (calls_in part c.args.client) c.args.request.now given) c.call.ensures.goes_on
+    goes_on_if _ _ c.self.view_is c.self.invariant _ c.requires.replica c.index_mut-one.ensures.value c.call.new.self c.call.ensures.same c.call.result c.args.moment
+    (λ given part. act.Call c.args.client (calls_in part c.args.client) c.args.request.now given) c.call.ensures.goes_on
 
 pub returns-clause-fault : goal.returns-clause-fault
 returns-clause-fault c =
-    fault_at c.self.inside.config c.self.inside.replicas.items c.args.self.now c.self.view_is c.self.invariant c.args.replica c.requires.replica c.index_mut-one.result.now c.index_mut-one.ensures.value c.call.result (λ core fault. IsFaultOf core fault) c.call.ensures.fault
+    fault_at _ _ c.self.view_is c.self.invariant _ c.requires.replica c.index_mut-one.ensures.value c.call.result (λ core fault. IsFaultOf core fault) c.call.ensures.fault
 
 pub returns-clause-err : goal.returns-clause-err
 returns-clause-err c =
-    unchanged c.self.inside.config c.self.inside.replicas.items c.args.self.now c.self.view_is c.self.invariant c.args.replica c.requires.replica c.index_mut-one.result.now c.index_mut-one.ensures.value c.call.new.self c.call.result c.call.ensures.err
+    unchanged _ _ c.self.view_is c.self.invariant _ c.requires.replica c.index_mut-one.ensures.value c.call.new.self c.call.result c.call.ensures.err
 
 pub returns-clause-due : goal.returns-clause-due
 returns-clause-due c =
-    due_in c.self.inside.config c.self.inside.replicas.items c.args.self.now c.self.view_is c.self.invariant c.args.replica c.requires.replica c.index_mut-one.result.now c.index_mut-one.ensures.value c.call.result (λ given setup replica part. given ≡ reply_of setup replica part (moment_at part c.args.moment) c.args.request.now) c.call.ensures.due
+    due_in _ _ c.self.view_is c.self.invariant _ c.requires.replica c.index_mut-one.ensures.value c.call.result
+    (λ given setup replica part. given ≡ reply_of setup replica part (moment_at part c.args.moment) c.args.request.now) c.call.ensures.due
 
 pub call-requires-clause-in_range : goal.call-requires-clause-in_range
 call-requires-clause-in_range c =
-    subst (λ s. IsRequestInRange s c.args.request.now) (sym (one c.self.inside.config c.self.inside.replicas.items c.args.self.now c.self.view_is c.self.invariant c.args.replica c.requires.replica c.index_mut-one.result.now c.index_mut-one.ensures.value).setup) c.requires.in_range
+    subst (λ s. IsRequestInRange s c.args.request.now) (sym (one _ _ c.self.view_is c.self.invariant _ c.requires.replica c.index_mut-one.ensures.value).setup) c.requires.in_range

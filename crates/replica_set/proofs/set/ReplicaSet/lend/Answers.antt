@@ -7,32 +7,33 @@ use Rattle.replica_set.proofs.set.ReplicaSet.lend.Goals as goal
 
 pub invariant_of-self : goal.invariant_of-self
 invariant_of-self c =
-    is_set_after c.self.inside.config c.self.inside.replicas.items c.args.self.now c.self.view_is c.self.invariant c.args.owner c.requires.owner c.index_mut-one.result.now c.index_mut-one.ensures.value c.lend.new.self c.lend.ensures.same
+    is_set_after _ _ c.self.view_is c.self.invariant _ c.requires.owner c.index_mut-one.ensures.value c.lend.new.self c.lend.ensures.same
 
 pub returns-clause-goes_on : goal.returns-clause-goes_on
 returns-clause-goes_on c =
-    goes_on_if c.self.inside.config c.self.inside.replicas.items c.args.self.now c.self.view_is c.self.invariant c.args.owner c.requires.owner c.index_mut-one.result.now c.index_mut-one.ensures.value c.lend.new.self c.lend.ensures.same c.lend.result c.args.moment (λ _ part. act.Lend c.args.holder c.args.conit c.args.amount) c.lend.ensures.goes_on
+    goes_on_if _ _ c.self.view_is c.self.invariant _ c.requires.owner c.index_mut-one.ensures.value c.lend.new.self c.lend.ensures.same c.lend.result c.args.moment
+    (λ _ part. act.Lend c.args.holder c.args.conit c.args.amount) c.lend.ensures.goes_on
 
 pub returns-clause-fault : goal.returns-clause-fault
 returns-clause-fault c =
-    fault_at c.self.inside.config c.self.inside.replicas.items c.args.self.now c.self.view_is c.self.invariant c.args.owner c.requires.owner c.index_mut-one.result.now c.index_mut-one.ensures.value c.lend.result (λ core fault. IsLendFault core c.args.conit c.args.amount fault) c.lend.ensures.fault
+    fault_at _ _ c.self.view_is c.self.invariant _ c.requires.owner c.index_mut-one.ensures.value c.lend.result (λ core fault. IsLendFault core c.args.conit c.args.amount fault) c.lend.ensures.fault
 
 pub returns-clause-err : goal.returns-clause-err
 returns-clause-err c =
-    unchanged c.self.inside.config c.self.inside.replicas.items c.args.self.now c.self.view_is c.self.invariant c.args.owner c.requires.owner c.index_mut-one.result.now c.index_mut-one.ensures.value c.lend.new.self c.lend.result c.lend.ensures.err
+    unchanged _ _ c.self.view_is c.self.invariant _ c.requires.owner c.index_mut-one.ensures.value c.lend.new.self c.lend.result c.lend.ensures.err
 
 pub returns-clause-may : goal.returns-clause-may
 returns-clause-may c =
-    may_at c.self.inside.config c.self.inside.replicas.items c.args.self.now c.self.view_is c.self.invariant c.args.owner c.requires.owner c.index_mut-one.result.now c.index_mut-one.ensures.value c.lend.result (λ core. MayLend core c.args.conit c.args.amount) c.lend.ensures.may
+    may_at _ _ c.self.view_is c.self.invariant _ c.requires.owner c.index_mut-one.ensures.value c.lend.result (λ core. MayLend core c.args.conit c.args.amount) c.lend.ensures.may
 
 pub lend-requires-clause-holder : goal.lend-requires-clause-holder
 lend-requires-clause-holder c =
-    let it = one c.self.inside.config c.self.inside.replicas.items c.args.self.now c.self.view_is c.self.invariant c.args.owner c.requires.owner c.index_mut-one.result.now c.index_mut-one.ensures.value in omega (arith, c.requires.holder, ap (λ (s : Setup). s.replicas) it.setup)
+    let it = one _ _ c.self.view_is c.self.invariant _ c.requires.owner c.index_mut-one.ensures.value in omega (arith, c.requires.holder, ap (λ (s : Setup). s.replicas) it.setup)
 
 pub lend-requires-clause-other : goal.lend-requires-clause-other
 lend-requires-clause-other c =
-    λ same. c.requires.other (same ∙ (one c.self.inside.config c.self.inside.replicas.items c.args.self.now c.self.view_is c.self.invariant c.args.owner c.requires.owner c.index_mut-one.result.now c.index_mut-one.ensures.value).replica)
+    λ same. c.requires.other (same ∙ (one _ _ c.self.view_is c.self.invariant _ c.requires.owner c.index_mut-one.ensures.value).replica)
 
 pub lend-requires-clause-conit : goal.lend-requires-clause-conit
 lend-requires-clause-conit c =
-    let it = one c.self.inside.config c.self.inside.replicas.items c.args.self.now c.self.view_is c.self.invariant c.args.owner c.requires.owner c.index_mut-one.result.now c.index_mut-one.ensures.value in omega (arith, c.requires.conit, ap (λ (s : Setup). s.conits) it.setup)
+    let it = one _ _ c.self.view_is c.self.invariant _ c.requires.owner c.index_mut-one.ensures.value in omega (arith, c.requires.conit, ap (λ (s : Setup). s.conits) it.setup)

@@ -4,12 +4,13 @@ use Rattle.replica_set.proofs.set.ReplicaSet.restart.Goals as goal
 
 pub invariant_of-self : goal.invariant_of-self
 invariant_of-self c =
-    is_set_after c.self.inside.config c.self.inside.replicas.items c.args.self.now c.self.view_is c.self.invariant c.args.replica c.requires.replica c.index_mut-one.result.now c.index_mut-one.ensures.value c.restart.new.self c.restart.ensures.same
+    is_set_after _ _ c.self.view_is c.self.invariant _ c.requires.replica c.index_mut-one.ensures.value c.restart.new.self c.restart.ensures.same
 
 pub returns-clause-goes_on : goal.returns-clause-goes_on
 returns-clause-goes_on c =
-    goes_on_if c.self.inside.config c.self.inside.replicas.items c.args.self.now c.self.view_is c.self.invariant c.args.replica c.requires.replica c.index_mut-one.result.now c.index_mut-one.ensures.value c.restart.new.self c.restart.ensures.same c.restart.result c.args.moment (λ _ part. act.Restart) c.restart.ensures.goes_on
+    goes_on_if _ _ c.self.view_is c.self.invariant _ c.requires.replica c.index_mut-one.ensures.value c.restart.new.self
+    c.restart.ensures.same c.restart.result c.args.moment (λ _ part. act.Restart) c.restart.ensures.goes_on
 
 pub returns-clause-err : goal.returns-clause-err
 returns-clause-err c =
-    unchanged c.self.inside.config c.self.inside.replicas.items c.args.self.now c.self.view_is c.self.invariant c.args.replica c.requires.replica c.index_mut-one.result.now c.index_mut-one.ensures.value c.restart.new.self c.restart.result c.restart.ensures.err
+    unchanged _ _ c.self.view_is c.self.invariant _ c.requires.replica c.index_mut-one.ensures.value c.restart.new.self c.restart.result c.restart.ensures.err

@@ -9,32 +9,34 @@ use Rattle.replica_set.proofs.set.ReplicaSet.send.Goals as goal
 
 pub invariant_of-self : goal.invariant_of-self
 invariant_of-self c =
-    is_set_after c.self.inside.config c.self.inside.replicas.items c.args.self.now c.self.view_is c.self.invariant c.args.from c.requires.from c.index_mut-one.result.now c.index_mut-one.ensures.value c.send.new.self c.send.ensures.same
+    is_set_after _ _ c.self.view_is c.self.invariant _ c.requires.from c.index_mut-one.ensures.value c.send.new.self c.send.ensures.same
 
 pub returns-clause-goes_on : goal.returns-clause-goes_on
 returns-clause-goes_on c =
-    goes_on_if c.self.inside.config c.self.inside.replicas.items c.args.self.now c.self.view_is c.self.invariant c.args.from c.requires.from c.index_mut-one.result.now c.index_mut-one.ensures.value c.send.new.self c.send.ensures.same c.send.result c.args.moment (λ message part. act.Send message) c.send.ensures.goes_on
+    goes_on_if _ _ c.self.view_is c.self.invariant _ c.requires.from c.index_mut-one.ensures.value c.send.new.self
+    c.send.ensures.same c.send.result c.args.moment (λ message part. act.Send message) c.send.ensures.goes_on
 
 pub returns-clause-fault : goal.returns-clause-fault
 returns-clause-fault c =
-    fault_at c.self.inside.config c.self.inside.replicas.items c.args.self.now c.self.view_is c.self.invariant c.args.from c.requires.from c.index_mut-one.result.now c.index_mut-one.ensures.value c.send.result (λ core fault. IsFaultOf core fault) c.send.ensures.fault
+    fault_at _ _ c.self.view_is c.self.invariant _ c.requires.from c.index_mut-one.ensures.value c.send.result (λ core fault. IsFaultOf core fault) c.send.ensures.fault
 
 pub returns-clause-err : goal.returns-clause-err
 returns-clause-err c =
-    unchanged c.self.inside.config c.self.inside.replicas.items c.args.self.now c.self.view_is c.self.invariant c.args.from c.requires.from c.index_mut-one.result.now c.index_mut-one.ensures.value c.send.new.self c.send.result c.send.ensures.err
+    unchanged _ _ c.self.view_is c.self.invariant _ c.requires.from c.index_mut-one.ensures.value c.send.new.self c.send.result c.send.ensures.err
 
 pub returns-clause-due : goal.returns-clause-due
 returns-clause-due c =
-    due_in c.self.inside.config c.self.inside.replicas.items c.args.self.now c.self.view_is c.self.invariant c.args.from c.requires.from c.index_mut-one.result.now c.index_mut-one.ensures.value c.send.result (λ message setup replica part. message ≡ message_of setup replica part (moment_at part c.args.moment) c.args.to c.args.firsts.now) c.send.ensures.due
+    due_in _ _ c.self.view_is c.self.invariant _ c.requires.from c.index_mut-one.ensures.value c.send.result
+    (λ message setup replica part. message ≡ message_of setup replica part (moment_at part c.args.moment) c.args.to c.args.firsts.now) c.send.ensures.due
 
 pub send-requires-clause-to : goal.send-requires-clause-to
 send-requires-clause-to c =
-    let it = one c.self.inside.config c.self.inside.replicas.items c.args.self.now c.self.view_is c.self.invariant c.args.from c.requires.from c.index_mut-one.result.now c.index_mut-one.ensures.value in omega (arith, c.requires.to, ap (λ (s : Setup). s.replicas) it.setup)
+    let it = one _ _ c.self.view_is c.self.invariant _ c.requires.from c.index_mut-one.ensures.value in omega (arith, c.requires.to, ap (λ (s : Setup). s.replicas) it.setup)
 
 pub send-requires-clause-other : goal.send-requires-clause-other
 send-requires-clause-other c =
-    λ same. c.requires.other (same ∙ (one c.self.inside.config c.self.inside.replicas.items c.args.self.now c.self.view_is c.self.invariant c.args.from c.requires.from c.index_mut-one.result.now c.index_mut-one.ensures.value).replica)
+    λ same. c.requires.other (same ∙ (one _ _ c.self.view_is c.self.invariant _ c.requires.from c.index_mut-one.ensures.value).replica)
 
 pub send-requires-clause-firsts : goal.send-requires-clause-firsts
 send-requires-clause-firsts c =
-    c.requires.firsts ∙ sym (ap (λ (s : Setup). s.replicas) (one c.self.inside.config c.self.inside.replicas.items c.args.self.now c.self.view_is c.self.invariant c.args.from c.requires.from c.index_mut-one.result.now c.index_mut-one.ensures.value).setup)
+    c.requires.firsts ∙ sym (ap (λ (s : Setup). s.replicas) (one _ _ c.self.view_is c.self.invariant _ c.requires.from c.index_mut-one.ensures.value).setup)

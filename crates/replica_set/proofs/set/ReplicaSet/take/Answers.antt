@@ -5,16 +5,17 @@ use Rattle.replica_set.proofs.set.ReplicaSet.take.Goals as goal
 
 pub invariant_of-self-2 : goal.invariant_of-self-2
 invariant_of-self-2 c =
-    is_set_after c.self.inside.config c.self.inside.replicas.items c.args.self.now c.self.view_is c.self.invariant c.args.replica c.requires.replica c.index_mut-one.result.now c.index_mut-one.ensures.value c.take.new.self c.take.ensures.same
+    is_set_after _ _ c.self.view_is c.self.invariant _ c.requires.replica c.index_mut-one.ensures.value c.take.new.self c.take.ensures.same
 
 pub returns-clause-goes_on : goal.returns-clause-goes_on
 returns-clause-goes_on c =
-    goes_on_if c.self.inside.config c.self.inside.replicas.items c.args.self.now c.self.view_is c.self.invariant c.args.replica c.requires.replica c.index_mut-one.result.now c.index_mut-one.ensures.value c.take.new.self c.take.ensures.same c.take.result c.args.moment (λ _ part. act.Take c.args.message.now) c.take.ensures.goes_on
+    goes_on_if _ _ c.self.view_is c.self.invariant _ c.requires.replica c.index_mut-one.ensures.value c.take.new.self
+    c.take.ensures.same c.take.result c.args.moment (λ _ part. act.Take c.args.message.now) c.take.ensures.goes_on
 
 pub returns-clause-fault : goal.returns-clause-fault
 returns-clause-fault c =
-    fault_at c.self.inside.config c.self.inside.replicas.items c.args.self.now c.self.view_is c.self.invariant c.args.replica c.requires.replica c.index_mut-one.result.now c.index_mut-one.ensures.value c.take.result (λ core fault. IsFaultOf core fault) c.take.ensures.fault
+    fault_at _ _ c.self.view_is c.self.invariant _ c.requires.replica c.index_mut-one.ensures.value c.take.result (λ core fault. IsFaultOf core fault) c.take.ensures.fault
 
 pub returns-clause-err : goal.returns-clause-err
 returns-clause-err c =
-    unchanged c.self.inside.config c.self.inside.replicas.items c.args.self.now c.self.view_is c.self.invariant c.args.replica c.requires.replica c.index_mut-one.result.now c.index_mut-one.ensures.value c.take.new.self c.take.result c.take.ensures.err
+    unchanged _ _ c.self.view_is c.self.invariant _ c.requires.replica c.index_mut-one.ensures.value c.take.new.self c.take.result c.take.ensures.err
