@@ -1,4 +1,5 @@
--- What a replica sends to a peer, and whether it has to, by two lists: by origin, how many of its writes the replica has, and how many the peer is known to have.
+-- What a replica sends to a peer, and whether it has to, by two lists: by origin, how many of its writes the replica
+-- has, and how many the peer is known to have.
 use Rattle.std.specs.Prelude.{◌≡◌, ◌≢◌, ℕ, ◌<◌, List, length, map, slice_index}
 use Rattle.std.specs.List.{range_with_len}
 use Rattle.tact_base.specs.Counts.{first_index}
@@ -16,6 +17,7 @@ pub record AreCountsOf (setup : Setup) (replica : ℕ) (part : List Entry) (peer
   pub has : haves ≡ map (have replica part) (replicas_of setup)
   pub knows : peer_haves ≡ map (known part peer) (replicas_of setup)
 
--- of some origin other than the peer itself, the replica that did this part has more writes than it knows the peer to have
+-- of some origin other than the peer itself, the replica that did this part has more writes than it knows the peer to
+-- have
 abbrev pub IsBehind : Setup → ℕ → List Entry → ℕ → Type 0
 IsBehind setup replica part peer = (origin : ℕ) × (origin < setup.replicas) × (origin ≢ peer) × (known part peer origin < have replica part origin)

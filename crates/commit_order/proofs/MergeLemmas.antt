@@ -1,4 +1,5 @@
--- One step of a merge from the back: the later one of what is left of both goes to the last place that isn't filled yet.
+-- One step of a merge from the back: the later one of what is left of both goes to the last place that isn't filled
+-- yet.
 use Rattle.std.proofs.Common.{◌≡◌, ℕ, zero, suc, ◌+◌, ◌<◌, true, false, List, [], ◌∷◌, ◌++◌, length, get_or, take, drop, slice_set, All, refl, sym, ap, ap₂, ◌∙◌, arith}
 use Rattle.std.specs.declared.cmp.Ordering.TheVariants.{Less}
 use Rattle.std.specs.List.Sorted.{IsStrictlySortedBy}

@@ -1,4 +1,5 @@
-//! A program of the tests: `drill 0`, as it stands in the gate with what it must print. The product's program is `tactcli`.
+//! A program of the tests: `drill 0`, as it stands in the gate with what it must print. The product's program is
+//! `tactcli`.
 #![tactic(auto)]
 
 use run_model::Status;

@@ -9,8 +9,8 @@ use std::process::Abort;
 use std::test::Fail;
 use tact_base::{Numbers, Weight, Weights};
 
-/// The budgets of replica 0 of a setup, with the counts of its replicas and of its conits. They are boxed, since a box is
-/// let go in one step.
+/// The budgets of replica 0 of a setup, with the counts of its replicas and of its conits. They are boxed, since a box
+/// is let go in one step.
 #[derive(Drop)]
 pub(crate) struct Opened {
     replicas: u32,

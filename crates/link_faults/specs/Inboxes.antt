@@ -1,5 +1,5 @@
--- The inbox at the end of a link, over plain lists: what waits in it, in the order in which it comes out, and its counts
--- (this project's own rule).
+-- The inbox at the end of a link, over plain lists: what waits in it, in the order in which it comes out, and its
+-- counts (this project's own rule).
 use Rattle.std.specs.Prelude.{◌≡◌, ℕ, ◌+◌, ◌%◌, ◌^◌, ◌≤◌, Bool, ◌==◌, List, [], ◌∷◌, ◌++◌, All, length, drop, map, fold, filter_map, Option, Some, None, if◌then◌else◌}
 use Rattle.link_faults.specs.declared.plan.TheConstants.{INBOX_MAX}
 use Rattle.link_faults.specs.declared.plan.LinkPlan.{LinkPlan}
@@ -102,7 +102,8 @@ carried carries state = record {
   lost = state.lost;
 }
 
--- The items that wait gained as many as the fate says, each as `IsTwin` says, at the end that is due; the others stayed.
+-- The items that wait gained as many as the fate says, each as `IsTwin` says, at the end that is due; the others
+-- stayed.
 pub record Gains {T : Type 0} (IsTwin : T → Type 0) (fate : Fate) (in_front : Bool) (old new : List T) : Type 0 where
   pub added : List T
   pub count : length added ≡ items_added fate

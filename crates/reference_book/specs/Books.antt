@@ -71,8 +71,8 @@ abbrev pub IsLeast : List ℕ → Option ℕ → Type 0
 IsLeast numbers None = numbers ≡ []
 IsLeast numbers (Some least) = Contains numbers least × All (λ number. least ≤ number) numbers
 
--- What every book keeps: there are no more origins and no more writes of one than can be; no two writes are alike in origin and index,
--- and each index is below the count of its origin; and the sums are those of all writes.
+-- What every book keeps: there are no more origins and no more writes of one than can be; no two writes are alike in
+-- origin and index, and each index is below the count of its origin; and the sums are those of all writes.
 pub record KeepsBook (book : BookState) (kept : RunningState) : Type 0 where
   pub replicas : length book.logs ≤ REPLICAS_MAX
   pub few : All (λ log. length log ≤ HISTORY_MAX) book.logs

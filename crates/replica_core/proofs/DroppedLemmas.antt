@@ -1,4 +1,5 @@
--- What is given up after a part that can be: committed writes that each replica is known to have, and no fewer after one more entry.
+-- What is given up after a part that can be: committed writes that each replica is known to have, and no fewer after
+-- one more entry.
 use Rattle.std.proofs.Common.{◌≡◌, ℕ, zero, suc, ◌+◌, ◌<◌, ◌≤◌, ◌==◌, nat_lt, not, cond, Bool, true, List, [], ◌∷◌}
 use Rattle.std.proofs.Common.{◌++◌, map, take, drop, filter, reverse, length, get_or, flat_map, All, Option, None, Some}
 use Rattle.std.proofs.Common.{is_none, refl, sym, ap, ◌∙◌, subst, ⊎_elim, le_of_eq, le_trans, lt_of_lt_of_le, one-add}
@@ -261,8 +262,8 @@ module _ (setup : Setup) (replica : ℕ) (part : List Entry) (is_part : IsPart s
   dropped_of-known peer origin peer_in origin_in apart other =
       le_trans (dropped_of-known_all origin) (known_all-known setup replica part origin peer peer_in apart other)
 
--- With a message taken, so many more are given up: of what is committed then and was not given up, those at the front that all are
--- known to have.
+-- With a message taken, so many more are given up: of what is committed then and was not given up, those at the front
+-- that all are known to have.
 pub dropped-taken : (setup : Setup) (replica : ℕ) (part : List Entry) (entry : Entry) (is_part : IsPart setup replica (part ++ entry ∷ [])) (message : Message)
     → taken_by entry ≡ Some message
     → dropped setup replica (part ++ entry ∷ [])

@@ -1,5 +1,5 @@
--- What one more entry of a part that can be does to its order: the logs go on with writes past the point, so what is committed stays, and
--- the point doesn't fall.
+-- What one more entry of a part that can be does to its order: the logs go on with writes past the point, so what is
+-- committed stays, and the point doesn't fall.
 use Rattle.std.proofs.Common.{◌≡◌, ℕ, ◌-◌, ◌<◌, ◌≤◌, false, nat_le, List, [], ◌∷◌, ◌++◌, length, drop, filter, flat_map}
 use Rattle.std.proofs.Common.{All, Option, None, Some, refl, sym, ap, ◌∙◌, subst, ⊎_elim, le_of_eq, le_trans, arith}
 use Rattle.std.specs.List.{cons_option}

@@ -46,8 +46,8 @@ AreWritesReady-quiet part entry core stand places accepts takes = record {
   clock = stand.clock ∙ sym (clock-push_none part entry accepts takes);
 }
 
--- An entry that takes nothing changes what budgets have of a part in these alone: the weights of own writes, what is reserved, and
--- what is lent and given back.
+-- An entry that takes nothing changes what budgets have of a part in these alone: the weights of own writes, what is
+-- reserved, and what is lent and given back.
 module _ (setup : Setup) (replica : ℕ) (part : List Entry) (entry : Entry) (budgets : BudgetState) (stand : BudgetsStand setup replica part budgets) (takes : taken_by entry ≡ None) where
   abbrev further : List Entry
   further = part ++ entry ∷ []

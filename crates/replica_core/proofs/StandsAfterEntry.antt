@@ -39,8 +39,8 @@ later_cover-told kept told count stamp moment =
     let m : nat_le kept.moment told.moment ≡ true = le-leb kept.moment told.moment moment in
     rw (c, s, m) refl
 
--- What is kept of writes, but its own cover and its point, is that of a part with one more entry; its own cover is that of the part before,
--- and so is what is given up.
+-- What is kept of writes, but its own cover and its point, is that of a part with one more entry; its own cover is that
+-- of the part before, and so is what is given up.
 pub record AreWritesReady (part : List Entry) (entry : Entry) (core : Core) : Type 0 where
   pub bases : core.writes.bases ≡ map (dropped_of core.setup core.replica part) (replicas_of core.setup)
   pub logs : core.writes.logs ≡ map (log_of core.replica (part ++ entry ∷ [])) (replicas_of core.setup)

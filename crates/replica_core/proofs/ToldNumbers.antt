@@ -8,7 +8,8 @@ use Rattle.std.proofs.lemmas.Nat.{mul-add-lt, same_from_place}
 abbrev pub raised : ℕ → ℕ → ℕ → ℕ → ℕ
 raised from peer before told = cond (peer == from) (max before told) before
 
--- Numbers of some replicas at so many places each: those of the sender are raised at the places before one, all others are as they were.
+-- Numbers of some replicas at so many places each: those of the sender are raised at the places before one, all others
+-- are as they were.
 pub record IsLearned (replicas width from : ℕ) (told start : List ℕ) (at : ℕ) (now : List ℕ) : Type 0 where
   pub sized : length now ≡ length start
   pub learned : (peer place : ℕ)

@@ -34,8 +34,8 @@ past_of-append one other origin =
     ∙ ap greatest (map-append past (filter is_of one) (filter is_of other))
     ∙ greatest-append (map past (filter is_of one)) (map past (filter is_of other))
 
--- What is kept of writes is what the definitions say of a part, but that so many of the first committed writes are given up, and so many
--- of each origin.
+-- What is kept of writes is what the definitions say of a part, but that so many of the first committed writes are
+-- given up, and so many of each origin.
 pub record WritesHeld (setup : Setup) (replica : ℕ) (part : List Entry) (count : ℕ) (base : ℕ → ℕ) (kept : WritesKept) : Type 0 where
   pub bases : kept.bases ≡ map base (replicas_of setup)
   pub logs : kept.logs ≡ map (log_of replica part) (replicas_of setup)

@@ -37,7 +37,8 @@ pub record MayAsk (core : Core) (moment client : ℕ) (asked : Request) : Type 0
   pub client_in : client < CLIENTS
   pub in_range : IsRequestInRange core.setup asked
 
--- For each part that the replica stood for, the reply is the one that is due, and it stands for the part with that call.
+-- For each part that the replica stood for, the reply is the one that is due, and it stands for the part with that
+-- call.
 abbrev pub Answers : Core → Core → ℕ → ℕ → Request → Reply → Type 0
 Answers old new moment client asked given =
     (part : List Entry) → Stands part old
@@ -98,8 +99,9 @@ pub record WaitsForPeer (setup : Setup) (replica : ℕ) (part : List Entry) (pee
   pub there : weight.conit ≡ conit
   pub counts : CountsAgainst replica part peer conit asked weight.nweight
 
--- A waiting reply names its cause: a peer that may miss a write which counts against the request; a holder with a loan out; a replica
--- whose cover keeps weights on the conit tentative; or a peer whose cover is of a moment before the wanted one.
+-- A waiting reply names its cause: a peer that may miss a write which counts against the request; a holder with a loan
+-- out; a replica whose cover keeps weights on the conit tentative; or a peer whose cover is of a moment before the
+-- wanted one.
 abbrev pub NamesCause : Setup → ℕ → List Entry → ℕ → Request → Reply → Type 0
 NamesCause setup replica part moment asked (reply.WaitShare conit peer missing reserved weight share) =
     WaitsForPeer setup replica part peer conit asked

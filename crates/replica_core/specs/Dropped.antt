@@ -1,5 +1,5 @@
--- What a replica gives up: the committed writes that each replica is known to have, as it is judged when it takes a message
--- (timestamped anti-entropy after Golding, which gives up what all have acknowledged).
+-- What a replica gives up: the committed writes that each replica is known to have, as it is judged when it takes a
+-- message (timestamped anti-entropy after Golding, which gives up what all have acknowledged).
 use Rattle.std.specs.Prelude.{ℕ, ◌+◌, ◌==◌, not, nat_lt, List, ◌∷◌, filter, map, take, drop, reverse, is_none}
 use Rattle.std.specs.List.{prefix_len}
 use Rattle.tact_base.specs.Covers.{least_of}
@@ -14,7 +14,8 @@ use Rattle.run_model.specs.declared.entry.Entry.{Entry}
 abbrev pub may_lack : Setup → ℕ → ℕ → List ℕ
 may_lack setup replica origin = filter (λ peer. not (peer == origin)) (peers_of setup replica)
 
--- how many writes of an origin each replica is known to have: so many has this one, and so many told each that may lack some
+-- how many writes of an origin each replica is known to have: so many has this one, and so many told each that may lack
+-- some
 abbrev pub known_all : Setup → ℕ → List Entry → ℕ → ℕ
 known_all setup replica part origin =
     least_of (have replica part origin ∷ map (λ peer. known part peer origin) (may_lack setup replica origin))

@@ -35,7 +35,8 @@ IsReturnFault core owner conit amount (fault.Full count clock) = IsFull core cou
 IsReturnFault core owner conit amount (fault.Home at home) = ⊥
 IsReturnFault core owner conit amount (fault.Free at free) = (is_full core ≡ false) × (at ≡ conit) × (free < amount) × IsFree core owner conit free
 
--- it may lend the amount: it isn't full, and so much is at home, as its budgets tell and after each part that it stands for
+-- it may lend the amount: it isn't full, and so much is at home, as its budgets tell and after each part that it stands
+-- for
 abbrev pub MayLend : Core → ℕ → ℕ → Type 0
 MayLend core conit amount =
     (is_full core ≡ false) × (amount ≤ home_told core.budgets conit) × ((part : List Entry) → Stands part core → amount ≤ home core.setup core.replica part conit)

@@ -1,4 +1,5 @@
--- What a replica has seen, in order, and what it keeps of that: the image of its operations, and the sums of its weights by conit.
+-- What a replica has seen, in order, and what it keeps of that: the image of its operations, and the sums of its
+-- weights by conit.
 use Rattle.std.specs.Prelude.{◌≡◌, ℕ, ◌-◌, ◌<◌, ◌≤◌, List, All, length, map, slice_get, take, Option}
 use Rattle.std.specs.List.Sorted.{IsSorted}
 use Rattle.std.specs.Option.{option_map}
@@ -12,8 +13,8 @@ use Rattle.conit_weights.specs.Running.{RunningState, HoldsAll}
 use Rattle.rollback_apply.specs.Image.{ImageState, base_of}
 use Rattle.replica_core.specs.declared.last_one.LastOne.{LastOne}
 
--- on how many conits its writes may weigh, all writes in order, how many of them were given up, the last point, and how many more
--- writes can surely be put in without taking memory
+-- on how many conits its writes may weigh, all writes in order, how many of them were given up, the last point, and how
+-- many more writes can surely be put in without taking memory
 pub record SeenState : Type 0 where
   pub conits : ℕ
   pub writes : List Write
@@ -44,8 +45,9 @@ pub record HasSums (seen : List Write) (point : ℕ) (sums : RunningState) (tota
   pub all : HoldsAll sums (weights_of seen)
   pub settled : AreSumsOf totals (weights_of (committed_to point seen))
 
--- What is kept of all that is seen: the writes are in order and not too many to be summed, on these conits, with their image and
--- sums; the last of those that were given up, which are committed, is known; and there is the room in the order and in the image.
+-- What is kept of all that is seen: the writes are in order and not too many to be summed, on these conits, with their
+-- image and sums; the last of those that were given up, which are committed, is known; and there is the room in the
+-- order and in the image.
 pub record KeepsSeen (seen : SeenState) (last : Option LastOne) (order_room : ℕ) (kept : ImageState) (sums : RunningState) (totals : SumsState) : Type 0 where
   pub sorted : IsSorted write_cmp seen.writes
   pub few : length seen.writes ≤ SUMMED_WRITES

@@ -34,8 +34,8 @@ abbrev pub AreByPeer : Setup → ℕ → (ℕ → ℕ → ℕ) → (ℕ → ℕ 
 AreByPeer setup replica kept defined =
     (peer conit : ℕ) → peer < setup.replicas → peer ≢ replica → conit < setup.conits → kept peer conit ≡ defined peer conit
 
--- So are the budgets: of the own writes that aren't given up their weights, how many own writes a peer is known to have, what is
--- reserved, and what is lent and given back. What is given up each peer is known to have.
+-- So are the budgets: of the own writes that aren't given up their weights, how many own writes a peer is known to
+-- have, what is reserved, and what is lent and given back. What is given up each peer is known to have.
 pub record BudgetsStand (setup : Setup) (replica : ℕ) (part : List Entry) (budgets : BudgetState) : Type 0 where
   pub given_up : budgets.given_up ≤ length (own part)
   pub had : (peer : ℕ) → peer < setup.replicas → peer ≢ replica → budgets.given_up ≤ known part peer replica

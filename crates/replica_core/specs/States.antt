@@ -14,9 +14,10 @@ use Rattle.split_budget.specs.Budgets.{BudgetState}
 use Rattle.write_log.specs.Logs.{LogState, room_of}
 use Rattle.replica_core.specs.Seen.{AreOnConits}
 
--- What it keeps of writes. By origin: how many of its first writes are given up, its whole log, and its cover, its own at the moment of
--- its last entry. By peer and then origin: how many of the origin's writes the peer is known to have. All writes in order, of which those
--- up to the point are committed, and the first so many of these are given up. Its clock.
+-- What it keeps of writes. By origin: how many of its first writes are given up, its whole log, and its cover, its own
+-- at the moment of its last entry. By peer and then origin: how many of the origin's writes the peer is known to have.
+-- All writes in order, of which those up to the point are committed, and the first so many of these are given up. Its
+-- clock.
 pub record WritesKept : Type 0 where
   pub bases : List ℕ
   pub logs : List (List Write)
@@ -42,13 +43,15 @@ pub record Core : Type 0 where
   pub budgets : BudgetState
   pub counts : CountsKept
 
--- and for how many more own writes it surely has room without taking memory, and for how many told writes of each other origin beside these
+-- and for how many more own writes it surely has room without taking memory, and for how many told writes of each other
+-- origin beside these
 pub record ReplicaState : Type 0 where
   pub core : Core
   pub spare : ℕ
   pub beside : ℕ
 
--- the log that it has of an origin, the cover that it has of one, and how many writes of an origin it knows a peer to have
+-- the log that it has of an origin, the cover that it has of one, and how many writes of an origin it knows a peer to
+-- have
 abbrev pub log_at : Core → ℕ → List Write
 log_at core origin = slice_index_or core.writes.logs origin []
 
@@ -84,8 +87,8 @@ pub record HasBudgets (core : Core) : Type 0 where
   pub setup : core.budgets.setup ≡ core.setup
   pub replica : core.budgets.replica ≡ core.replica
 
--- The next writes of an origin, of whose log there are so many: they weigh on so many conits alone, and with them the log is no longer
--- than a history.
+-- The next writes of an origin, of whose log there are so many: they weigh on so many conits alone, and with them the
+-- log is no longer than a history.
 pub record AreNext (conits origin count : ℕ) (writes : List Write) : Type 0 where
   pub origins : All (λ (write : Write). write.origin ≡ origin) writes
   pub indices : map (λ (write : Write). write.index) writes ≡ range_with_len count (length writes)
@@ -96,8 +99,8 @@ pub record AreNext (conits origin count : ℕ) (writes : List Write) : Type 0 wh
 abbrev pub joined : ℕ → List (List Write) → List Write
 joined replicas logs = flat_map (λ origin. slice_index_or logs origin []) (range_with_len 0 replicas)
 
--- What holds of it between two entries: the writes in order are those of its logs, each within its log; its own cover isn't past its
--- clock; and what is committed goes no further than the least stamp.
+-- What holds of it between two entries: the writes in order are those of its logs, each within its log; its own cover
+-- isn't past its clock; and what is committed goes no further than the least stamp.
 pub record IsBetweenEntries (core : Core) : Type 0 where
   pub ordered : core.writes.seen ≡ in_order (joined core.setup.replicas core.writes.logs)
   pub placed : All (λ (write : Write). (write.origin < core.setup.replicas) × (write.index < length (log_at core write.origin))) core.writes.seen
@@ -110,7 +113,8 @@ pub record AreBasesHad (core : Core) : Type 0 where
   pub had : (peer origin : ℕ) → peer < core.setup.replicas → origin < core.setup.replicas → peer ≢ origin → peer ≢ core.replica
       → base_at core origin ≤ known_at core peer origin
 
--- numbers that an opening and so many entries can have lent: each at most the greatest alpha, and the greatest amount for each entry
+-- numbers that an opening and so many entries can have lent: each at most the greatest alpha, and the greatest amount
+-- for each entry
 abbrev pub AreLentBy : ℕ → List ℕ → Type 0
 AreLentBy count numbers = All (λ lent. lent ≤ ALPHA_MAX + count * AMOUNT_MAX) numbers
 
@@ -130,8 +134,8 @@ pub record IsKept (core : Core) : Type 0 where
   pub few : AreFew core.replica core.counts.count core.writes.logs
   pub lent : AreLentBy core.counts.count core.budgets.lent
 
--- There is room for so many own writes in its log, among what it has seen, and in the budgets; and beside it for so many told writes
--- of each other origin, in its log and among what it has seen.
+-- There is room for so many own writes in its log, among what it has seen, and in the budgets; and beside it for so
+-- many told writes of each other origin, in its log and among what it has seen.
 pub record HasRooms (replica spare beside : ℕ) (logs : LogState) (seen_room budget_room : ℕ) : Type 0 where
   pub own : spare ≤ room_of logs replica
   pub others : (origin : ℕ) → origin ≢ replica → origin < length logs.logs → beside ≤ room_of logs origin

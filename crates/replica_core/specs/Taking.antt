@@ -65,8 +65,8 @@ abbrev pub with_known : BudgetState → ℕ → ℕ → BudgetState
 with_known budgets peer count =
     with_given_up (record budgets { known = slice_set budgets.known peer (max (slice_index budgets.known peer) count) })
 
--- The writes of a replica after a message: of each origin its log and its cover, what peers are known to have, and the clock. What is
--- given up stays so.
+-- The writes of a replica after a message: of each origin its log and its cover, what peers are known to have, and the
+-- clock. What is given up stays so.
 pub record AreWritesTaken (old new : Core) (message : Message) : Type 0 where
   pub bases : new.writes.bases ≡ old.writes.bases
   pub dropped : new.writes.dropped ≡ old.writes.dropped

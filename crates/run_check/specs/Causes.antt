@@ -1,4 +1,5 @@
--- Why an entry of a record may not stand after a history: the tests of an entry, each with what was told and what is due.
+-- Why an entry of a record may not stand after a history: the tests of an entry, each with what was told and what is
+-- due.
 use Rattle.std.specs.Prelude.{◌≡◌, ◌≢◌, ℕ, ◌<◌, ◌≤◌, List, length, slice_index, Option, None, Some, MatchOption}
 use Rattle.tact_base.specs.declared.limits.TheConstants.{HISTORY_MAX}
 use Rattle.tact_base.specs.Setup.{Setup}
@@ -16,7 +17,8 @@ use Rattle.run_record.specs.declared.short.ShortAct.{ShortAct}
 use Rattle.run_record.specs.declared.short.ShortAct.TheVariants.{Call, Send, Take, Lend, Back}
 use Rattle.run_check.specs.Expanded.{message_sent}
 
--- the number that an act tells, and the due one: how many calls its client made before, or how many messages the replica sent
+-- the number that an act tells, and the due one: how many calls its client made before, or how many messages the
+-- replica sent
 abbrev pub numbers_of : List Entry → ShortAct → Option (ℕ × ℕ)
 numbers_of part (Call client number request reply) = Some (number, calls_in part client)
 numbers_of part (Send to number firsts) = Some (number, length (sent_in part))

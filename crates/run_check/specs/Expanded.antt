@@ -17,8 +17,8 @@ use Rattle.run_record.specs.declared.short.ShortAct.TheVariants.{Call, Send, Tak
 abbrev pub message_sent : List Entry → ℕ → ℕ → Option Message
 message_sent history from number = slice_get (sent_in (part_of history from)) number
 
--- What an act of a replica is after a history, at a moment: a sent message is the one that is due where these firsts are given, a
--- taken one the one that was sent under that number. There is none where no such message was sent.
+-- What an act of a replica is after a history, at a moment: a sent message is the one that is due where these firsts
+-- are given, a taken one the one that was sent under that number. There is none where no such message was sent.
 abbrev pub whole_act : Setup → List Entry → ℕ → ℕ → ShortAct → Option Act
 whole_act setup history replica moment (Call client number request reply) = Some (act.Call client number request reply)
 whole_act setup history replica moment (Send to number firsts) = Some (act.Send (message_of setup replica (part_of history replica) moment to firsts))

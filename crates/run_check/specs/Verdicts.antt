@@ -101,7 +101,8 @@ abbrev pub IsVerdictOf : Held → Verdict → Type 0
 IsVerdictOf held (Run summary) = AreLawful held.setup held.entries × (summary ≡ summary_of held.entries)
 IsVerdictOf held (Bad entry cause) = IsFirstBad held entry cause
 
--- what it tells of runs: that the record is that of a run, which its entries tell and which keeps its promises; or that it is that of none
+-- what it tells of runs: that the record is that of a run, which its entries tell and which keeps its promises; or that
+-- it is that of none
 abbrev pub TellsOfRuns : Held → Verdict → Type 0
 TellsOfRuns held (Run summary) = IsRecordOf held (expanded held.setup held.entries) × IsKept held.setup (expanded held.setup held.entries)
 TellsOfRuns held (Bad entry cause) = (history : List Entry) → IsRecordOf held history → ⊥

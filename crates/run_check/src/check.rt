@@ -22,9 +22,9 @@ use tact_base::NoMemory;
 
 /// Checks a record: whether it is that of a run, entry by entry. The answer is `Run`, with how many entries of each
 /// kind there are, exactly where each entry is lawful after those before it; else `Bad`, with the place of the first
-/// that isn't, counted from 0, and the first test that it fails, with what was told and what is due. The tests and their
-/// order stand in docs/FORMATS.md. What it costs grows as the record does. Memory of `alloc` is taken, and given back at
-/// the end; want of it is the one other answer.
+/// that isn't, counted from 0, and the first test that it fails, with what was told and what is due. The tests and
+/// their order stand in docs/FORMATS.md. What it costs grows as the record does. Memory of `alloc` is taken, and given
+/// back at the end; want of it is the one other answer.
 pub fn check_record(alloc: Global, held: &Record) -> Result<Verdict, NoMemory>
     ensures verdict { IfOk result (IsVerdictOf held.now) }
     ensures runs { IfOk result (TellsOfRuns held.now) }

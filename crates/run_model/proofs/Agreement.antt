@@ -44,7 +44,8 @@ module _ (setup : Setup) (history : List Entry) (run : IsRun setup history) (fro
   sound : Sound setup front
   sound = Sound-prefix setup front history run prefix
 
-  -- its log of an origin begins what the origin accepts in the whole run, and the cover that it has vouches for all of that
+  -- its log of an origin begins what the origin accepts in the whole run, and the cover that it has vouches for all of
+  -- that
   log-prefix : (origin : ℕ) → IsPrefix (log_of replica part origin) (own (part_of history origin))
   log-prefix origin =
       IsPrefix-trans (log_of replica part origin) (own (part_of front origin)) (own (part_of history origin)) (Sound-log setup front sound replica origin)

@@ -1,4 +1,5 @@
--- In a run each entry is in range, and so is each message that was sent, and what own writes ask for; all that was lent and returned is within its limit.
+-- In a run each entry is in range, and so is each message that was sent, and what own writes ask for; all that was lent
+-- and returned is within its limit.
 use Rattle.std.proofs.Common.{◌≡◌, ℕ, ◌+◌, ◌<◌, ◌≤◌, ◌==◌, ◌&&◌, Bool, true, false, cond, List, [], ◌∷◌, ◌++◌, get_or, take, drop, sum_by, All, Option, None, Some, refl, sym, ap, ◌∙◌, subst, arith}
 use Rattle.std.specs.List.{filter_map, cons_option}
 use Rattle.std.proofs.lemmas.List.{take-append-drop, drop_more}

@@ -1,4 +1,5 @@
--- Lists that are read stand where they were read, and lists that stand there are read: so many items, so many numbers, and lists by conit.
+-- Lists that are read stand where they were read, and lists that stand there are read: so many items, so many numbers,
+-- and lists by conit.
 use Rattle.std.proofs.Common.{◌≡◌, ℕ, zero, suc, ◌^◌, ◌<◌, ◌≤◌, Bool, List, [], ◌∷◌, ◌++◌, length, All, Some, Ok, refl, sym, ap, subst, arith}
 use Rattle.std.specs.List.{flat_map}
 use Rattle.std.proofs.lemmas.List.Concat.{flat_map-cons}

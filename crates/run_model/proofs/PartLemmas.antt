@@ -1,4 +1,5 @@
--- What one more entry does to a history and to a part: to the entries of a replica, to its own writes, to the messages that it sent and took, and to what it keeps.
+-- What one more entry does to a history and to a part: to the entries of a replica, to its own writes, to the messages
+-- that it sent and took, and to what it keeps.
 use Rattle.std.proofs.Common.{◌≡◌, ℕ, ◌+◌, ◌≤◌, ◌==◌, max, Bool, true, false, cond, List, [], ◌∷◌, ◌++◌, length, map, fold, filter, All, Option, None, Some, refl, sym, ap, ◌∙◌, subst, ⊎_elim, arith}
 use Rattle.std.specs.List.{cons_option}
 use Rattle.std.proofs.lemmas.Bool.{cases_eq, eq-eqb, ne_eqb}

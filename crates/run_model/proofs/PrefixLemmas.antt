@@ -54,7 +54,8 @@ module _ {A : Type 0} where
   pub IsPrefix-All : (P : A → Type 0) (xs ys : List A) → IsPrefix xs ys → All P ys → All P xs
   IsPrefix-All P xs ys (rest, is) all = All-append_left P xs rest (subst (All P) is all)
 
-  -- what a list has from a place within it on, and then a stretch of the whole from that place on, or from an earlier one
+  -- what a list has from a place within it on, and then a stretch of the whole from that place on, or from an earlier
+  -- one
   pub IsPrefix-stretch : (log told whole : List A) (first : ℕ)
       → IsPrefix log whole
       → IsPrefix told (drop first whole)

@@ -1,4 +1,5 @@
--- Readers that read just what is spelled: of one field, of fields one after the other, and of values made of what was read.
+-- Readers that read just what is spelled: of one field, of fields one after the other, and of values made of what was
+-- read.
 use Rattle.std.proofs.Common.{◌≡◌, ◌≢◌, ℕ, suc, ◌+◌, ◌^◌, ◌<◌, ◌≤◌, ℤ, Bool, true, List, [], ◌∷◌, ◌++◌, length, get_or, Ok, Err, refl, sym, ap, subst, ◌∙◌, arith}
 use Rattle.std.specs.Prelude.{unsigned_abs}
 use Rattle.std.specs.Result.{IfOk}

@@ -1,4 +1,5 @@
--- Pieces of the message that a replica sends: its writes, origin by origin, and what it tells of loans where none was moved.
+-- Pieces of the message that a replica sends: its writes, origin by origin, and what it tells of loans where none was
+-- moved.
 use Rattle.std.proofs.Common.{◌≡◌, ℕ, ◌+◌, ◌-◌, List, ◌++◌, length, get_or, take, flat_map, refl, sym, ap, ap₂, ◌∙◌, arith}
 use Rattle.std.specs.List.{range_with_len}
 use Rattle.tact_base.proofs.ListLemmas.{sum_of_none, take-append-taken}

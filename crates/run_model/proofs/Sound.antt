@@ -26,7 +26,8 @@ pub record IsNumbered (replica : ℕ) (part : List Entry) : Type 0 where
   pub stamps_most : All (λ (write : Write). write.stamp ≤ clock part) (own part)
   pub moments_most : All (λ (write : Write). write.moment ≤ last_moment part) (own part)
 
--- a cover vouches for the part of its origin: it tells a state that the part was in, and each write past its count is later
+-- a cover vouches for the part of its origin: it tells a state that the part was in, and each write past its count is
+-- later
 pub record Vouches (part : List Entry) (cover : Cover) : Type 0 where
   pub count : cover.count ≤ length (own part)
   pub stamp : cover.stamp ≤ clock part

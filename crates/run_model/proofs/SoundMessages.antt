@@ -133,7 +133,8 @@ module _ (setup : Setup) (history : List Entry) (sound : Sound setup history) (r
       subst (IsPrefix (told_writes message origin)) (joined-past onward onward-origins setup.replicas origin past)
       (IsPrefix-filter (λ (write : Write). write.origin == origin) (take MESSAGE_WRITES whole) whole (IsPrefix-take MESSAGE_WRITES whole))
 
-  -- What it tells of an origin, where the sender has at least as many of its writes later on, and the origin's part goes on.
+  -- What it tells of an origin, where the sender has at least as many of its writes later on, and the origin's part
+  -- goes on.
   module _ (origin had : ℕ) (later : List Entry) where
     told_within : origin < setup.replicas
         → have replica part origin ≤ had
@@ -174,7 +175,8 @@ module _ (setup : Setup) (history : List Entry) (sound : Sound setup history) (r
           count = omega (arith, has, ap (λ (c : Cover). c.count) cover);
         }
 
-  -- It is sound in a history that goes on with no write and no higher clock of its sender, whose last moment is that of the message.
+  -- It is sound in a history that goes on with no write and no higher clock of its sender, whose last moment is that of
+  -- the message.
   pub IsSoundMessage-sent : (further : List Entry)
       → replica < setup.replicas
       → ((other : ℕ) → Grows other (part_of history other) (part_of further other))

@@ -1,4 +1,5 @@
--- A run that is worked out: a write is accepted, sent and taken, and is committed at the replica that took it. So there are runs, and what is said of them says something.
+-- A run that is worked out: a write is accepted, sent and taken, and is committed at the replica that took it. So there
+-- are runs, and what is said of them says something.
 use Rattle.std.proofs.Common.{◌≡◌, ℕ, zero, suc, ◌<◌, ◌≤◌, pos, List, [], ◌∷◌, refl, lit<, lit≤, arith}
 use Rattle.std.proofs.lemmas.List.Elements.{All-nil, All-cons}
 use Rattle.tact_base.specs.declared.limits.TheConstants.{LENT_MAX}

@@ -58,7 +58,8 @@ abbrev pub ◌>>=◌ : {A B : Type 0} → Result A FieldFault → (A → Result 
 (Ok x) >>= f = f x
 (Err fault) >>= f = Err fault
 
--- The rule of reading: a field of some width is judged when all its bytes are there, and at fault where its value breaks its rule.
+-- The rule of reading: a field of some width is judged when all its bytes are there, and at fault where its value
+-- breaks its rule.
 abbrev pub field_at : {A : Type 0} → ℕ → (List ℕ → A) → (A → Bool) → List ℕ → ℕ → Field A
 field_at width value rule bytes place =
     if nat_lt (length bytes) (place + width) then Err Short
@@ -93,7 +94,8 @@ any_number_at = number_at 0 (2 ^ 64)
 abbrev pub any_signed_at : List ℕ → ℕ → Field ℤ
 any_signed_at = signed_at (2 ^ 63)
 
--- So many items one after the other. Each is read with the least number that it may begin with, which follows from the one before.
+-- So many items one after the other. Each is read with the least number that it may begin with, which follows from the
+-- one before.
 unfoldable pub list_at : {A : Type 0} → (ℕ → List ℕ → ℕ → Field A) → (A → ℕ) → ℕ → ℕ → List ℕ → ℕ → Field (List A)
 list_at item after zero least bytes place = Ok ([], place)
 list_at item after (suc count) least bytes place = do
@@ -158,7 +160,8 @@ op_at bytes place = do
   tag ← byte_at 1 4 bytes place
   if tag.0 == 1 then put_at bytes tag.1 else if tag.0 == 2 then add_at bytes tag.1 else shift_at bytes tag.1
 
--- what a reader answers and where it leaves the place: the value and the place after it, or the fault and the place as it was
+-- what a reader answers and where it leaves the place: the value and the place after it, or the fault and the place as
+-- it was
 abbrev pub Reads : {A : Type 0} → Result A FieldFault → ℕ → ℕ → Field A → Type 0
 Reads (Ok x) old new read = read ≡ Ok (x, new)
 Reads (Err fault) old new read = (read ≡ Err fault) × (new ≡ old)

@@ -1,4 +1,5 @@
--- Loans: an owner's alpha on a conit is at home or lent out, and both sides count what they ever gave (this project's own rule).
+-- Loans: an owner's alpha on a conit is at home or lent out, and both sides count what they ever gave (this project's
+-- own rule).
 use Rattle.std.specs.Prelude.{ℕ, ◌+◌, ◌-◌, ◌==◌, ◌&&◌, max, List, All, map, sum, sum_by, slice_index, if◌then◌else◌}
 use Rattle.tact_base.specs.Setup.{Setup, alpha_of, loan_of, peers_of}
 use Rattle.run_model.specs.Histories.{taken_from, greatest}

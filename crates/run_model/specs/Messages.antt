@@ -11,7 +11,8 @@ use Rattle.run_model.specs.Loans.{lent, returned}
 use Rattle.run_model.specs.declared.entry.Entry.{Entry}
 use Rattle.run_model.specs.declared.entry.Message.{Message}
 
--- where the writes of an origin begin in a message: past what the receiver has, as it is given or known; of the receiver's own, none
+-- where the writes of an origin begin in a message: past what the receiver has, as it is given or known; of the
+-- receiver's own, none
 abbrev pub first_for : ℕ → List Entry → ℕ → List ℕ → ℕ → ℕ
 first_for replica part to given origin =
     first_index to origin (have replica part origin) (known part to origin) (slice_index given origin)

@@ -1,4 +1,5 @@
--- The order of the writes that a replica has seen, what of it is committed, and what is read of it (commitment after Golding).
+-- The order of the writes that a replica has seen, what of it is committed, and what is read of it (commitment after
+-- Golding).
 use Rattle.std.specs.Prelude.{ℕ, ℤ, List}
 use Rattle.std.specs.List.{flat_map}
 use Rattle.tact_base.specs.Covers.{least_stamp}

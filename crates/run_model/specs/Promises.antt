@@ -59,7 +59,8 @@ pub record IsExactFor (setup : Setup) (history : List Entry) (owner conit : ℕ)
 abbrev pub IsExact : Setup → List Entry → Type 0
 IsExact setup history = (owner conit : ℕ) → owner < setup.replicas → conit < setup.conits → IsExactFor setup history owner conit
 
--- agreed: of two committed prefixes, of any two replicas at any two prefixes of the history, one is a prefix of the other
+-- agreed: of two committed prefixes, of any two replicas at any two prefixes of the history, one is a prefix of the
+-- other
 abbrev pub AreAgreed : {A : Type 0} → List A → List A → Type 0
 AreAgreed first second = IsPrefix first second ⊎ IsPrefix second first
 

@@ -35,7 +35,8 @@ pub record IsNeedInRange (setup : Setup) (need : Need) : Type 0 where
   pub order : need.order ≤ AMOUNT_MAX
   pub stale : need.stale ≤ MOMENT_MAX
 
--- The weights of a write: each in range, and as their list's type has them, at most four with rising conits. The needs of a read alike.
+-- The weights of a write: each in range, and as their list's type has them, at most four with rising conits. The needs
+-- of a read alike.
 pub record AreWeightsInRange (setup : Setup) (weights : List Weight) : Type 0 where
   pub each : All (IsWeightInRange setup) weights
   pub listed : IsConitList (λ (weight : Weight). weight.conit) (λ _. true) weights

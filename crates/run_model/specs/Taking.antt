@@ -11,7 +11,8 @@ use Rattle.run_model.specs.OwnWrites.{own}
 use Rattle.run_model.specs.declared.entry.Entry.{Entry}
 use Rattle.run_model.specs.declared.entry.Message.{Message}
 
--- what a message tells of an origin: how many of its writes the sender has, its cover, the index of the first told write, the told writes
+-- what a message tells of an origin: how many of its writes the sender has, its cover, the index of the first told
+-- write, the told writes
 abbrev pub told_have : Message → ℕ → ℕ
 told_have message origin = slice_index message.haves origin
 
@@ -29,7 +30,8 @@ pub record OriginState : Type 0 where
   pub log : List Write
   pub cover : Cover
 
--- the same after the take of a message: the log takes the told writes, and the cover is replaced where it is within the log
+-- the same after the take of a message: the log takes the told writes, and the cover is replaced where it is within the
+-- log
 abbrev pub after_taking : ℕ → OriginState → Message → OriginState
 after_taking origin kept message =
     let log = log_after kept.log (told_first message origin) (told_writes message origin) in

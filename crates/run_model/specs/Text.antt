@@ -1,4 +1,5 @@
--- How entries, requests, replies and setups are written as text: tokens with single spaces between them, numbers in decimal without leading zeros.
+-- How entries, requests, replies and setups are written as text: tokens with single spaces between them, numbers in
+-- decimal without leading zeros.
 use Rattle.std.specs.Prelude.{◌≡◌, ℕ, List, [], ◌∷◌, ◌++◌, length, map, take, codes, decimal}
 use Rattle.std.specs.List.{join_with_byte, flat_map}
 use Rattle.std.specs.Fmt.{signed_decimal}
@@ -91,7 +92,8 @@ abbrev pub bound_line : Setup → ℕ × ℕ → List ℕ
 bound_line setup (owner, conit) =
     line_text (codes "bound" ∷ map decimal (owner ∷ conit ∷ alpha_of setup owner conit ∷ loans_of setup owner conit)) ++ 10 ∷ []
 
--- the lines that a record begins with: `tact 1 REPLICAS CONITS`, then one for each owner and conit, each with its line feed
+-- the lines that a record begins with: `tact 1 REPLICAS CONITS`, then one for each owner and conit, each with its line
+-- feed
 abbrev pub header_text : Setup → List ℕ
 header_text setup =
     line_text (codes "tact" ∷ map decimal (1 ∷ setup.replicas ∷ setup.conits ∷ [])) ++ 10 ∷ []

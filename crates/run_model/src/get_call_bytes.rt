@@ -5,7 +5,11 @@ ghost use Rattle.std.specs.Prelude.{◌≡◌, ◌≤◌, ◌+◌, IfOk, Ok, len
 ghost use Rattle.run_model.specs.declared.call.Request.{Request};
 ghost use Rattle.run_model.specs.declared.call.Reply.{Reply};
 ghost use Rattle.run_model.specs.Bytes.{StandsAt, Reads};
-ghost use Rattle.run_model.specs.CallBytes.{IsRequestOf, HasSmallNames, HasWideNumbers, request_bytes, request_at, request_fields_at, write_at, held_at, reserve_at, release_at, read_at, reply_bytes, reply_at, reply_fields_at, waiting_at, done_at, value_at, sums_at, too_heavy_at, wait_held_at, wait_share_at, wait_lent_at, wait_order_at, wait_stale_at, not_held_at};
+ghost use Rattle.run_model.specs.CallBytes.{IsRequestOf, HasSmallNames, HasWideNumbers, request_bytes, request_at};
+ghost use Rattle.run_model.specs.CallBytes.{request_fields_at, write_at, held_at, reserve_at, release_at, read_at};
+ghost use Rattle.run_model.specs.CallBytes.{reply_bytes, reply_at, reply_fields_at, waiting_at, done_at, value_at};
+ghost use Rattle.run_model.specs.CallBytes.{sums_at, too_heavy_at, wait_held_at, wait_share_at, wait_lent_at};
+ghost use Rattle.run_model.specs.CallBytes.{wait_order_at, wait_stale_at, not_held_at};
 
 use crate::fields::{any_number_at, any_signed_at, byte_at, number_at};
 use crate::get_bytes::{fill, needs_at, op_at, weight_at, weights_at};

@@ -1,4 +1,5 @@
--- An entry that accepts and takes nothing leaves the writes and the covers of each replica as they were, and so all that is measured by them.
+-- An entry that accepts and takes nothing leaves the writes and the covers of each replica as they were, and so all
+-- that is measured by them.
 use Rattle.std.proofs.Common.{◌≡◌, ℕ, ◌==◌, cond, nat_le, unsigned_abs, ◌-ℤ◌, List, [], ◌∷◌, ◌++◌, length, filter, All, None, refl, ap, ap₂, ◌∙◌}
 use Rattle.tact_base.proofs.ListLemmas.{flat_map_agree, map_agree}
 use Rattle.tact_base.specs.Covers.{least_stamp}

@@ -1,4 +1,5 @@
--- What a peer may miss of a replica's writes, and what is reserved, stays within the replica's share of the peer's bound.
+-- What a peer may miss of a replica's writes, and what is reserved, stays within the replica's share of the peer's
+-- bound.
 use Rattle.std.proofs.Common.{◌≡◌, ℕ, ◌+◌, ◌-◌, ◌<◌, ◌≤◌, ◌==◌, ◌&&◌, nat_lt, Bool, true, false, cond, List, [], ◌∷◌}
 use Rattle.std.proofs.Common.{◌++◌, sum_by, Option, None, Some, unwrap_or, unsigned_abs, refl, sym, ap, subst, arith}
 use Rattle.std.specs.List.{cons_option}
@@ -35,7 +36,8 @@ granted_sum part conit = sum_by (λ entry. granted_by conit entry.act) part
 abbrev pub used_sum : List Entry → ℕ → ℕ
 used_sum part conit = sum_by (λ entry. used_by conit entry.act) part
 
--- what a peer may miss and what is reserved is within the share of the peer's bound, and no more of it was returned than is known to be lent
+-- what a peer may miss and what is reserved is within the share of the peer's bound, and no more of it was returned
+-- than is known to be lent
 pub record IsWithinShare (setup : Setup) (replica : ℕ) (part : List Entry) (peer conit : ℕ) : Type 0 where
   pub covered : returned part peer conit ≤ lent_known setup replica part peer conit
   pub plus : missing_plus replica part peer conit + reserved part conit ≤ share setup replica part peer conit

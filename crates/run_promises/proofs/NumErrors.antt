@@ -1,4 +1,5 @@
--- How far a replica's value is off is at most what the others may have accepted unseen, and that is within what it has out.
+-- How far a replica's value is off is at most what the others may have accepted unseen, and that is within what it has
+-- out.
 use Rattle.std.proofs.Common.{◌≡◌, ℕ, ◌+◌, ◌<◌, ◌≤◌, ◌==◌, true, false, cond, nat_le, unsigned_abs, ℤ, pos, ◌+ℤ◌, ◌-ℤ◌}
 use Rattle.std.proofs.Common.{List, [], ◌∷◌, ◌++◌, length, get_or, filter, flat_map, sum, sum_by, All, refl, sym, ap}
 use Rattle.std.proofs.Common.{ap₂, ◌∙◌, subst, ⊎_elim, arith}

@@ -1,4 +1,5 @@
--- What a part that can be keeps: its logs have their writes in their places and within their limits, and its covers stand within its logs.
+-- What a part that can be keeps: its logs have their writes in their places and within their limits, and its covers
+-- stand within its logs.
 use Rattle.std.proofs.Common.{◌≡◌, ℕ, ◌+◌, ◌-◌, ◌<◌, ◌≤◌, ◌==◌, true, List, [], ◌∷◌, ◌++◌, length, get_or, drop, All, Option, None, Some, refl, sym, ap, ◌∙◌, subst, ⊎_elim, le_trans, arith}
 use Rattle.std.proofs.lemmas.Bool.{cases_lt, eqb-true}
 use Rattle.std.proofs.lemmas.List.{length_push, length-append, length-drop, get_or_append_left, get_or-append-add, get_or-drop, get_or-map, get_or_past}

@@ -1,4 +1,5 @@
--- What one more entry does to what a peer may miss and to what is known to be lent, and what fits where a request isn't refused.
+-- What one more entry does to what a peer may miss and to what is known to be lent, and what fits where a request isn't
+-- refused.
 use Rattle.std.proofs.Common.{◌≡◌, ℕ, ◌+◌, ◌<◌, ◌≤◌, nat_le, Bool, List, [], ◌∷◌, ◌++◌, filter, sum_by, slice_index, All, Option, None, Some, ℤ, pos, negsuc, unsigned_abs, refl, ap, ◌∙◌, subst, arith}
 use Rattle.std.specs.List.{slice_get, filter_map, cons_option}
 use Rattle.std.proofs.lemmas.Bool.{leb-true, le-leb}

@@ -127,7 +127,8 @@ IsPrefix-as_long (x ∷ xs) (y ∷ ys) (z ∷ zs) (rest, is) (rest', is') same =
     let tail' : zs ≡ ys ++ rest' = cc in
     rw (first, IsPrefix-as_long xs ys zs (rest, tail) (rest', tail') (omega arith)) refl
 
--- A run, and a history that it begins with: the log that a replica has there of an origin begins what the origin accepts in the run.
+-- A run, and a history that it begins with: the log that a replica has there of an origin begins what the origin
+-- accepts in the run.
 log-begins : (setup : Setup) (history front : List Entry) (replica origin : ℕ)
     → IsRun setup history
     → IsPrefix front history

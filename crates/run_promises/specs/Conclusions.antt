@@ -24,7 +24,8 @@ pub record IsStrict (need : Need) : Type 0 where
   pub order : need.order ≡ 0
   pub stale : need.stale ≡ 0
 
--- what a read was told of a conit is the truth: the sum is the reference value, no order weight is tentative, and no write from before the moment is missed
+-- what a read was told of a conit is the truth: the sum is the reference value, no order weight is tentative, and no
+-- write from before the moment is missed
 pub record IsTruth (setup : Setup) (history : List Entry) (replica moment conit : ℕ) (told : ℤ) : Type 0 where
   pub value : told ≡ reference setup history conit
   pub order : order_error setup history replica conit ≡ 0

@@ -1,4 +1,5 @@
--- Requests and replies in the line of an entry: each is a value and the tokens after it, or the first fault from the left.
+-- Requests and replies in the line of an entry: each is a value and the tokens after it, or the first fault from the
+-- left.
 use Rattle.std.specs.Prelude.{ℕ, ◌-◌, ◌^◌, ℤ, pos, negsuc, Bool, nat_eq, nat_lt, List, Option, Some, None, Result, Ok, Err, if◌then◌else◌}
 use Rattle.std.specs.Cmp.Lexicographic.{pointwise}
 use Rattle.tact_base.specs.Numbers.{signed_of, token_answer}

@@ -76,7 +76,8 @@ is_end end [] = true
 is_end ending.Line (token ∷ rest) = false
 is_end ending.Equals (token ∷ rest) = pointwise nat_eq token (codes "=")
 
--- At most so many items one after the other. Each is read with the least number that it may begin with, which follows from the one before.
+-- At most so many items one after the other. Each is read with the least number that it may begin with, which follows
+-- from the one before.
 unfoldable pub list_at : {A : Type 0} → (ℕ → Tokens → Field A) → (A → ℕ) → (Tokens → Bool) → ℕ → ℕ → Tokens → Field (List A)
 list_at item after ends zero least tokens = Ok ([], tokens)
 list_at item after ends (suc room) least tokens =

@@ -36,8 +36,8 @@ IsPlayOf input text =
     (lines : List Line) × (script_of input ≡ Ok lines) × IsScript lines × (text ≡ play_text (setup_of lines) lines)
     × IsRun (setup_of lines) (history_of (setup_of lines) lines) × IsKept (setup_of lines) (history_of (setup_of lines) lines)
 
--- What each answer leaves of the sink: the text of what the source had left, a front of it, or nothing more. Where memory is
--- refused either nothing was written, or a front of that text.
+-- What each answer leaves of the sink: the text of what the source had left, a front of it, or nothing more. Where
+-- memory is refused either nothing was written, or a front of that text.
 abbrev pub Writes : Status → Option (List ℕ) → Option (List ℕ) → Option (List ℕ) → Type 0
 Writes status.Done left before after = (text : List ℕ) × Gains before after text × IfSome left (λ input. IsPlayOf input text)
 Writes status.WriteFault left before after = (text : List ℕ) × GainsPart before after text × IfSome left (λ input. IsPlayOf input text)

@@ -39,7 +39,8 @@ abbrev pub AreSends : Setup → List Entry → List (List ℕ) → Type 0
 AreSends setup history sends = (from : ℕ) → from < setup.replicas
     → map (message_at history) (slice_index_or sends from []) ≡ map Some (sent_in (part_of history from))
 
--- What a stage keeps: the replicas stand for what was played, which is a run; where its messages are; and the book of all writes.
+-- What a stage keeps: the replicas stand for what was played, which is a run; where its messages are; and the book of
+-- all writes.
 pub record Keeps (stage : Stage) : Type 0 where
   pub stands : StandsFor stage.entries stage.set
   pub run : IsRun (setup_in stage) stage.entries

@@ -26,7 +26,8 @@ abbrev pub HasItsMessage : Setup → List Entry → Line → Type 0
 HasItsMessage setup history (line.Take replica from number) = (message : Message) × IsNamed setup history replica from number message
 HasItsMessage setup history other = Unit {0}
 
--- What lines have made is a run, with moments within the limit and room for two more entries of each replica, and the next line can be played.
+-- What lines have made is a run, with moments within the limit and room for two more entries of each replica, and the
+-- next line can be played.
 pub record IsReady (setup : Setup) (played : Played) (next : Line) : Type 0 where
   pub run : IsRun setup played.history
   pub handed : played.handed ≤ MOMENT_MAX

@@ -8,8 +8,9 @@ use Rattle.script_text.specs.LineRanges.{IsLineInRange}
 use Rattle.script_text.specs.Sending.{sent_by, is_sent}
 use Rattle.script_text.specs.Setups.{opening, bounded, setup_of, is_past_setup}
 
--- Where a setup stands, other lines were before or weren't, and these messages were sent: a `bound` line stands before all lines that don't
--- set up the script, and its setup isn't refused. A `take` names a message that was sent to its replica.
+-- Where a setup stands, other lines were before or weren't, and these messages were sent: a `bound` line stands before
+-- all lines that don't set up the script, and its setup isn't refused. A `take` names a message that was sent to its
+-- replica.
 abbrev pub IsPlacedBy : Setup → Bool → List (List ℕ) → Line → Type 0
 IsPlacedBy setup past sent (line.Bound owner conit alpha loan) = IsSetup (bounded setup owner conit alpha loan) × (past ≡ false)
 IsPlacedBy setup past sent (line.Take replica from number) = is_sent sent from number replica ≡ true

@@ -32,7 +32,8 @@ bounded s owner conit alpha loan =
     let place = place_of s owner conit in
     setup s.replicas s.conits (replaced s.alphas place (alpha ∷ [])) (replaced s.loans (place * s.replicas) (opening_row s.replicas loan owner))
 
--- Whether a setup is refused. Of one that a line with numbers in their ranges makes, just where the loans of the line pass its alpha.
+-- Whether a setup is refused. Of one that a line with numbers in their ranges makes, just where the loans of the line
+-- pass its alpha.
 abbrev pub is_over : Setup → Bool
 is_over s = is_some (config_fault s.replicas s.conits s.alphas s.loans)
 

@@ -19,8 +19,8 @@ use Rattle.script_text.specs.Setups.{bounded, opening, is_over, setup_of, is_pas
 unfoldable pub fault_of : ℕ → List ℕ → Option LineKind
 fault_of number raw = if nat_lt SCRIPT_LINES number then Some TooManyLines else fault_of_bytes raw
 
--- What is judged of a whole line, where there is this setup, other lines stand before it or don't, and these messages were sent: the
--- loans of a `bound` line, then its place, and the message of a `take`.
+-- What is judged of a whole line, where there is this setup, other lines stand before it or don't, and these messages
+-- were sent: the loans of a `bound` line, then its place, and the message of a `take`.
 abbrev pub of_whole : Setup → Bool → List (List ℕ) → Line → Result Line LineKind
 of_whole setup past sent (line.Bound owner conit alpha loan) =
     if is_over (bounded setup owner conit alpha loan) then Err LoansOver

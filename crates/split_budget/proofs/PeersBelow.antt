@@ -65,7 +65,8 @@ peers_below-split replica n replicas within other =
     ∙ ap (λ front. front ++ peers_after replica n replicas) (peers_below-peer replica n other)
     ∙ append_assoc (peers_below replica n) (n ∷ []) (peers_after replica n replicas)
 
--- Of a sum over the peers: what a peer has, where what those before it have is taken away already, and what is left after it.
+-- Of a sum over the peers: what a peer has, where what those before it have is taken away already, and what is left
+-- after it.
 module _ (f : ℕ → ℕ) (replica replicas alpha left peer : ℕ) (so_far : left + sum_by f (peers_below replica peer) ≡ alpha) where
   pub peer-within : peer < replicas
       → (peer ≡ replica → ⊥)

@@ -17,7 +17,8 @@ use Rattle.split_budget.proofs.Places.{get_or-set_cases}
 use Rattle.split_budget.proofs.Parts.{part_on-push}
 use Rattle.split_budget.proofs.Refusals.{answer-Fits, fits_sides}
 
--- A write is added, with what is reserved afterwards: it is kept where all that a peer may miss then is within its share.
+-- A write is added, with what is reserved afterwards: it is kept where all that a peer may miss then is within its
+-- share.
 module _ (s : BudgetState) (keeps : KeepsBudgets s) (weights : List Weight) (reserved : List ℕ) (room : ℕ) where
   abbrev with_write : BudgetState
   with_write = record s { weights = s.weights ++ weights ∷ []; reserved = reserved; room = room }

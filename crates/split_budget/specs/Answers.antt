@@ -1,4 +1,5 @@
--- How a weight, or an amount to be reserved, meets the shares: the answer of the first peer that doesn't let it through.
+-- How a weight, or an amount to be reserved, meets the shares: the answer of the first peer that doesn't let it
+-- through.
 use Rattle.std.specs.Prelude.{ℕ, ℤ, pos, negsuc, unsigned_abs, Bool, true, false, List, map, filter, slice_index_or}
 use Rattle.tact_base.specs.Setup.{peers_of}
 use Rattle.tact_base.specs.Shares.{fit_of}

@@ -8,10 +8,11 @@ use Rattle.tact_base.specs.Sums.{above_zero, below_zero, on_conit}
 use Rattle.tact_base.specs.declared.conit_list.Weight.{Weight}
 use Rattle.split_budget.specs.declared.budget.Budget.{Budget}
 
--- The setup, and the replica; how many of the replica's first own writes are given up, which each peer is known to have,
--- and the weights of the own writes after these, in order; how many own writes each replica is known to have; by conit,
--- what is reserved; by replica and then conit, all that was ever lent to it and all that it told it lent, all that was ever
--- given back to it and all that it told it gave back; and how many more writes can surely be added without taking memory.
+-- The setup, and the replica; how many of the replica's first own writes are given up, which each peer is known to
+-- have, and the weights of the own writes after these, in order; how many own writes each replica is known to have; by
+-- conit, what is reserved; by replica and then conit, all that was ever lent to it and all that it told it lent, all
+-- that was ever given back to it and all that it told it gave back; and how many more writes can surely be added
+-- without taking memory.
 pub record BudgetState : Type 0 where
   pub setup : Setup
   pub replica : ℕ

@@ -5,8 +5,8 @@ use Rattle.tact_base.specs.declared.limits.TheConstants.{LENT_MAX}
 use Rattle.split_budget.specs.OwnWrites.{OwnState}
 use Rattle.split_budget.specs.Budgets.{BudgetState, IsPeer, reserved_on, lent_to, returned_by, lent_by, returned_to, share, all_out, missing_plus, missing_minus}
 
--- Of a peer on a conit: no more is given back than was lent, on either side; and what the peer may miss, of either sign,
--- with what is reserved, is within the share.
+-- Of a peer on a conit: no more is given back than was lent, on either side; and what the peer may miss, of either
+-- sign, with what is reserved, is within the share.
 pub record KeepsPeer (s : BudgetState) (peer conit : ℕ) : Type 0 where
   pub plus : missing_plus s peer conit + reserved_on s conit ≤ share s peer conit
   pub minus : missing_minus s peer conit + reserved_on s conit ≤ share s peer conit
@@ -14,8 +14,9 @@ pub record KeepsPeer (s : BudgetState) (peer conit : ℕ) : Type 0 where
   pub returned_known : returned_by s peer conit ≤ lent_to s peer conit
   pub lent : lent_to s peer conit ≤ LENT_MAX
 
--- The setup is one, and the replica is one of it; there are as many numbers as its counts ask for, and what owners told they
--- lent fits in 64 bits; each peer is known to have what is given up; each peer on each conit is kept, and what all peers have of the replica's own bound is within its alpha.
+-- The setup is one, and the replica is one of it; there are as many numbers as its counts ask for, and what owners told
+-- they lent fits in 64 bits; each peer is known to have what is given up; each peer on each conit is kept, and what all
+-- peers have of the replica's own bound is within its alpha.
 pub record KeepsBudgets (s : BudgetState) : Type 0 where
   pub setup : IsSetup s.setup
   pub replica : s.replica < s.setup.replicas

@@ -5,8 +5,9 @@ use Rattle.tact_base.specs.Covers.{least_of}
 use Rattle.tact_base.specs.declared.conit_list.Weight.{Weight}
 use Rattle.split_budget.specs.Missed.{MissedState, AreMissed}
 
--- The replica, and the count of conits; how many of its first writes are given up, and the weights of those after these;
--- how many of its writes each replica is known to have; and how many more can surely be added without taking memory.
+-- The replica, and the count of conits; how many of its first writes are given up, and the weights of those after
+-- these; how many of its writes each replica is known to have; and how many more can surely be added without taking
+-- memory.
 pub record OwnState : Type 0 where
   pub replica : ℕ
   pub conits : ℕ
@@ -49,8 +50,8 @@ without_had o = record o { given_up = o.given_up + had o; weights = drop (had o)
 abbrev pub OnConits : ℕ → List (List Weight) → Type 0
 OnConits conits writes = All (λ weights. All (λ weight. weight.conit < conits) weights) writes
 
--- What is kept whatever is called: the weights are on conits that there are; there are sums for each replica; what is known
--- fits in 64 bits; and each other replica has what is given up, and its sums are those of what it may miss.
+-- What is kept whatever is called: the weights are on conits that there are; there are sums for each replica; what is
+-- known fits in 64 bits; and each other replica has what is given up, and its sums are those of what it may miss.
 pub record KeepsSums (o : OwnState) (missed : List MissedState) : Type 0 where
   pub on_conits : OnConits o.conits o.weights
   pub replicas : length missed ≡ length o.known

@@ -2,7 +2,9 @@ ghost use Rattle.std.specs.Prelude.{◌≡◌, ◌+◌, ◌-◌, ◌<◌, ◌≤
 ghost use Rattle.tact_base.specs.Setup.{place_of};
 ghost use Rattle.tact_base.specs.declared.fit.Fit.TheVariants.{Fits};
 ghost use Rattle.tact_base.specs.declared.limits.TheConstants.{LENT_MAX};
-ghost use Rattle.split_budget.specs.Budgets.{IsBudget, setup_of, opening, IsPeer, reserved_on, lent_to, returned_by, lent_by, returned_to, share, out, home, missing_plus, missing_minus, free, with_given_up};
+ghost use Rattle.split_budget.specs.Budgets.{IsBudget, setup_of, opening, IsPeer, reserved_on, lent_to, returned_by};
+ghost use Rattle.split_budget.specs.Budgets.{lent_by, returned_to, share, out, home, missing_plus, missing_minus, free};
+ghost use Rattle.split_budget.specs.Budgets.{with_given_up};
 ghost use Rattle.split_budget.specs.Kept.{KeepsBudgets};
 ghost use Rattle.split_budget.specs.Answers.{fit_by, answer, missing_on, weight_answer, reserve_answer};
 

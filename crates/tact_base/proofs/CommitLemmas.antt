@@ -1,4 +1,5 @@
--- What is committed and what is tentative of writes in order: a front and what follows it, and one front for all replicas.
+-- What is committed and what is tentative of writes in order: a front and what follows it, and one front for all
+-- replicas.
 use Rattle.std.proofs.Common.{◌≡◌, ℕ, ◌+◌, length, not, ◌<◌, ◌≤◌, Bool, true, false, if◌then◌else◌, List, [], ◌∷◌, ◌++◌}
 use Rattle.std.proofs.Common.{filter, All, IsSorted, nat_le, nat_lt, refl, sym, ap, ap₂, ◌∙◌, ⊎_elim, le-leb, leb-true}
 use Rattle.std.proofs.Common.{ltb-true, arith}

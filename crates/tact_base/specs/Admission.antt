@@ -16,7 +16,8 @@ abbrev pub first_over_part : List ℕ → ℕ → ℕ
 first_over_part outs num = position_or_len (λ out. nat_lt num (out * (length outs - 1))) outs
 
 -- The first hindrance of a need: `outs` is what each replica holds out of the asking one's bound, `tentative` the order
--- weight of tentative writes on the conit, `slowest` the least replica with the least stamp, `late` the first late peer.
+-- weight of tentative writes on the conit, `slowest` the least replica with the least stamp, `late` the first late
+-- peer.
 abbrev pub hindrance : Need → List ℕ → ℕ → ℕ → Option Late → Option Hindrance
 hindrance need outs tentative slowest late =
     if nat_lt need.num (sum outs) then Some (lent (first_over_part outs need.num) (slice_index outs (first_over_part outs need.num)) (sum outs))

@@ -1,4 +1,5 @@
--- What a replica keeps of each origin's state (`Cover`, this project's own, in place of version, stamp and time vectors).
+-- What a replica keeps of each origin's state (`Cover`, this project's own, in place of version, stamp and time
+-- vectors).
 use Rattle.std.specs.Prelude.{ℕ, ◌==◌, Bool, not, ◌&&◌, nat_le, nat_lt, min, List, [], ◌∷◌, map, fold, find, Option, if◌then◌else◌}
 use Rattle.std.specs.List.{position_or_len, enumerate_from}
 use Rattle.std.specs.Option.{option_map}

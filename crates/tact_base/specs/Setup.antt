@@ -1,11 +1,13 @@
--- The setup of a run: how many replicas and conits there are, what each owner allows on each conit, and what it lends to each holder at the opening.
+-- The setup of a run: how many replicas and conits there are, what each owner allows on each conit, and what it lends
+-- to each holder at the opening.
 use Rattle.std.specs.Prelude.{◌≡◌, ℕ, ◌+◌, ◌*◌, ◌/◌, ◌%◌, Bool, not, ◌&&◌, ◌==◌, nat_le, nat_lt, if◌then◌else◌, List, length, map, filter, sum, slice_index, slice_get, slice_range, Option, Some, None}
 use Rattle.std.specs.List.{range_with_len, filter_map}
 use Rattle.tact_base.specs.declared.limits.TheConstants.{REPLICAS_MIN, REPLICAS_MAX, CONITS_MAX, ALPHA_MAX}
 use Rattle.tact_base.specs.declared.setup.ConfigFault.{ConfigFault}
 use Rattle.tact_base.specs.declared.setup.ConfigFault.TheVariants.{BadCount, AlphaOver, OwnLoan, LoansOver, NoMemory}
 
--- The counts; by owner and then conit, the owner's alpha there; by owner, conit and holder, the part of it that is lent at the opening.
+-- The counts; by owner and then conit, the owner's alpha there; by owner, conit and holder, the part of it that is lent
+-- at the opening.
 pub record Setup : Type 0 where
   pub replicas : ℕ
   pub conits : ℕ
@@ -50,7 +52,8 @@ abbrev pub owners_and_conits : Setup → List (ℕ × ℕ)
 owners_and_conits s =
     map (λ place. (place / s.conits, place % s.conits)) (range_with_len 0 (s.replicas * s.conits))
 
--- the counts are within their limits, and there is an alpha for each owner and conit and a loan for each owner, conit and holder
+-- the counts are within their limits, and there is an alpha for each owner and conit and a loan for each owner, conit
+-- and holder
 abbrev pub are_counts_good : Setup → Bool
 are_counts_good s =
     nat_le REPLICAS_MIN s.replicas && nat_le s.replicas REPLICAS_MAX

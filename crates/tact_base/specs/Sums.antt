@@ -1,4 +1,5 @@
--- The four sums of weights on a conit, over a list of writes (after Yu and Vahdat's conits; the two sums by sign are this project's own).
+-- The four sums of weights on a conit, over a list of writes (after Yu and Vahdat's conits; the two sums by sign are
+-- this project's own).
 use Rattle.std.specs.Prelude.{ℕ, ℤ, pos, negsuc, suc, ◌+ℤ◌, ◌==◌, List, [], ◌∷◌, filter, map, sum_by}
 use Rattle.std.specs.List.{flat_map}
 use Rattle.tact_base.specs.declared.conit_list.Weight.{Weight}

@@ -1,5 +1,5 @@
-/// What each call of a client passes once: under the lock of its replica, and before the place of its entry is drawn. It
-/// changes nothing that a contract sees.
+/// What each call of a client passes once: under the lock of its replica, and before the place of its entry is drawn.
+/// It changes nothing that a contract sees.
 pub trait Gate: Drop {
     /// A call of a client of a replica has come so far.
     fn reached(&self, replica: u32, client: u32);

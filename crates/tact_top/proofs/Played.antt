@@ -1,4 +1,5 @@
--- What is told of `play`, by the words that all commands have in common; and that without a fault what is asked for comes.
+-- What is told of `play`, by the words that all commands have in common; and that without a fault what is asked for
+-- comes.
 use Rattle.std.proofs.Common.{◌≡◌, ℕ, ◌≤◌, ◌⊎◌, List, Option, Some, None, length, refl, inl, inr, arith}
 use Rattle.run_model.specs.declared.status.InputKind.{InputKind}
 use Rattle.run_model.specs.declared.status.InputKind.TheVariants as input

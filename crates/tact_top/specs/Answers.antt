@@ -1,5 +1,5 @@
--- When each answer of a command that reads an input comes, and what it leaves of the sink. What the command makes of inputs is given:
--- which status an input asks for and which text is written first, and where an input is at fault.
+-- When each answer of a command that reads an input comes, and what it leaves of the sink. What the command makes of
+-- inputs is given: which status an input asks for and which text is written first, and where an input is at fault.
 use Rattle.std.specs.Prelude.{◌≡◌, ◌⊎◌, ℕ, ◌<◌, ◌≤◌, List, Option, IfSome, length}
 use Rattle.run_model.specs.declared.status.InputKind.{InputKind}
 use Rattle.run_model.specs.declared.status.Status.{Status}
@@ -41,7 +41,8 @@ HasCause Asks Faults answer left rest reads reads' writes writes' = IfRead left 
 abbrev pub IsAsked : Asking → Option (List ℕ) → List ℕ → Type 0
 IsAsked Asks left text = IfSome left (λ input. (answer : Status) × Asks input answer text)
 
--- What each answer leaves of the sink: the text that the input asks for with it, a front of a text that it asks for, or nothing more.
+-- What each answer leaves of the sink: the text that the input asks for with it, a front of a text that it asks for, or
+-- nothing more.
 abbrev pub Writes : Asking → Status → Option (List ℕ) → Option (List ℕ) → Option (List ℕ) → Type 0
 Writes Asks status.WriteFault left before after = (text : List ℕ) × GainsPart before after text × IsAsked Asks left text
 Writes Asks status.NoMemory left before after = (after ≡ before) ⊎ ((text : List ℕ) × GainsPart before after text × IsAsked Asks left text)
@@ -49,7 +50,8 @@ Writes Asks status.Done left before after = (text : List ℕ) × Gains before af
 Writes Asks (status.Bad entry cause) left before after = (text : List ℕ) × Gains before after text × IfSome left (λ input. Asks input (status.Bad entry cause) text)
 Writes Asks other left before after = after ≡ before
 
--- Without a fault, an input that isn't too long and is in its grammar gets an answer that it asks for, unless memory runs out.
+-- Without a fault, an input that isn't too long and is in its grammar gets an answer that it asks for, unless memory
+-- runs out.
 abbrev pub Completes : Asking → Faulting → Status → Option (List ℕ) → ℕ → ℕ → ℕ → ℕ → Type 0
 Completes Asks Faults answer left reads reads' writes writes' =
     ¬ HasRisen reads reads' → ¬ HasRisen writes writes'

@@ -39,7 +39,8 @@ command_of (name ∷ []) = Err NoCommand
 command_of (name ∷ first ∷ rest) =
     if pointwise nat_eq first (codes "drill") then drill_of rest else read_of (named first) rest
 
--- where the words ask for a command that reads an input, this is true of it; and where they ask for a drill, of its number
+-- where the words ask for a command that reads an input, this is true of it; and where they ask for a drill, of its
+-- number
 abbrev pub IfReads : Result Command UsageKind → (Reading → Type 0) → Type 0
 IfReads (Ok (Read reading)) Fact = Fact reading
 IfReads other Fact = Unit {0}

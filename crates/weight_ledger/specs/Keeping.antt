@@ -82,11 +82,11 @@ module _ {L : Type 0} where
   owns_of [] = []
   owns_of (v ∷ vs) = v.owns
 
--- The rule, of a cell whose values have the label `name`.
--- wide, lock: there is a word for the lock and one for each place. single, known: one seat is busy, or none where the
--- lock's word is 0, and what it knows is so. home: unless it is out, the value is at home, has the label, and its totals
--- are the words. sums: each total is the sum of all amounts there. once, common: a place is owned by one at most, and
--- no shared one is. sole: where a seat owns a place no other has an amount there.
+-- The rule, of a cell whose values have the label `name`. wide, lock: there is a word for the lock and one for each
+-- place. single, known: one seat is busy, or none where the lock's word is 0, and what it knows is so. home: unless it
+-- is out, the value is at home, has the label, and its totals are the words. sums: each total is the sum of all amounts
+-- there. once, common: a place is owned by one at most, and no shared one is. sole: where a seat owns a place no other
+-- has an amount there.
 pub record Kept {T L : Type 0} (label : T → L) (totals : T → List ℕ) (name : L) (shared owned : ℕ) (s : State (Option T) (View L)) : Type 0 where
   pub wide : length s.words ≡ shared + owned + 1
   pub lock : slice_index s.words 0 ≤ 3

@@ -34,7 +34,8 @@ pub struct CellFault<T> {
 
 impl<T: Counted> Cell<T> {
     /// A cell with the value, whose first `shared` places are shared and whose next `owned` ones are owned; and a tally
-    /// with zeros that owns every owned place. Alone of all calls it takes memory, and want of memory is its only error.
+    /// with zeros that owns every owned place. Alone of all calls it takes memory, and want of memory is its only
+    /// error.
     pub fn new(
         alloc: Global,
         value: T,

@@ -10,8 +10,8 @@ pub record OneLog : Type 0 where
   pub base : ℕ
   pub room : ℕ
 
--- What is kept of the writes that aren't held and of those that are: how many the first are, that those given up are they and some of the
--- others, and few enough to be counted.
+-- What is kept of the writes that aren't held and of those that are: how many the first are, that those given up are
+-- they and some of the others, and few enough to be counted.
 pub record KeepsLog (gone held : List Write) (dropped base : ℕ) : Type 0 where
   pub many : length gone ≡ dropped
   pub above : dropped ≤ base

@@ -10,9 +10,9 @@ use run_model::Message;
 use tact_base::{NoMemory, Numbers};
 
 impl Replica {
-    /// The message that `send` would send to another replica at this moment, where these firsts are given, in the memory
-    /// that the replica was made in. Who needs a second one takes it before sending: afterwards nothing is left to fail.
-    /// `NoMemory` is its only error.
+    /// The message that `send` would send to another replica at this moment, where these firsts are given, in the
+    /// memory that the replica was made in. Who needs a second one takes it before sending: afterwards nothing is left
+    /// to fail. `NoMemory` is its only error.
     pub fn message(&self, moment: u64, to: u32, firsts: &Numbers) -> Result<Message, NoMemory>
         requires to { to < self.now.core.setup.replicas }
         requires other { to ≢ self.now.core.replica }

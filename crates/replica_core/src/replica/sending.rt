@@ -19,9 +19,9 @@ use tact_base::{
 };
 
 impl Replica {
-    /// Sends the next message to another replica, in the memory that the replica was made in. By origin its writes begin past those
-    /// that the other is known to have, or at the given first where that is more (the rule of sending in
-    /// docs/MODEL.md). The moment of the entry is the greater of the handed one and that of the last entry.
+    /// Sends the next message to another replica, in the memory that the replica was made in. By origin its writes
+    /// begin past those that the other is known to have, or at the given first where that is more (the rule of sending
+    /// in docs/MODEL.md). The moment of the entry is the greater of the handed one and that of the last entry.
     ///
     /// `Full` comes exactly where 20,000 entries were made or the clock stands at 2^40. Both faults leave the
     /// replica as it was.
@@ -132,7 +132,8 @@ impl Replica {
         }
     }
 
-    // From each origin in rising order the writes from its first on, none of which is given up, as many as there is room for.
+    // From each origin in rising order the writes from its first on, none of which is given up, as many as there is
+    // room for.
     fn writes(&self, firsts: &[u64]) -> Result<WriteList, NoMemory>
         requires sized { length firsts.now ≡ self.now.core.setup.replicas }
         requires held { (origin : ℕ) → origin < self.now.core.setup.replicas → base_at self.now.core origin ≤ slice_index firsts.now origin }
@@ -147,7 +148,8 @@ impl Replica {
         Ok(writes)
     }
 
-    // How many writes there are from these firsts on, and at most as many as there is room for: how much memory they want.
+    // How many writes there are from these firsts on, and at most as many as there is room for: how much memory they
+    // want.
     fn told_count(&self, firsts: &[u64]) -> usize
         requires { length firsts.now ≡ self.now.core.setup.replicas }
         ensures { result ≡ length (writes_told self.now.core firsts.now) }
@@ -202,7 +204,8 @@ impl Replica {
 // How many writes are copied at once.
 const PIECE: usize = 16;
 
-// Appends writes in pieces, each of which is copied by words: a machine copies longer ones by bytes, which counts more steps.
+// Appends writes in pieces, each of which is copied by words: a machine copies longer ones by bytes, which counts more
+// steps.
 fn append_writes(writes: &mut WriteList, told: &[Write]) -> Result<(), NoMemory>
     ensures { OnOk result (writes.new ≡ writes.old ++ told.now) }
 {

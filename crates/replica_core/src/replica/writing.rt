@@ -68,8 +68,8 @@ impl Replica {
         Ok(self.accept(moment, client, only(weight), op, Some(weight)))
     }
 
-    // Accepts a write that a client asked for, whose weights count; a held one is taken out of what is reserved. The entry
-    // is counted with the write, since there are no more own writes than entries.
+    // Accepts a write that a client asked for, whose weights count; a held one is taken out of what is reserved. The
+    // entry is counted with the write, since there are no more own writes than entries.
     fn accept(
         &mut self,
         moment: u64,

@@ -2,7 +2,8 @@ use Rattle.std.proofs.Common.{◌≡◌, ◌+◌, ◌≤◌, ◌++◌, length, t
 use Rattle.commit_order.specs.Batches.{with_writes}
 use Rattle.commit_order.proofs.merging.merge_back.Given as goal
 
--- what is left of both, merged, stands before what is in its place; and of those held the ones that are left haven't moved
+-- what is left of both, merged, stands before what is in its place; and of those held the ones that are left haven't
+-- moved
 abbrev pub invariant-loop-more : goal.invariant-loop-more
 invariant-loop-more l = record {
   left : l.left ≤ l.fn.held;

@@ -1,4 +1,5 @@
--- `of_items` makes the empty struct, with the items that its clause names (as the toolchain's own list of this kind does).
+-- `of_items` makes the empty struct, with the items that its clause names (as the toolchain's own list of this kind
+-- does).
 use Rattle.std.proofs.Common.{List, [], ◌∷◌, ◌++◌, refl}
 use seplogic.Ra.Ura.{Ura}
 use mir.Syntax.{Fn, Args, a_type}
