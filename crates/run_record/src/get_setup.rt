@@ -10,9 +10,7 @@ ghost use Rattle.run_record.specs.RecordAt.{Tells, bound_at, bounds_at, part_of,
 
 use crate::RecordFault;
 use crate::parts::{Bound, Counts};
-use run_model::{
-    ByteKind, Config, ConfigFault, FieldFault, byte_at, is_passed_by, number_at,
-};
+use run_model::{ByteKind, Config, ConfigFault, FieldFault, byte_at, is_passed_by, number_at};
 use std::alloc::Global;
 use tact_base::{ALPHA_MAX, CONITS_MAX, Items, NoMemory, Numbers, REPLICAS_MAX, REPLICAS_MIN, Row};
 
