@@ -44,7 +44,7 @@ module _ (node node_as : NodeView) (held : HeldView Label) (before after : Locke
     (seen : (note.table ≡ session.desk) × (note.seen ≡ after.clerk.seen)) (learnt : IsPrefix session.seen note.seen)
     (same : node_as ≡ node) (runs : IsRun node_as.desk.setup note.seen) where
   knows : Tells node before session
-  knows = tells node held before session tally now agrees
+  knows = tells agrees
 
   replica : session.replica ≡ after.core.replica
   replica = knows.replica ∙ sym (ap (λ (c : Core). c.replica) core)
@@ -92,7 +92,7 @@ module _ (node : NodeView) (held : HeldView Label) (before after : LockedView) (
     (seen : (note.table ≡ session.desk) × (note.seen ≡ after.clerk.seen)) (entered : HasEntered before after session.seen (entry_in before moment done))
     (quiet : is_call_of session.client done ≡ false) where
   tells_made : Tells node before session
-  tells_made = tells node held before session tally now agrees
+  tells_made = tells agrees
 
   value_made : noted_made session now note ≡ record session { made = session.made + 1; seen = after.clerk.seen }
   value_made = let cells = agrees.cell in let desks = seen.0 in let seens = seen.1 in cc

@@ -32,7 +32,7 @@ pub record Agreed (node : NodeView) (held : HeldView Label) (locked : LockedView
   pub cell : now.id ≡ session.cell
 
 -- where the session is of the node by other names of both
-pub agreed : (turn turn_as : TurnView) (session session_as : SessionView) (held : HeldView Label) (tally now : TallyView)
+pub agreed : {turn turn_as : TurnView} {session session_as : SessionView} {held : HeldView Label} {tally now : TallyView}
     → turn ≡ turn_as
     → session ≡ session_as
     → IsSessionOf turn_as.node session_as
@@ -43,7 +43,7 @@ pub agreed : (turn turn_as : TurnView) (session session_as : SessionView) (held 
     → now ≡ tally
     → tally.id ≡ session.cell
     → Agreed turn.node held turn.state session tally now
-agreed turn turn_as session session_as held tally now same same_session of keeps_turn kept keeps owned tallies cell = record {
+agreed {turn} {turn_as} {session} {session_as} {held} {tally} {now} same same_session of keeps_turn kept keeps owned tallies cell = record {
   turn = keeps_turn;
   kept = kept;
   of = subst (λ (t : TurnView). IsSessionOf t.node session) (sym same) (subst (IsSessionOf turn_as.node) (sym same_session) of);
@@ -52,10 +52,10 @@ agreed turn turn_as session session_as held tally now same same_session of keeps
   cell = ap (λ (t : TallyView). t.id) tallies ∙ cell;
 }
 
-pub tells : (node : NodeView) (held : HeldView Label) (locked : LockedView) (session : SessionView) (tally now : TallyView)
+pub tells : {node : NodeView} {held : HeldView Label} {locked : LockedView} {session : SessionView} {tally now : TallyView}
     → Agreed node held locked session tally now
     → Tells node locked session
-tells node held locked session tally now agrees =
+tells {node} {held} {locked} {session} {tally} {now} agrees =
     let turn = agrees.turn in
     let keeps = agrees.keeps in
     let setup = turn-setup node held locked turn in

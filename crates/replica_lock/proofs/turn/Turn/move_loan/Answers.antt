@@ -12,16 +12,14 @@ use Rattle.replica_lock.proofs.turn.Turn.move_loan.Goals.{After-from_residual}
 leaves : (g : _) (c : After-from_residual g)
     → HasLeft c.self.inside.node.now c.self.inside.locked.value (the_view c.session.inside) (noted (the_view c.session.inside) c.agree.new.tally c.lend.new.note)
 leaves g c =
-    let agrees = agreed _ _ (the_view c.session.inside) _ _ _ _ c.self.view_is c.session.view_is c.requires.session
-    c.self.invariant c.stand.ensures c.session.invariant c.agree.ensures.owned c.agree.ensures.tally refl in
+    let agrees = agreed c.self.view_is c.session.view_is c.requires.session c.self.invariant c.stand.ensures c.session.invariant c.agree.ensures.owned c.agree.ensures.tally refl in
     let told = c.in_err-lend.ensures in
     left _ _ _ _ _ _ _ _ c.lend.new.note agrees told.kept
     (rw c.deref_mut.ensures.value at told.err.0) (rw c.deref_mut.ensures.value at told.err.1) told.note told.learnt.1 c.node.view_is told.run
 
 pub returns-clause-made : goal.returns-clause-made
 returns-clause-made g c =
-    let agrees = agreed _ _ (the_view c.session.inside) _ _ _ _ c.self.view_is c.session.view_is c.requires.session
-    c.self.invariant c.stand.ensures c.session.invariant c.agree.ensures.owned c.agree.ensures.tally refl in
+    let agrees = agreed c.self.view_is c.session.view_is c.requires.session c.self.invariant c.stand.ensures c.session.invariant c.agree.ensures.owned c.agree.ensures.tally refl in
     rw (c.count_made.ensures.session, ← c.self.view_is, ← c.session.view_is)
     (made _ _ _ _ _ _ _ c.lend.new.note c.args.moment (act_of c.args.loan) agrees c.in_ok-lend.ensures.note
     (rw c.deref_mut.ensures.value at c.in_ok-lend.ensures.entered) ((quiet-loan c.args.loan).calls c.session.inside.client))
