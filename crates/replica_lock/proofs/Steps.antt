@@ -39,7 +39,7 @@ pub record HasLeft (node : NodeView) (before : LockedView) (old new : SessionVie
 
 -- A refused step, which left the core and the stored entries as they were,
 -- and whose note has seen what the clerk then has.
-module _ (node node_as : NodeView) (held : HeldView Label) (before after : LockedView) (session : SessionView) (tally now : TallyView) (note : NoteView)
+module _ {node node_as : NodeView} {held : HeldView Label} {before after : LockedView} {session : SessionView} {tally now : TallyView} (note : NoteView)
     (agrees : Agreed node held before session tally now) (kept : IsLocked after) (core : after.core ≡ before.core) (stored : after.stored ≡ before.stored)
     (seen : (note.table ≡ session.desk) × (note.seen ≡ after.clerk.seen)) (learnt : IsPrefix session.seen note.seen)
     (same : node_as ≡ node) (runs : IsRun node_as.desk.setup note.seen) where
@@ -87,7 +87,7 @@ module _ (node node_as : NodeView) (held : HeldView Label) (before after : Locke
   left = record { heard = heard; fault = fault_seen; loan_fault = loan_fault_seen }
 
 -- A step that made an entry that is no call.
-module _ (node : NodeView) (held : HeldView Label) (before after : LockedView) (session : SessionView) (tally now : TallyView) (note : NoteView)
+module _ {node : NodeView} {held : HeldView Label} {before after : LockedView} {session : SessionView} {tally now : TallyView} (note : NoteView)
     (moment : ℕ) (done : Act) (agrees : Agreed node held before session tally now)
     (seen : (note.table ≡ session.desk) × (note.seen ≡ after.clerk.seen)) (entered : HasEntered before after session.seen (entry_in before moment done))
     (quiet : is_call_of session.client done ≡ false) where

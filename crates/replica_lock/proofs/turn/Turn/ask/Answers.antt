@@ -21,7 +21,7 @@ leaves : (g : _) (c : goal.In-Err g)
 leaves g c =
     let agrees = agreed c.self.view_is c.session.view_is c.requires.session c.self.invariant c.stand.ensures c.session.invariant c.agree.ensures.owned c.agree.ensures.tally refl in
     let told = c.in-Err.ensures in
-    left _ _ _ _ _ _ _ _ c.call-answer.new.note agrees told.kept (rw c.deref_mut.ensures.value at told.err.0)
+    left c.call-answer.new.note agrees told.kept (rw c.deref_mut.ensures.value at told.err.0)
     (rw c.deref_mut.ensures.value at told.err.1) told.note told.learnt.1 c.node.view_is told.run
 
 pub call-answer-requires-clause-asked : goal.call-answer-requires-clause-asked

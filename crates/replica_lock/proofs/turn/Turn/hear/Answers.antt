@@ -1,6 +1,5 @@
 use Rattle.std.proofs.Common.{refl, ap}
 use Rattle.replica_lock.specs.Locks.{LockedView}
-use Rattle.replica_lock.specs.contracts.session.Session.{the_view}
 use Rattle.replica_lock.proofs.Steps.{left}
 use Rattle.replica_lock.proofs.Turning.{agreed}
 use Rattle.replica_lock.proofs.turn.Turn.hear.Goals as goal
@@ -11,4 +10,4 @@ returns-clause-heard g c =
     let value = rw c.deref_mut.ensures.value at told.value in
     let agrees = agreed c.self.view_is c.session.view_is c.requires.session c.self.invariant c.stand.ensures c.session.invariant c.agree.ensures.owned c.agree.ensures.tally refl in
     rw (← c.self.view_is, ← c.session.view_is)
-    (left _ _ _ _ _ _ _ _ c.hear.new.note agrees told.kept (ap (λ (v : LockedView). v.core) value) (ap (λ (v : LockedView). v.stored) value) told.note told.learnt.1 c.node.view_is told.run).heard
+    (left c.hear.new.note agrees told.kept (ap (λ (v : LockedView). v.core) value) (ap (λ (v : LockedView). v.stored) value) told.note told.learnt.1 c.node.view_is told.run).heard

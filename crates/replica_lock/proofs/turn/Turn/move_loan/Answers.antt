@@ -14,14 +14,14 @@ leaves : (g : _) (c : After-from_residual g)
 leaves g c =
     let agrees = agreed c.self.view_is c.session.view_is c.requires.session c.self.invariant c.stand.ensures c.session.invariant c.agree.ensures.owned c.agree.ensures.tally refl in
     let told = c.in_err-lend.ensures in
-    left _ _ _ _ _ _ _ _ c.lend.new.note agrees told.kept
+    left c.lend.new.note agrees told.kept
     (rw c.deref_mut.ensures.value at told.err.0) (rw c.deref_mut.ensures.value at told.err.1) told.note told.learnt.1 c.node.view_is told.run
 
 pub returns-clause-made : goal.returns-clause-made
 returns-clause-made g c =
     let agrees = agreed c.self.view_is c.session.view_is c.requires.session c.self.invariant c.stand.ensures c.session.invariant c.agree.ensures.owned c.agree.ensures.tally refl in
     rw (c.count_made.ensures.session, ← c.self.view_is, ← c.session.view_is)
-    (made _ _ _ _ _ _ _ c.lend.new.note c.args.moment (act_of c.args.loan) agrees c.in_ok-lend.ensures.note
+    (made c.lend.new.note c.args.moment (act_of c.args.loan) agrees c.in_ok-lend.ensures.note
     (rw c.deref_mut.ensures.value at c.in_ok-lend.ensures.entered) ((quiet-loan c.args.loan).calls c.session.inside.client))
 
 pub returns-in_err-lend-clause-refused : goal.returns-in_err-lend-clause-refused

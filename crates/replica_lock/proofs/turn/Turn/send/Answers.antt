@@ -15,7 +15,7 @@ leaves : (g : _) (c : After-from_residual g)
 leaves g c =
     let agrees = agreed c.self.view_is c.session.view_is c.requires.session c.self.invariant c.stand.ensures c.session.invariant c.agree.ensures.owned c.agree.ensures.tally refl in
     let told = c.in_err-parcel.ensures in
-    left _ _ _ _ _ _ _ _ c.send.new.note agrees told.kept
+    left c.send.new.note agrees told.kept
     (rw c.deref_mut.ensures.value at told.err.0) (rw c.deref_mut.ensures.value at told.err.1) told.note told.learnt.1 c.node.view_is told.run
 
 pub returns-clause-sent : goal.returns-clause-sent
@@ -26,8 +26,8 @@ returns-clause-sent g c =
     let message = subst (λ (v : LockedView). c.in_ok-parcel.parcel.message ≡ message_to v.core.setup v.core.replica (part_in v) c.args.moment c.args.to) c.deref_mut.ensures.value told.message in
     let done = act.Send c.in_ok-parcel.parcel.message in
     rw (c.count_made.ensures.session, ← c.self.view_is, ← c.session.view_is) (record {
-      made = made _ _ _ _ _ _ _ c.send.new.note c.args.moment done agrees told.note entered refl;
-      message_is = message_made _ _ _ _ _ _ _ c.send.new.note c.args.moment done agrees told.note entered refl c.args.to c.in_ok-parcel.parcel.message message;
+      made = made c.send.new.note c.args.moment done agrees told.note entered refl;
+      message_is = message_made c.send.new.note c.args.moment done agrees told.note entered refl c.args.to c.in_ok-parcel.parcel.message message;
     })
 
 pub returns-in_err-parcel-clause-refused : goal.returns-in_err-parcel-clause-refused

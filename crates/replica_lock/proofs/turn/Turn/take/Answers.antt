@@ -12,14 +12,14 @@ leaves : (g : _) (c : After-from_residual g)
 leaves g c =
     let agrees = agreed c.self.view_is c.session.view_is c.requires.session c.self.invariant c.stand.ensures c.session.invariant c.agree.ensures.owned c.agree.ensures.tally refl in
     let told = c.in_err-take.ensures in
-    left _ _ _ _ _ _ _ _ c.take.new.note agrees told.kept
+    left c.take.new.note agrees told.kept
     (rw c.deref_mut.ensures.value at told.err.0) (rw c.deref_mut.ensures.value at told.err.1) told.note told.learnt.1 c.node.view_is told.run
 
 pub returns-clause-taken : goal.returns-clause-taken
 returns-clause-taken g c =
     let agrees = agreed c.self.view_is c.session.view_is c.requires.session c.self.invariant c.stand.ensures c.session.invariant c.agree.ensures.owned c.agree.ensures.tally refl in
     rw (c.count_made.ensures.session, ← c.self.view_is, ← c.session.view_is)
-    (made _ _ _ _ _ _ _ c.take.new.note c.args.moment _ agrees c.in_ok-take.ensures.note (rw c.deref_mut.ensures.value at c.in_ok-take.ensures.entered) refl)
+    (made c.take.new.note c.args.moment _ agrees c.in_ok-take.ensures.note (rw c.deref_mut.ensures.value at c.in_ok-take.ensures.entered) refl)
 
 pub returns-in_err-take-clause-refused : goal.returns-in_err-take-clause-refused
 returns-in_err-take-clause-refused g c =
