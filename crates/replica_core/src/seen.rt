@@ -226,7 +226,7 @@ fn follow(image: &mut Image, ordered: &Ordered, place: u64)
     ensures ops { image.new.ops ≡ ops_of (tentative_past ordered.now.point ordered.now.writes) }
     ensures room { image.new.room + length (tentative_past ordered.now.point ordered.now.writes) ≡ image.old.room + length image.old.ops }
 {
-    image.redo_from(place, tentative_from(ordered, place));
+    image.insert_all(place, tentative_from(ordered, place));
 }
 
 // The tentative writes from a place on.

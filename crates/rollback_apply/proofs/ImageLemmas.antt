@@ -1,27 +1,27 @@
 -- What operations do to an image, key by key, and how the layers that are kept follow them.
-use Rattle.std.proofs.Common.{◌≡◌, ℕ, zero, suc, ℤ, pos, ◌+ℤ◌, ◌-ℤ◌, ◌-◌, ◌+◌, ◌<◌, ◌≤◌, Bool, true, false, ◌==◌}
-use Rattle.std.proofs.Common.{if◌then◌else◌, nat_le, slice_get, List, [], ◌∷◌, ◌++◌, length, get_or, take, drop, All}
-use Rattle.std.proofs.Common.{Option, Some, None, unwrap_or, refl, sym, ap, ◌∙◌, map, arith}
-use Rattle.std.specs.List.{AllZip}
+use Rattle.std.proofs.Common.{◌≡◌, ℕ, zero, suc, pos, ◌+ℤ◌, ◌-ℤ◌, ◌-◌, ◌+◌, ◌<◌, ◌≤◌, Bool, true, false, ◌==◌}
+use Rattle.std.proofs.Common.{if◌then◌else◌, nat_le, slice_get, List, [], ◌∷◌, ◌++◌, length, get_or, take, drop, insert, set, All}
+use Rattle.std.proofs.Common.{Option, Some, None, refl, sym, ap, ap₂, ◌∙◌, ◌*◌, map, arith}
+use Rattle.std.specs.List.{sum_by}
 use Rattle.std.proofs.lemmas.Bool.{or_parts, eqb-true, le-leb}
-use Rattle.std.proofs.lemmas.List.{same_from_push, take_more, map-append, drop-map}
-use Rattle.std.proofs.lemmas.List.Elements.{All-head, All-tail, All-append, All-weaker}
-use Rattle.std.proofs.lemmas.List.Sums.{fold-append}
+use Rattle.std.proofs.lemmas.List.{same_from_push, take_all, take_more, take_more_set, take-append-le, take-map, drop-map, map-append, length-map, length-take}
+use Rattle.std.proofs.lemmas.List.Elements.{All-append, All-cons, All-drop, All-get_or, All-head, All-tail, All-take, All-weaker}
+use Rattle.std.proofs.lemmas.List.Sums.{fold-append, sum_by-append, sum_by-cons, sum_by-le-sum_by}
 use Rattle.std.proofs.lemmas.Option.{slice_get-map}
-use Rattle.std.specs.Option.{option_map}
+use Rattle.std.specs.Option.{option_map, option_map_or}
 use Rattle.std.proofs.Math.Seq.{drop-append_seam}
-use Rattle.tact_base.proofs.ListLemmas.{fold-push, All-append_left, All-append_right, All-one}
-use Rattle.tact_base.specs.Images.{Image, capped, with_value, shift_acts, after_op, image_from}
+use Rattle.tact_base.proofs.ListLemmas.{fold-push}
+use Rattle.tact_base.specs.Images.{Image, capped, with_value, shift_acts, after_op, image_from, ops_of}
 use Rattle.tact_base.specs.declared.write.Op.{Op}
+use Rattle.tact_base.specs.declared.write.Write.{Write}
 use Rattle.tact_base.specs.declared.write.Op.TheVariants.{Put, Add, Shift}
-use Rattle.rollback_apply.specs.Image.{ImageState, base_of, value_before}
+use Rattle.rollback_apply.specs.Image.{ImageState, base_of, value_before, AreJoined}
 use Rattle.rollback_apply.specs.Keys.{first_key, second_key, names, key_values, with_key_values, value_among, undos_of}
-use Rattle.rollback_apply.specs.Recent.{RecentState, place_of, has, over, Extends}
-use Rattle.rollback_apply.specs.Layers.{HasPlaces, Recalls, SetsKeys, IsApplied}
+use Rattle.rollback_apply.specs.Current.{CurrentState, place_of, holds, lacking, Extends, KeepPlaces}
+use Rattle.rollback_apply.specs.Layers.{ops_in, wanted, all_wanted, ArePlaced, HasPlaces, SetsKeys, IsApplied}
 use Rattle.rollback_apply.specs.declared.keys.KeyValues.{KeyValues}
-use Rattle.rollback_apply.specs.declared.layers.Undo.{Undo}
-use Rattle.rollback_apply.specs.declared.recalled.Places.{Places}
-use Rattle.rollback_apply.specs.declared.recalled.Recalled.{Recalled}
+use Rattle.rollback_apply.specs.declared.layers.Layer.{Layer}
+use Rattle.rollback_apply.specs.declared.layers.Places.{Places}
 
 -- images that agree at each key are one
 pub same_image : (f g : Image) → ((key : ℕ) → f key ≡ g key) → f ≡ g
@@ -67,31 +67,6 @@ with_key_values-other old new op elsewhere key = at (key == second_key op) (key 
   at false true is_last is_first = rw (is_last, is_first) (ap new (sym (eqb-true key (first_key op) is_first)))
   at false false is_last is_first = rw (is_last, is_first) (elsewhere key (rw (is_first, is_last) refl))
 
--- over an image it changes them alone
-pub over-set : (base : Image) (old new : RecentState) (op : Op) (values : KeyValues)
-    → SetsKeys old new op values
-    → (key : ℕ)
-    → over base new key ≡ with_key_values (over base old) op values key
-over-set base old new op values sets key = at (key == second_key op) (key == first_key op) refl refl where
-  at : (last first : Bool) → (key == second_key op) ≡ last → (key == first_key op) ≡ first
-      → over base new key ≡ with_key_values (over base old) op values key
-  at true first is_last is_first = rw (sets key, is_last) refl
-  at false true is_last is_first = rw (sets key, is_last, is_first) refl
-  at false false is_last is_first = rw (sets key, is_last, is_first) refl
-
--- a key that has no value then is none of them, and had none
-pub set-lacks : (old new : RecentState) (op : Op) (values : KeyValues)
-    → SetsKeys old new op values
-    → (key : ℕ)
-    → has new key ≡ None
-    → (names op key ≡ false) × (has old key ≡ None)
-set-lacks old new op values sets key lacks = at (key == second_key op) (key == first_key op) refl refl where
-  at : (last first : Bool) → (key == second_key op) ≡ last → (key == first_key op) ≡ first
-      → (names op key ≡ false) × (has old key ≡ None)
-  at true first is_last is_first = let there = rw (sets key, is_last) at lacks in absurd (cc)
-  at false true is_last is_first = let there = rw (sets key, is_last, is_first) at lacks in absurd (cc)
-  at false false is_last is_first = (rw (is_first, is_last) refl, rw (sets key, is_last, is_first) at lacks)
-
 -- the undos of joined lists
 pub undos_of-append : (image : Image) (front rest : List Op)
     → undos_of image (front ++ rest) ≡ undos_of image front ++ undos_of (image_from image front) rest
@@ -103,40 +78,9 @@ pub length-undos_of : (image : Image) (ops : List Op) → length (undos_of image
 length-undos_of image [] = refl
 length-undos_of image (op ∷ ops) = let rest = length-undos_of (after_op image op) ops in grind arith
 
--- what the undos have of joined lists, at the last of each
-pub AllZip-last : {A B : Type 0} (R : A → B → Type 0) (xs : List A) (ys : List B) (x : A) (y : B)
-    → AllZip R (xs ++ x ∷ []) (ys ++ y ∷ [])
-    → AllZip R xs ys × R x y
-AllZip-last R [] [] x y zip = (tt, zip.0)
-AllZip-last R [] (other ∷ []) x y zip = absurd zip.1
-AllZip-last R [] (other ∷ next ∷ ys) x y zip = absurd zip.1
-AllZip-last R (first ∷ []) [] x y zip = absurd zip.1
-AllZip-last R (first ∷ next ∷ xs) [] x y zip = absurd zip.1
-AllZip-last R (first ∷ xs) (other ∷ ys) x y zip =
-    let rest = AllZip-last R xs ys x y zip.1 in
-    ((zip.0, rest.0), rest.1)
-
--- at one more of each
-pub AllZip-more : {A B : Type 0} (R : A → B → Type 0) (xs : List A) (ys : List B) (x : A) (y : B)
-    → AllZip R xs ys
-    → R x y
-    → AllZip R (xs ++ x ∷ []) (ys ++ y ∷ [])
-AllZip-more R [] [] x y zip one = (one, tt)
-AllZip-more R [] (other ∷ ys) x y zip one = absurd zip
-AllZip-more R (first ∷ xs) [] x y zip one = absurd zip
-AllZip-more R (first ∷ xs) (other ∷ ys) x y zip one = (zip.0, AllZip-more R xs ys x y zip.1 one)
-
--- after those of the front
-pub AllZip-drop : {A B : Type 0} (R : A → B → Type 0) (xs : List A) (front rest : List B)
-    → AllZip R xs (front ++ rest)
-    → AllZip R (drop (length front) xs) rest
-AllZip-drop R xs [] rest zip = zip
-AllZip-drop R [] (y ∷ front) rest zip = absurd zip
-AllZip-drop R (x ∷ xs) (y ∷ front) rest zip = AllZip-drop R xs front rest zip.1
-
--- the places of an operation stay
-pub has_places-stay : (old new : RecentState) (places : Places) (op : Op)
-    → ((key place : ℕ) → place_of old key ≡ Some place → place_of new key ≡ Some place)
+-- the places of the keys of an operation stay
+pub has_places-stay : (old new : CurrentState) (places : Places) (op : Op)
+    → KeepPlaces old new
     → HasPlaces old places op
     → HasPlaces new places op
 has_places-stay old new places op stay has = record {
@@ -144,217 +88,265 @@ has_places-stay old new places op stay has = record {
   second = stay (second_key op) places.second has.second;
 }
 
--- and so do those of each that is recalled
-pub recalls-stay : (old new : RecentState) (recalled : List Recalled)
-    → ((key place : ℕ) → place_of old key ≡ Some place → place_of new key ≡ Some place)
-    → Recalls old recalled
-    → Recalls new recalled
-recalls-stay old new recalled stay all =
-    All-weaker (λ one. HasPlaces old one.places one.op) (λ one. HasPlaces new one.places one.op)
-    (λ one has. has_places-stay old new one.places one.op stay has) recalled all
-
--- and those of each that is applied
-pub places-stay : (old new : RecentState) (undos : List Undo) (ops : List Op)
-    → ((key place : ℕ) → place_of old key ≡ Some place → place_of new key ≡ Some place)
-    → AllZip (λ undo op. HasPlaces old undo.places op) undos ops
-    → AllZip (λ undo op. HasPlaces new undo.places op) undos ops
-places-stay old new [] [] stay zip = tt
-places-stay old new [] (op ∷ ops) stay zip = absurd zip
-places-stay old new (undo ∷ undos) [] stay zip = absurd zip
-places-stay old new (undo ∷ undos) (op ∷ ops) stay zip =
-    (has_places-stay old new undo.places op stay zip.0, places-stay old new undos ops stay zip.1)
+-- and so do those of each layer
+pub are_placed-stay : (old new : CurrentState) (layers : List Layer)
+    → KeepPlaces old new
+    → ArePlaced old layers
+    → ArePlaced new layers
+are_placed-stay old new layers stay all =
+    All-weaker (λ (layer : Layer). HasPlaces old layer.places layer.op) (λ (layer : Layer). HasPlaces new layer.places layer.op)
+    (λ layer has. has_places-stay old new layer.places layer.op stay has) layers all
 
 -- the same places are the places of the same keys
-pub same-places : (old new : RecentState)
-    → new.places ≡ old.places
-    → (key place : ℕ)
-    → place_of old key ≡ Some place
-    → place_of new key ≡ Some place
+pub same-places : (old new : CurrentState) → new.places ≡ old.places → KeepPlaces old new
 same-places old new same key place there = rw same there
 
--- keys that get values that they had over the image change nothing
-pub applied-more : (base : Image) (old new : RecentState) (undos : List Undo) (ops : List Op)
-    → Extends base old new
-    → IsApplied base old undos ops
-    → IsApplied base new undos ops
-applied-more base old new undos ops more applied = record {
+-- keys that get places, where they hold what they held, change nothing
+pub applied-more : (base : Image) (old new : CurrentState) (layers : List Layer)
+    → Extends old new
+    → IsApplied base old layers
+    → IsApplied base new layers
+applied-more base old new layers more applied = record {
   undone = applied.undone;
-  places = places-stay old new undos ops more.places applied.places;
-  fold = λ key. more.over key ∙ applied.fold key;
-  lacks = λ key none. applied.lacks key (more.lacks key none);
+  fold = λ key. more.holds key ∙ applied.fold key;
 }
 
+abbrev pub held_of : Layer → KeyValues
+held_of layer = layer.held
+
+abbrev pub op_of : Write → Op
+op_of write = write.op
+
+abbrev pub op_in : Layer → Op
+op_in layer = layer.op
+
 -- one operation more
-pub applied-push : (base : Image) (old new : RecentState) (undos : List Undo) (ops : List Op) (op : Op) (undo : Undo) (values : KeyValues)
-    → IsApplied base old undos ops
-    → HasPlaces old undo.places op
-    → undo.held ≡ key_values (over base old) op
-    → ((image : Image) → key_values image op ≡ undo.held → key_values (after_op image op) op ≡ values)
-    → new.places ≡ old.places
-    → SetsKeys old new op values
-    → IsApplied base new (undos ++ undo ∷ []) (ops ++ op ∷ [])
-applied-push base old new undos ops op undo values applied places holds after stay sets =
+pub applied-push : (base : Image) (old new : CurrentState) (layers : List Layer) (layer : Layer) (values : KeyValues)
+    → IsApplied base old layers
+    → layer.held ≡ key_values (holds old) layer.op
+    → ((image : Image) → key_values image layer.op ≡ layer.held → key_values (after_op image layer.op) layer.op ≡ values)
+    → SetsKeys old new layer.op values
+    → IsApplied base new (layers ++ layer ∷ [])
+applied-push base old new layers layer values applied held after sets =
+    let op = layer.op in
+    let ops = ops_in layers in
     let now = image_from base ops in
-    let same : over base old ≡ now = same_image (over base old) now applied.fold in
-    let held_is : undo.held ≡ key_values now op = holds ∙ ap (λ image. key_values image op) same in
+    let same : holds old ≡ now = same_image (holds old) now applied.fold in
+    let held_is : layer.held ≡ key_values now op = held ∙ ap (λ image. key_values image op) same in
     let values_are : key_values (after_op now op) op ≡ values = after now (sym held_is) in
+    let all : ops_in (layers ++ layer ∷ []) ≡ ops ++ op ∷ [] = map-append op_in layers (layer ∷ []) in
     record {
       undone =
-          map-append (λ (undo : Undo). undo.held) undos (undo ∷ [])
-          ∙ ap (λ first. first ++ undo.held ∷ []) applied.undone
+          map-append held_of layers (layer ∷ [])
+          ∙ ap (λ first. first ++ layer.held ∷ []) applied.undone
           ∙ ap (λ last. undos_of base ops ++ last ∷ []) held_is
-          ∙ sym (undos_of-append base ops (op ∷ []));
-      places =
-          places-stay old new (undos ++ undo ∷ []) (ops ++ op ∷ []) (same-places old new stay)
-          (AllZip-more (λ undo op. HasPlaces old undo.places op) undos ops undo op applied.places places);
+          ∙ sym (undos_of-append base ops (op ∷ []))
+          ∙ ap (undos_of base) (sym all);
       fold = λ key.
-          over-set base old new op values sets key
+          sets key
           ∙ ap (λ image. with_key_values image op values key) same
           ∙ ap (λ last. with_key_values now op last key) (sym values_are)
           ∙ with_key_values-other now (after_op now op) op (λ other apart. sym (after_op-unnamed now op other apart)) key
-          ∙ sym (ap (λ (image : Image). image key) (fold-push after_op base ops op));
-      lacks = λ key none.
-          let both = set-lacks old new op values sets key none in
-          All-append (λ op. names op key ≡ false) ops (op ∷ [])
-          (applied.lacks key both.1) (All-one (λ op. names op key ≡ false) op both.0);
+          ∙ sym (ap (λ (image : Image). image key) (fold-push after_op base ops op))
+          ∙ ap (λ done. image_from base done key) (sym all);
     }
 
 -- one operation less
-pub applied-pop : (base : Image) (old new : RecentState) (undos : List Undo) (ops : List Op) (op : Op) (undo : Undo)
-    → IsApplied base old (undos ++ undo ∷ []) (ops ++ op ∷ [])
-    → new.places ≡ old.places
-    → SetsKeys old new op undo.held
-    → IsApplied base new undos ops
-applied-pop base old new undos ops op undo applied stay sets =
+pub applied-pop : (base : Image) (old new : CurrentState) (layers : List Layer) (layer : Layer)
+    → IsApplied base old (layers ++ layer ∷ [])
+    → SetsKeys old new layer.op layer.held
+    → IsApplied base new layers
+applied-pop base old new layers layer applied sets =
+    let op = layer.op in
+    let ops = ops_in layers in
     let now = image_from base ops in
-    let same : over base old ≡ after_op now op =
-    same_image (over base old) (image_from base (ops ++ op ∷ [])) applied.fold ∙ fold-push after_op base ops op in
+    let all : ops_in (layers ++ layer ∷ []) ≡ ops ++ op ∷ [] = map-append op_in layers (layer ∷ []) in
+    let same : holds old ≡ after_op now op =
+    same_image (holds old) (image_from base (ops_in (layers ++ layer ∷ []))) applied.fold
+    ∙ ap (image_from base) all ∙ fold-push after_op base ops op in
     let both =
-    same_from_push (map (λ (undo : Undo). undo.held) undos) (undos_of base ops) undo.held (key_values now op)
-    (sym (map-append (λ (undo : Undo). undo.held) undos (undo ∷ [])) ∙ applied.undone ∙ undos_of-append base ops (op ∷ [])) in
+    same_from_push (map held_of layers) (undos_of base ops) layer.held (key_values now op)
+    (sym (map-append held_of layers (layer ∷ [])) ∙ applied.undone ∙ ap (undos_of base) all ∙ undos_of-append base ops (op ∷ [])) in
     record {
       undone = both.0;
-      places =
-          places-stay old new undos ops (same-places old new stay)
-          (AllZip-last (λ undo op. HasPlaces old undo.places op) undos ops undo op applied.places).0;
       fold = λ key.
-          over-set base old new op undo.held sets key
-          ∙ ap (λ image. with_key_values image op undo.held key) same
+          sets key
+          ∙ ap (λ image. with_key_values image op layer.held key) same
           ∙ ap (λ last. with_key_values (after_op now op) op last key) both.1
           ∙ with_key_values-other (after_op now op) now op (after_op-unnamed now op) key;
-      lacks = λ key none.
-          All-append_left (λ op. names op key ≡ false) ops (op ∷ [])
-          (applied.lacks key (set-lacks old new op undo.held sets key none).1);
     }
 
--- the first operation that isn't applied yet, read with any default
-pub applied-next : (base : Image) (old found new : RecentState) (undos : List Undo) (ops : List Op) (count : ℕ) (op d : Op) (undo : Undo) (values : KeyValues)
-    → count < length ops
-    → op ≡ get_or ops count d
-    → IsApplied base old undos (take count ops)
-    → Extends base old found
-    → HasPlaces found undo.places op
-    → undo.held ≡ key_values (over base old) op
-    → ((image : Image) → key_values image op ≡ undo.held → key_values (after_op image op) op ≡ values)
-    → new.places ≡ found.places
-    → SetsKeys found new op values
-    → IsApplied base new (undos ++ undo ∷ []) (take (count + 1) ops)
-applied-next base old found new undos ops count op d undo values more there applied extends places holds after stay sets =
-    let next : take (count + 1) ops ≡ take count ops ++ op ∷ [] =
-    take_more ops count d more ∙ ap (λ last. take count ops ++ last ∷ []) (sym there) in
-    let same : over base found ≡ over base old = same_image (over base found) (over base old) extends.over in
-    rw next
-    (applied-push base found new undos (take count ops) op undo values
-    (applied-more base old found undos (take count ops) extends applied) places
-    (holds ∙ ap (λ image. key_values image op) (sym same)) after stay sets)
+-- the keys of one of the layers have their places
+pub places-of : (current : CurrentState) (layers : List Layer) (at : ℕ) (layer d : Layer)
+    → at < length layers
+    → layer ≡ get_or layers at d
+    → ArePlaced current layers
+    → HasPlaces current layer.places layer.op
+places-of current layers at layer d within is placed =
+    rw is (All-get_or (λ (layer : Layer). HasPlaces current layer.places layer.op) layers at d within placed)
 
--- the last operation that is applied, read with any default, beside its undo
-last-applied : (base : Image) (recent : RecentState) (all undos : List Undo) (ops : List Op) (undo : Undo) (d : Op)
-    (total count : ℕ)
-    → all ≡ undos ++ undo ∷ []
-    → count + 1 ≡ total
-    → total ≤ length ops
-    → IsApplied base recent all (take total ops)
-    → IsApplied base recent (undos ++ undo ∷ []) (take count ops ++ get_or ops count d ∷ [])
-last-applied base recent all undos ops undo d total count split more within applied =
-    rw (split, ← more, take_more ops count d (omega (arith, more, within))) at applied
+-- the layer at a place, the last that is applied, is undone
+pub undone-at : (base : Image) (old new : CurrentState) (layers : List Layer) (at : ℕ) (layer d : Layer)
+    → at < length layers
+    → layer ≡ get_or layers at d
+    → IsApplied base old (take (at + 1) layers)
+    → SetsKeys old new layer.op layer.held
+    → IsApplied base new (take at layers)
+undone-at base old new layers at layer d within is applied sets =
+    applied-pop base old new (take at layers) layer
+    (rw (take_more layers at d within ∙ ap (λ (last : Layer). take at layers ++ last ∷ []) (sym is)) at applied) sets
 
--- its keys have the places of that undo
-pub last-places : (base : Image) (recent : RecentState) (all undos : List Undo) (ops : List Op) (undo : Undo) (d : Op)
-    (total count : ℕ)
-    → all ≡ undos ++ undo ∷ []
-    → count + 1 ≡ total
-    → total ≤ length ops
-    → IsApplied base recent all (take total ops)
-    → HasPlaces recent undo.places (get_or ops count d)
-last-places base recent all undos ops undo d total count split more within applied =
-    let last = last-applied base recent all undos ops undo d total count split more within applied in
-    let has = λ (undo : Undo) (op : Op). HasPlaces recent undo.places op in
-    (AllZip-last has undos (take count ops) undo (get_or ops count d) last.places).1
+-- the layer at a place is put there with what its keys hold, and applied after those before it
+pub applied-at : (base : Image) (old new : CurrentState) (layers : List Layer) (at : ℕ) (layer : Layer) (values : KeyValues)
+    → at < length layers
+    → IsApplied base old (take at layers)
+    → layer.held ≡ key_values (holds old) layer.op
+    → ((image : Image) → key_values image layer.op ≡ layer.held → key_values (after_op image layer.op) layer.op ≡ values)
+    → SetsKeys old new layer.op values
+    → IsApplied base new (take (at + 1) (set layers at layer))
+applied-at base old new layers at layer values within applied held after sets =
+    rw (take_more_set layers at layer within)
+    (applied-push base old new (take at layers) layer values applied held after sets)
 
--- and it undone
-pub applied-last : (base : Image) (old new : RecentState) (all undos : List Undo) (ops : List Op) (undo : Undo)
-    (total count : ℕ)
-    → all ≡ undos ++ undo ∷ []
-    → count + 1 ≡ total
-    → total ≤ length ops
-    → IsApplied base old all (take total ops)
-    → new.places ≡ old.places
-    → ((op : Op) → HasPlaces old undo.places op → SetsKeys old new op undo.held)
-    → IsApplied base new undos (take count ops)
-applied-last base old new all undos ops undo total count split more within applied stay sets =
-    let d : Op = Put 0 (pos 0) in
-    let op = get_or ops count d in
-    let last = last-applied base old all undos ops undo d total count split more within applied in
-    let places = last-places base old all undos ops undo d total count split more within applied in
-    applied-pop base old new undos (take count ops) op undo last stay (sets op places)
+-- the first operations are committed
+pub applied-settle : (base settled : Image) (current : CurrentState) (front rest : List Layer)
+    → IsApplied base current (front ++ rest)
+    → settled ≡ image_from base (ops_in front)
+    → IsApplied settled current rest
+applied-settle base settled current front rest applied is =
+    let first = undos_of base (ops_in front) in
+    let last = undos_of (image_from base (ops_in front)) (ops_in rest) in
+    let all : ops_in (front ++ rest) ≡ ops_in front ++ ops_in rest = map-append op_in front rest in
+    let count : length (map held_of front) ≡ length first =
+    length-map front held_of ∙ sym (length-map front op_in) ∙ sym (length-undos_of base (ops_in front)) in
+    let joined : map held_of front ++ map held_of rest ≡ first ++ last =
+    sym (map-append held_of front rest) ∙ applied.undone ∙ ap (undos_of base) all ∙ undos_of-append base (ops_in front) (ops_in rest) in
+    record {
+      undone =
+          sym (drop-append_seam (map held_of front) (map held_of rest))
+          ∙ ap₂ drop count joined
+          ∙ drop-append_seam first last
+          ∙ ap (λ image. undos_of image (ops_in rest)) (sym is);
+      fold = λ key.
+          applied.fold key
+          ∙ ap (λ done. image_from base done key) all
+          ∙ ap (λ (image : Image). image key) (fold-append after_op base (ops_in front) (ops_in rest))
+          ∙ ap (λ image. image_from image (ops_in rest) key) (sym is);
+    }
 
--- more memory changes nothing
-pub applied-same : (base settled : Image) (old new : RecentState) (undos kept : List Undo) (ops : List Op)
-    → ((key : ℕ) → settled key ≡ base key)
-    → Extends base old new
-    → kept ≡ undos
-    → IsApplied base old undos ops
-    → IsApplied settled new kept ops
-applied-same base settled old new undos kept ops same more all applied =
-    rw (same_image settled base same, all) (applied-more base old new undos ops more applied)
+-- keys that have places want no more than before
+lacking-stays : (old new : CurrentState) (key : ℕ) → KeepPlaces old new → lacking new key ≤ lacking old key
+lacking-stays old new key stay = at (place_of old key) refl where
+  at : (found : Option ℕ) → place_of old key ≡ found → lacking new key ≤ lacking old key
+  at None none = rw none (one (place_of new key)) where
+    one : (found : Option ℕ) → option_map_or (λ place. 0) found 1 ≤ 1
+    one None = omega arith
+    one (Some place) = omega arith
+  at (Some place) some = rw (some, stay key place some) (omega arith)
 
--- a key that has no value here has what lies below
-over-none : (image : Image) (recent : RecentState) (key : ℕ)
-    → has recent key ≡ None
-    → over image recent key ≡ image key
-over-none image recent key none = ap (λ found. unwrap_or found (image key)) none
+pub wanted-stays : (old new : CurrentState) (op : Op) → KeepPlaces old new → wanted new op ≤ wanted old op
+wanted-stays old new op stay =
+    omega (arith, lacking-stays old new (first_key op) stay, lacking-stays old new (second_key op) stay)
 
--- the first operations go into the image below
-pub applied-settle : (base settled : Image) (recent : RecentState) (undos : List Undo) (front rest : List Op)
-    → IsApplied base recent undos (front ++ rest)
-    → settled ≡ image_from base front
-    → IsApplied settled recent (drop (length front) undos) rest
-applied-settle base settled recent undos front rest applied is = record {
-  undone =
-      let first = undos_of base front in
-      let last = undos_of (image_from base front) rest in
-      sym (drop-map (λ (undo : Undo). undo.held) (length front) undos)
-      ∙ ap (λ all. drop (length front) all) (applied.undone ∙ undos_of-append base front rest)
-      ∙ ap (λ count. drop count (first ++ last)) (sym (length-undos_of base front))
-      ∙ drop-append_seam first last
-      ∙ ap (λ image. undos_of image rest) (sym is);
-  places = AllZip-drop (λ undo op. HasPlaces recent undo.places op) undos front rest applied.places;
-  fold = λ key.
-      stays key (has recent key) refl
-      ∙ applied.fold key
-      ∙ ap (λ (image : Image). image key) (fold-append after_op base front rest)
-      ∙ ap (λ image. image_from image rest key) (sym is);
-  lacks = λ key none. All-append_right (λ op. names op key ≡ false) front rest (applied.lacks key none);
-} where
-  stays : (key : ℕ) (found : Option ℤ) → has recent key ≡ found → over settled recent key ≡ over base recent key
-  stays key None none =
-      over-none settled recent key none
-      ∙ ap (λ (image : Image). image key) is
-      ∙ image_from-unnamed base front key (All-append_left (λ op. names op key ≡ false) front rest (applied.lacks key none))
-      ∙ sym (over-none base recent key none)
-  stays key (Some value) some =
-      ap (λ found. unwrap_or found (settled key)) some ∙ sym (ap (λ found. unwrap_or found (base key)) some)
+pub all_wanted-stays : (old new : CurrentState) (ops : List Op) → KeepPlaces old new → all_wanted new ops ≤ all_wanted old ops
+all_wanted-stays old new ops stay = sum_by-le-sum_by (wanted new) (wanted old) ops (λ op. wanted-stays old new op stay)
+
+-- the last of operations want what all do but those before them
+pub all_wanted-push : (current : CurrentState) (ops : List Op) (op : Op) → all_wanted current (ops ++ op ∷ []) ≡ all_wanted current ops + wanted current op
+all_wanted-push current ops op =
+    omega (arith, sum_by-append (wanted current) ops (op ∷ []))
+
+-- keys that have their places want none
+pub placed-wants : (current : CurrentState) (places : Places) (op : Op) → HasPlaces current places op → wanted current op ≡ 0
+placed-wants current places op has =
+    let first : lacking current (first_key op) ≡ 0 = rw has.first refl in
+    let second : lacking current (second_key op) ≡ 0 = rw has.second refl in
+    omega (arith, first, second)
+
+-- the keys of layers want none
+pub none_wanted : (current : CurrentState) (layers : List Layer) → ArePlaced current layers → all_wanted current (ops_in layers) ≡ 0
+none_wanted current [] placed = refl
+none_wanted current (layer ∷ layers) placed =
+    let P = λ (layer : Layer). HasPlaces current layer.places layer.op in
+    let all : all_wanted current (ops_in (layer ∷ layers)) ≡ wanted current layer.op + all_wanted current (ops_in layers) = sum_by-cons (wanted current) layer.op (ops_in layers) in
+    omega (arith, all, placed-wants current layer.places layer.op (All-head P layer layers placed), none_wanted current layers (All-tail P layer layers placed))
+
+-- what the first of writes wanted, the others want no more once it has its places
+pub first_wanted : (old new : CurrentState) (writes : List Write) (write d : Write) (places : Places)
+    → 0 < length writes
+    → write ≡ get_or writes 0 d
+    → KeepPlaces old new
+    → HasPlaces new places write.op
+    → all_wanted new (ops_of writes) + wanted old write.op ≤ all_wanted old (ops_of writes)
+first_wanted old new [] write d places some is stay has = absurd (omega (arith, some))
+first_wanted old new (first ∷ writes) write d places some is stay has =
+    let op = first.op in
+    let same : write.op ≡ op = ap (λ (w : Write). w.op) is in
+    omega (
+      arith,
+      sum_by-cons (wanted new) op (ops_of writes),
+      sum_by-cons (wanted old) op (ops_of writes),
+      placed-wants new places op (rw (← same) has),
+      ap (wanted old) same,
+      all_wanted-stays old new (ops_of writes) stay,
+    )
+
+-- and those of any operations at most two each
+pub few_wanted : (current : CurrentState) (ops : List Op) → all_wanted current ops ≤ 2 * length ops
+few_wanted current [] = omega arith
+few_wanted current (op ∷ ops) =
+    let all : all_wanted current (op ∷ ops) ≡ wanted current op + all_wanted current ops = sum_by-cons (wanted current) op ops in
+    omega (arith, all, few (first_key op), few (second_key op), few_wanted current ops) where
+      few : (key : ℕ) → lacking current key ≤ 1
+      few key = at (place_of current key) where
+        at : (found : Option ℕ) → option_map_or (λ place. 0) found 1 ≤ 1
+        at None = omega arith
+        at (Some place) = omega arith
+
+-- operations that are put among layers want at most two places for each new one
+pub joined_wanted : (current : CurrentState) (layers : List Layer) (new ops : List Op) (index : ℕ)
+    → ArePlaced current layers
+    → AreJoined (ops_in layers) new (take index (ops_in layers) ++ ops)
+    → all_wanted current ops ≤ 2 * length new
+joined_wanted current layers new ops index placed joined =
+    omega (
+      arith,
+      joined (wanted current),
+      sum_by-append (wanted current) (take index (ops_in layers)) ops,
+      none_wanted current layers placed,
+      few_wanted current new,
+    )
+
+-- and are as many as both
+pub joined_length : (ops new all : List Op) → AreJoined ops new all → length all ≡ length ops + length new
+joined_length ops new all joined = omega (arith, joined (λ op. 1), ones ops, ones new, ones all) where
+  ones : (ops : List Op) → sum_by (λ (op : Op). 1) ops ≡ length ops
+  ones [] = refl
+  ones (op ∷ ops) =
+      omega (arith, sum_by-cons (λ (op : Op). 1) op ops, ones ops)
+
+-- the front of a longer front
+pub take-within : {A : Type 0} (n at : ℕ) (xs : List A) → n ≤ at → take n (take at xs) ≡ take n xs
+take-within zero at xs within = refl
+take-within (suc n) zero xs within = absurd (omega (arith, within))
+take-within (suc n) (suc at) [] within = refl
+take-within (suc n) (suc at) (x ∷ xs) within = ap (λ rest. x ∷ rest) (take-within n at xs (omega (arith, within)))
+
+-- one more item at a place of a list
+module _ {A : Type 0} where
+  pub take-insert : (xs : List A) (at : ℕ) (x : A) → at ≤ length xs → take at (insert xs at x) ≡ take at xs
+  take-insert xs at x within =
+      let whole : at ≤ length (take at xs) = omega (arith, length-take at xs, within) in
+      take-append-le at (take at xs) (x ∷ drop at xs) whole ∙ take_all at (take at xs) (omega (arith, length-take at xs))
+
+  pub All-insert : (P : A → Type 0) (xs : List A) (at : ℕ) (x : A) → P x → All P xs → All P (insert xs at x)
+  All-insert P xs at x here all =
+      All-append P (take at xs) (x ∷ drop at xs) (All-take P at xs all) (All-cons P x (drop at xs) here (All-drop P at xs all))
+
+pub map-insert : {A B : Type 0} (f : A → B) (xs : List A) (at : ℕ) (x : A) → map f (insert xs at x) ≡ insert (map f xs) at (f x)
+map-insert {A} {B} f xs at x =
+    map-append f (take at xs) (x ∷ drop at xs)
+    ∙ ap₂ (λ (front rest : List B). front ++ f x ∷ rest) (sym (take-map f at xs)) (sym (drop-map f at xs))
 
 -- the undo at a place has what the keys of the operation there held before it
 pub undos_of-at : (image : Image) (ops : List Op) (at : ℕ) (op : Op) (held : KeyValues)
@@ -369,28 +361,31 @@ undos_of-at image (first ∷ ops) zero op held there kept =
 undos_of-at image (first ∷ ops) (suc at) op held there kept = undos_of-at (after_op image first) ops at op held there kept
 
 -- what a key held before the operation at a place, where this is tentative, is told by its undo
-pub value_before-tentative : (state : ImageState) (place key : ℕ) (undos : List Undo) (op : Op) (undo : Undo)
+pub value_before-tentative : (state : ImageState) (place key : ℕ) (layers : List Layer) (layer : Layer)
     → state.committed ≤ place
-    → map (λ undo. undo.held) undos ≡ undos_of (base_of state) state.ops
-    → slice_get state.ops (place - state.committed) ≡ Some op
-    → slice_get undos (place - state.committed) ≡ Some undo
-    → value_among undo.held op key ≡ value_before state place key
-value_before-tentative state place key undos op undo tentative all there kept =
-    let held = undo.held in
+    → state.ops ≡ ops_in layers
+    → map held_of layers ≡ undos_of (base_of state) (ops_in layers)
+    → slice_get layers (place - state.committed) ≡ Some layer
+    → value_among layer.held layer.op key ≡ value_before state place key
+value_before-tentative state place key layers layer tentative ops all kept =
+    let op = layer.op in
+    let held = layer.held in
     let at = place - state.committed in
-    let kept_held : slice_get (map (λ (undo : Undo). undo.held) undos) at ≡ Some held =
-    slice_get-map (λ (undo : Undo). undo.held) undos at ∙ ap (λ found. option_map (λ (undo : Undo). undo.held) found) kept in
+    let there : slice_get state.ops at ≡ Some op =
+    ap (λ ops. slice_get ops at) ops ∙ slice_get-map op_in layers at ∙ ap (λ found. option_map op_in found) kept in
+    let kept_held : slice_get (map held_of layers) at ≡ Some held =
+    slice_get-map held_of layers at ∙ ap (λ found. option_map held_of found) kept in
     let before = image_from (base_of state) (take (place - state.committed) state.ops) in
     let above : nat_le state.committed place ≡ true = le-leb state.committed place tentative in
-    let is : held ≡ key_values before op = undos_of-at (base_of state) state.ops at op held there (rw all at kept_held) in
+    let is : held ≡ key_values before op = undos_of-at (base_of state) state.ops at op held there (rw (all, sym ops) at kept_held) in
     rw (above, there) (among before is (key == first_key op) (key == second_key op) refl refl) where
-      among : (before : Image) → undo.held ≡ key_values before op
+      among : (before : Image) → layer.held ≡ key_values before layer.op
           → (first last : Bool)
-          → (key == first_key op) ≡ first
-          → (key == second_key op) ≡ last
-          → value_among undo.held op key ≡ (if names op key then Some (before key) else None)
+          → (key == first_key layer.op) ≡ first
+          → (key == second_key layer.op) ≡ last
+          → value_among layer.held layer.op key ≡ (if names layer.op key then Some (before key) else None)
       among before is true last is_first is_last =
-          rw is_first (ap (λ values. Some values.first) is ∙ ap (λ named. Some (before named)) (sym (eqb-true key (first_key op) is_first)))
+          rw is_first (ap (λ values. Some values.first) is ∙ ap (λ named. Some (before named)) (sym (eqb-true key (first_key layer.op) is_first)))
       among before is false true is_first is_last =
-          rw (is_first, is_last) (ap (λ values. Some values.second) is ∙ ap (λ named. Some (before named)) (sym (eqb-true key (second_key op) is_last)))
+          rw (is_first, is_last) (ap (λ values. Some values.second) is ∙ ap (λ named. Some (before named)) (sym (eqb-true key (second_key layer.op) is_last)))
       among before is false false is_first is_last = rw (is_first, is_last) refl

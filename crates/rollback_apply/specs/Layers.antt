@@ -1,66 +1,60 @@
--- The values of tentative operations over those of committed ones, as they are kept.
-use Rattle.std.specs.Prelude.{◌≡◌, ℕ, ◌+◌, ◌*◌, ◌==◌, ◌≤◌, List, [], length, map, All, Some, None, false, vec_len, if◌then◌else◌}
-use Rattle.std.specs.List.{AllZip}
-use Rattle.std.specs.HashMap.{spare}
+-- Tentative operations as they are kept, each with what undoes it.
+use Rattle.std.specs.Prelude.{◌≡◌, ℕ, ◌+◌, ◌*◌, ◌≤◌, List, length, map, take, All, Some, vec_len}
+use Rattle.std.specs.List.{sum_by}
 use Rattle.std.specs.Vec.{vec_capacity}
-use Rattle.tact_base.specs.Images.{Image, image_from}
+use Rattle.tact_base.specs.Images.{Image, image_from, image_of}
 use Rattle.tact_base.specs.declared.write.Op.{Op}
-use Rattle.rollback_apply.specs.Keys.{first_key, second_key, names, undos_of}
-use Rattle.rollback_apply.specs.Recent.{RecentState, place_of, has, over, room_of}
-use Rattle.rollback_apply.specs.Values.{value_at}
+use Rattle.rollback_apply.specs.Current.{CurrentState, place_of, holds, lacking}
+use Rattle.rollback_apply.specs.Keys.{first_key, second_key, with_key_values, undos_of}
 use Rattle.rollback_apply.specs.declared.keys.KeyValues.{KeyValues}
+use Rattle.rollback_apply.specs.declared.layers.Layer.{Layer}
 use Rattle.rollback_apply.specs.declared.layers.Layers.{Layers}
-use Rattle.rollback_apply.specs.declared.layers.Undo.{Undo}
-use Rattle.rollback_apply.specs.declared.recalled.Places.{Places}
-use Rattle.rollback_apply.specs.declared.recalled.Recalled.{Recalled}
+use Rattle.rollback_apply.specs.declared.layers.Places.{Places}
+
+-- the operations of layers
+abbrev pub ops_in : List Layer → List Op
+ops_in layers = map (λ layer. layer.op) layers
 
 -- these are the places of the keys of an operation
-pub record HasPlaces (recent : RecentState) (places : Places) (op : Op) : Type 0 where
-  pub first : place_of recent (first_key op) ≡ Some places.first
-  pub second : place_of recent (second_key op) ≡ Some places.second
+pub record HasPlaces (current : CurrentState) (places : Places) (op : Op) : Type 0 where
+  pub first : place_of current (first_key op) ≡ Some places.first
+  pub second : place_of current (second_key op) ≡ Some places.second
 
--- each operation that is recalled has the places of its keys
-abbrev pub Recalls : RecentState → List Recalled → Type 0
-Recalls recent recalled = All (λ one. HasPlaces recent one.places one.op) recalled
+-- each layer has the places of its keys
+abbrev pub ArePlaced : CurrentState → List Layer → Type 0
+ArePlaced current layers = All (λ layer. HasPlaces current layer.places layer.op) layers
 
--- the keys of an operation have other values, and all others what they had
-abbrev pub SetsKeys : RecentState → RecentState → Op → KeyValues → Type 0
-SetsKeys old new op values =
-    (key : ℕ)
-    → has new key
-    ≡ (if key == second_key op
-    then Some values.second
-    else (if key == first_key op then Some values.first else has old key))
+-- at most how many places the keys of an operation want
+abbrev pub wanted : CurrentState → Op → ℕ
+wanted current op = lacking current (first_key op) + lacking current (second_key op)
 
--- The operations are applied over an image: the values over it are their fold, each undo has what the keys of its
--- operation held before, and their places, and a key that has no value is named by none of them.
-pub record IsApplied (base : Image) (recent : RecentState) (undos : List Undo) (ops : List Op) : Type 0 where
-  pub undone : map (λ undo. undo.held) undos ≡ undos_of base ops
-  pub places : AllZip (λ undo op. HasPlaces recent undo.places op) undos ops
-  pub fold : (key : ℕ) → over base recent key ≡ image_from base ops key
-  pub lacks : (key : ℕ) → has recent key ≡ None → All (λ op. names op key ≡ false) ops
+-- and those of operations
+abbrev pub all_wanted : CurrentState → List Op → ℕ
+all_wanted current ops = sum_by (wanted current) ops
 
--- and so they are in these layers
-abbrev pub Applies : Layers → List Op → Type 0
-Applies layers ops = IsApplied (value_at layers.base) layers.recent layers.undos.items ops
+-- the keys of an operation hold other values, and all others what they held
+abbrev pub SetsKeys : CurrentState → CurrentState → Op → KeyValues → Type 0
+SetsKeys old new op values = (key : ℕ) → holds new key ≡ with_key_values (holds old) op values key
 
--- there is memory to apply so many operations, with an undo of each, and to commit them all: one names at most two keys
-pub record HasMemory (layers : Layers) (count : ℕ) : Type 0 where
-  pub base : 2 * count ≤ spare layers.base
-  pub recent : 2 * count ≤ room_of layers.recent
-  pub undos : count ≤ vec_capacity layers.undos
+-- Operations are applied to an image: what keys hold is their fold, and each layer has what the keys of its operation
+-- held before.
+pub record IsApplied (base : Image) (current : CurrentState) (layers : List Layer) : Type 0 where
+  pub undone : map (λ layer. layer.held) layers ≡ undos_of base (ops_in layers)
+  pub fold : (key : ℕ) → holds current key ≡ image_from base (ops_in layers) key
 
--- there is as much memory as before
-pub record KeepsMemory (old new : Layers) : Type 0 where
-  pub base : spare old.base ≤ spare new.base
-  pub recent : room_of old.recent ≤ room_of new.recent
-  pub undos : vec_capacity old.undos ≤ vec_capacity new.undos
+-- The first operations are applied to the image of the committed ones, and all have the places of their keys.
+pub record Applies (layers : Layers) (count : ℕ) : Type 0 where
+  pub applied : IsApplied (image_of (ops_in layers.settled.items)) layers.current (take count layers.tentative.items)
+  pub placed : ArePlaced layers.current layers.tentative.items
 
--- The tentative operations are applied over the committed ones, none is recalled, and there is memory for as many more
--- as the room says.
-pub record IsKept (layers : Layers) (ops : List Op) (capacity room : ℕ) : Type 0 where
-  pub applied : Applies layers ops
-  pub all : vec_len layers.undos ≡ length ops
-  pub listed : length ops + room ≤ capacity
-  pub memory : HasMemory layers (length ops + room)
-  pub recalled : layers.recalled.items ≡ []
+-- There is memory for `more` operations, each with new keys.
+pub record HasMemory (layers : Layers) (more : ℕ) : Type 0 where
+  pub listed : vec_len layers.tentative + more ≤ vec_capacity layers.tentative
+  pub keys : 2 * more ≤ layers.current.spare
+
+-- Between calls all tentative operations are applied, so many are committed, and there is memory for as many more as the
+-- room says.
+pub record IsKept (layers : Layers) (committed room : ℕ) : Type 0 where
+  pub applies : Applies layers (length layers.tentative.items)
+  pub counted : length layers.settled.items ≡ committed
+  pub memory : HasMemory layers room

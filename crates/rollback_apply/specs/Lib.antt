@@ -1,5 +1,5 @@
+pub mod Current
 pub mod Image
 pub mod Keys
 pub mod Layers
-pub mod Recent
 pub mod Values

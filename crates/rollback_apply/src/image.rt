@@ -1,41 +1,38 @@
-ghost use Rattle.std.specs.Prelude.{◌≡◌, ℕ, pos, ◌+◌, ◌-◌, ◌<◌, ◌≤◌, [], ◌++◌, vec_len, length, insert, take, drop, OnOk, OnErr, IsOk};
-ghost use Rattle.std.specs.Vec.{vec_capacity};
+ghost use Rattle.std.specs.Prelude.{◌≡◌, ℕ, pos, ◌+◌, ◌-◌, ◌<◌, ◌≤◌, List, [], ◌++◌, length, insert, take, drop, OnOk, OnErr, IsOk};
 ghost use Rattle.tact_base.specs.Images.{image_from, ops_of};
-ghost use Rattle.rollback_apply.specs.Image.{base_of, value_in, value_before};
+ghost use Rattle.tact_base.specs.declared.write.Op as operation;
+ghost use Rattle.rollback_apply.specs.Image.{base_of, value_in, value_before, AreJoined};
 
 use crate::layers::Layers;
 use std::alloc::Global;
 use std::marker::Model;
-use tact_base::{NoMemory, Op, Write, drop_front};
+use tact_base::{NoMemory, Op, Write};
 
-/// What keys hold after operations in order, of which a front is committed and never moves. The committed ones are
-/// kept as values alone, each tentative one with an undo, what its keys held before it. Contracts see how many are
-/// committed, what keys hold after these, the tentative operations, and the room: how many more can surely be put
-/// in without taking memory. Places are counted from the first committed operation.
+/// What keys hold after operations in order, of which a front is committed and never moves. Each tentative one is kept
+/// with an undo, what its keys held before it; of the committed ones the values alone are left. Contracts see how many
+/// are committed, these, the tentative operations, and the room: how many more can surely be put in without taking
+/// memory. Places are counted from the first committed operation.
 #[derive(Debug, Drop)]
 pub struct Image {
-    ops: Vec<Op>,
     layers: Layers,
     committed: u64,
     room: usize,
 }
 
 impl Model for Image {
-    ghost use Rattle.std.specs.Vec.{vec_capacity};
     ghost use Rattle.rollback_apply.specs.Image.{ImageState};
-    ghost use Rattle.rollback_apply.specs.Layers.{IsKept};
+    ghost use Rattle.rollback_apply.specs.Layers.{ops_in, IsKept};
 
     ghost Value = { ImageState };
 
     ghost view = { λ image. record {
       committed = image.committed;
-      base = image.layers.base.entries;
-      ops = image.ops.items;
+      settled = ops_in image.layers.settled.items;
+      ops = ops_in image.layers.tentative.items;
       room = image.room;
     } };
 
-    ghost invariant = { λ image.
-        IsKept image.layers image.ops.items (vec_capacity image.ops) image.room };
+    ghost invariant = { λ image. IsKept image.layers image.committed image.room };
 }
 
 impl Image {
@@ -47,7 +44,6 @@ impl Image {
         ensures room { result.room ≡ 0 }
     {
         Image {
-            ops: Vec::new(alloc),
             layers: Layers::new(alloc),
             committed: 0,
             room: 0,
@@ -69,9 +65,7 @@ impl Image {
         if k <= self.room {
             return Ok(());
         }
-        let count = self.ops.len().checked_add(k).ok_or(NoMemory)?;
-        self.ops.reserve(k)?;
-        self.layers.reserve(count)?;
+        self.layers.reserve(k)?;
         self.room = k;
         Ok(())
     }
@@ -80,7 +74,7 @@ impl Image {
     pub fn get(&self, key: u64) -> i64
         ensures { result ≡ value_in self.now key }
     {
-        self.layers.get(key)
+        self.layers.current.get(key)
     }
 
     /// The value of a key before the operation at `place`: `None` exactly where that one isn't tentative, or
@@ -92,9 +86,8 @@ impl Image {
             return None;
         }
         let index = (place - self.committed) as usize;
-        let op = *self.ops.get(index)?;
-        let undo = *self.layers.undos.get(index)?;
-        undo.held.among(op, key)
+        let layer = *self.layers.tentative.get(index)?;
+        layer.held.among(layer.op, key)
     }
 
     /// Puts an operation before the tentative one at `place`, or at the end. Those from `place` on are undone, from
@@ -109,35 +102,36 @@ impl Image {
         ensures room { self.old.room ≡ self.new.room + 1 }
     {
         let index = (place - self.committed) as usize;
-        let undone = self.ops.len() - index;
-        self.layers.rewind(&self.ops, index, undone + 1);
-        insert_op(&mut self.ops, index, op);
+        self.layers.undo_from(index);
+        self.layers.insert(index, op);
+        self.layers.apply_from(index);
         self.room -= 1;
-        self.layers.apply_rest(&self.ops);
     }
 
-    /// Undoes the tentative operations from `place` on, from the last to the first, and applies those of `writes`
-    /// in their place. It costs what it undoes and applies, but for the seldom call that applies all tentative ones
-    /// anew. Takes no memory.
-    pub fn redo_from(&mut self, place: u64, writes: &[Write])
+    /// Puts new operations among the tentative ones: those from `place` on are undone, from the last to the first, and
+    /// those of `writes` applied, which are these with the `new` ones among them. It costs what it undoes and applies.
+    /// Takes no memory.
+    pub fn insert_all(&mut self, place: u64, writes: &[Write])
+        ghost new: { List operation.Op }
         requires tentative { self.old.committed ≤ place }
         requires within { place ≤ self.old.committed + length self.old.ops }
-        requires room { length writes.now ≤ self.old.room + (self.old.committed + length self.old.ops - place) }
+        requires joined { AreJoined self.old.ops new (take (place - self.old.committed) self.old.ops ++ ops_of writes.now) }
+        requires room { length new ≤ self.old.room }
         ensures committed { self.new.committed ≡ self.old.committed }
         ensures base { (key : ℕ) → base_of self.new key ≡ base_of self.old key }
         ensures ops { self.new.ops ≡ take (place - self.old.committed) self.old.ops ++ ops_of writes.now }
-        ensures room { self.new.room + length writes.now ≡ self.old.room + (self.old.committed + length self.old.ops - place) }
+        ensures room { self.old.room ≡ self.new.room + length new }
     {
         let index = (place - self.committed) as usize;
-        let count = self.ops.len() + self.room;
-        self.layers.rewind(&self.ops, index, writes.len());
-        replace_from(&mut self.ops, index, writes);
-        self.room = count - self.ops.len();
-        self.layers.apply_rest(&self.ops);
+        let count = self.layers.tentative.len() + self.room;
+        self.layers.undo_from(index);
+        self.layers.replace_from(index, writes);
+        self.layers.apply_from(index);
+        self.room = count - self.layers.tentative.len();
     }
 
     /// Commits the operations before `count`: they are kept as values alone, and nothing is put between them any
-    /// more. It costs what tentative operations go or stay. Takes no memory.
+    /// more. It costs what tentative operations stay. Takes no memory.
     pub fn commit(&mut self, count: u64)
         requires more { self.old.committed ≤ count }
         requires within { count ≤ self.old.committed + length self.old.ops }
@@ -151,35 +145,7 @@ impl Image {
         if going == 0 {
             return;
         }
-        self.layers.settle(&self.ops, going);
-        drop_front(&mut self.ops, going);
+        self.layers.settle(going);
         self.committed = count;
-    }
-}
-
-// Puts an operation before the one at a place, in memory that is there.
-fn insert_op(ops: &mut Vec<Op>, place: usize, op: Op)
-    requires place { place ≤ vec_len ops.old }
-    requires capacity { vec_len ops.old < vec_capacity ops.old }
-    ensures items { ops.new.items ≡ insert ops.old.items place op }
-    ensures capacity { vec_capacity ops.old ≤ vec_capacity ops.new }
-{
-    if ops.insert(place, op).is_err() {
-        unreachable!();
-    }
-}
-
-// Puts the operations of writes in place of those from a place on, in memory that is there.
-fn replace_from(ops: &mut Vec<Op>, place: usize, writes: &[Write])
-    requires place { place ≤ vec_len ops.old }
-    requires capacity { place + length writes.now ≤ vec_capacity ops.old }
-    ensures items { ops.new.items ≡ take place ops.old.items ++ ops_of writes.now }
-    ensures capacity { vec_capacity ops.old ≤ vec_capacity ops.new }
-{
-    ops.truncate(place);
-    for write in writes {
-        if ops.push(write.op).is_err() {
-            unreachable!();
-        }
     }
 }

@@ -1,291 +1,326 @@
-ghost use Rattle.std.specs.Prelude.{◌≡◌, ℕ, pos, ◌+◌, ◌*◌, ◌<◌, ◌≤◌, List, [], ◌∷◌, ◌++◌, vec_len, length, take, drop, OnOk, OnErr};
-ghost use Rattle.std.specs.HashMap.{spare};
+ghost use Rattle.std.specs.Prelude.{◌≡◌, ℕ, ◌+◌, ◌-◌, ◌<◌, ◌≤◌, [], ◌∷◌, ◌++◌, vec_len, length, insert, take, drop, IsTrue, OnOk};
 ghost use Rattle.std.specs.Vec.{vec_capacity};
-ghost use Rattle.tact_base.specs.Images.{image_from};
+ghost use Rattle.tact_base.specs.Images.{ops_of};
 ghost use Rattle.tact_base.specs.declared.write.Op as operation;
-ghost use Rattle.rollback_apply.specs.Keys.{key_values};
-ghost use Rattle.rollback_apply.specs.Layers.{Applies, HasMemory, HasPlaces, KeepsMemory, Recalls, SetsKeys};
-ghost use Rattle.rollback_apply.specs.Recent.{over, room_of, Extends, IsPlace};
-ghost use Rattle.rollback_apply.specs.Values.{value_at};
+ghost use Rattle.rollback_apply.specs.Current.{holds, IsPlace, Extends};
+ghost use Rattle.rollback_apply.specs.Keys as keys;
+ghost use Rattle.rollback_apply.specs.Layers.{ops_in, wanted, all_wanted, Applies, ArePlaced, HasMemory, HasPlaces, SetsKeys};
 
+use crate::current::Current;
 use crate::keys::{KeyValues, first_key, second_key, values_after};
-use crate::recalled::{Places, Recalled, recall, take_places};
-use crate::recent::Recent;
-use crate::values::{Values, apply_all, entries_for, value_of};
+use crate::values::entries_for;
+use given_up::GivenUp;
 use std::alloc::Global;
-use std::collections::HashMap;
-use tact_base::{NoMemory, Op, drop_front};
+use tact_base::{NoMemory, Op, Write, drop_front};
 
-/// What undoes an operation.
+/// The places of the keys of an operation.
 #[derive(Clone, Copy, Debug)]
-pub struct Undo {
+pub struct Places {
+    /// Of the key that it changes first.
+    pub first: usize,
+    /// Of the key that it changes last.
+    pub second: usize,
+}
+
+/// An operation, with what it takes to undo it.
+#[derive(Clone, Copy, Debug)]
+pub struct Layer {
+    /// The operation.
+    pub op: Op,
     /// The places of its keys.
     pub places: Places,
     /// What its keys held before it.
     pub held: KeyValues,
 }
 
-/// The values after committed operations, over them those after tentative ones, and for each of these an undo. A key
-/// keeps its recent value until all are forgotten, so that what it has there is right and only its entry may be one too
-/// many. An operation that is undone is recalled until all are applied anew, the first one last, so that its keys are
-/// not looked up again where it comes again.
+/// The tentative operations, and what keys hold after them, or after the first ones while the others are undone. Those
+/// that are committed are seen by contracts alone.
 #[derive(Debug, Drop)]
 pub struct Layers {
-    pub base: Values,
-    pub recent: Recent,
-    pub undos: Vec<Undo>,
-    pub recalled: Vec<Recalled>,
+    pub settled: GivenUp<Layer>,
+    pub current: Current,
+    pub tentative: Vec<Layer>,
 }
 
 impl Layers {
-    /// No values and no undos. Takes no memory.
+    /// No operations. Takes no memory.
     pub fn new(alloc: Global) -> Layers
-        ensures base { (key : ℕ) → value_at result.base key ≡ pos 0 }
-        ensures undos { vec_len result.undos ≡ 0 }
-        ensures applied { Applies result [] }
-        ensures recalled { result.recalled.items ≡ [] }
+        ensures settled { result.settled.items ≡ [] }
+        ensures applies { Applies result (length result.tentative.items) }
+        ensures tentative { result.tentative.items ≡ [] }
     {
         Layers {
-            base: HashMap::new(alloc),
-            recent: Recent::new(alloc),
-            undos: Vec::new(alloc),
-            recalled: Vec::new(alloc),
+            settled: GivenUp::new(),
+            current: Current::new(alloc),
+            tentative: Vec::new(alloc),
         }
     }
 
-    /// Takes memory for `count` tentative operations in all. There is memory for twice the recent values that they can
-    /// name, so that it is seldom full of such as no longer count. `NoMemory` leaves the values and the undos as they
-    /// were.
-    pub fn reserve(&mut self, count: usize) -> Result<(), NoMemory>
-        requires { vec_len self.old.undos ≤ count }
-        ensures base { (key : ℕ) → value_at self.new.base key ≡ value_at self.old.base key }
-        ensures applied { (ops : List operation.Op) → Applies self.old ops → Applies self.new ops }
-        ensures undos { self.new.undos.items ≡ self.old.undos.items }
-        ensures recalled { self.new.recalled.items ≡ self.old.recalled.items }
-        ensures kept { KeepsMemory self.old self.new }
-        ensures ok { OnOk result (HasMemory self.new count) }
-        ensures err { OnErr result (self.new.base.entries ≡ self.old.base.entries) }
+    /// Takes memory for `more` operations, beside those that are there. `NoMemory` leaves these and what keys hold as
+    /// they were.
+    pub fn reserve(&mut self, more: usize) -> Result<(), NoMemory>
+        ensures settled { self.new.settled ≡ self.old.settled }
+        ensures tentative { self.new.tentative.items ≡ self.old.tentative.items }
+        ensures applies { (count : ℕ) → Applies self.old count → Applies self.new count }
+        ensures kept { (count : ℕ) → HasMemory self.old count → HasMemory self.new count }
+        ensures ok { OnOk result (HasMemory self.new more) }
     {
-        let entries = entries_for(count)?;
-        let twice = entries_for(entries)?;
-        self.undos.reserve(count - self.undos.len())?;
-        self.recalled.reserve(count)?;
-        self.recent.reserve(twice)?;
-        self.base.reserve(entries)?;
+        let keys = entries_for(more)?;
+        self.tentative.reserve(more)?;
+        self.current.reserve(keys)?;
         Ok(())
     }
 
-    /// The value of a key. Takes no memory.
-    pub fn get(&self, key: u64) -> i64
-        ensures { result ≡ over (value_at self.now.base) self.now.recent key }
+    /// Undoes operations from the last one back to the one at `from`. Takes no memory.
+    pub fn undo_from(&mut self, from: usize)
+        requires within { from ≤ vec_len self.old.tentative }
+        requires applies { Applies self.old (length self.old.tentative.items) }
+        ensures settled { self.new.settled ≡ self.old.settled }
+        ensures tentative { self.new.tentative ≡ self.old.tentative }
+        ensures applies { Applies self.new from }
+        ensures places { self.new.current.places ≡ self.old.current.places }
+        ensures spare { self.new.current.spare ≡ self.old.current.spare }
     {
-        match self.recent.get(key) {
-            Some(value) => value,
-            None => value_of(&self.base, key),
+        let mut at = self.tentative.len();
+        while at > from {
+            at -= 1;
+            self.undo(at);
         }
     }
 
-    /// Undoes operations from the last one back to `place`, so that those from there on can be put in anew, `count`
-    /// of them. Where the recent values that no undo took away leave too little memory for that, all are undone at
-    /// once. Takes no memory.
-    pub fn rewind(&mut self, ops: &[Op], place: usize, count: usize)
-        requires within { place ≤ length ops.now }
-        requires all { vec_len self.old.undos ≡ length ops.now }
-        requires applied { Applies self.old ops.now }
-        requires memory { 2 * (place + count) ≤ room_of self.old.recent }
-        requires recalled { self.old.recalled.items ≡ [] }
-        ensures base { self.new.base ≡ self.old.base }
-        ensures place { vec_len self.new.undos ≤ place }
-        ensures applied { Applies self.new (take (vec_len self.new.undos) ops.now) }
-        ensures capacity { vec_capacity self.new.undos ≡ vec_capacity self.old.undos }
-        ensures memory { room_of self.old.recent ≤ room_of self.new.recent }
-        ensures spare { 2 * (place + count) ≤ self.new.recent.spare + 2 * vec_len self.new.undos }
-        ensures recalled { Recalls self.new.recent self.new.recalled.items }
+    /// Applies operations from the one at `from` on, in order, where those before it are applied. Takes no memory.
+    pub fn apply_from(&mut self, from: usize)
+        requires within { from ≤ vec_len self.old.tentative }
+        requires applies { Applies self.old from }
+        ensures settled { self.new.settled ≡ self.old.settled }
+        ensures applies { Applies self.new (length self.new.tentative.items) }
+        ensures ops { ops_in self.new.tentative.items ≡ ops_in self.old.tentative.items }
+        ensures count { vec_len self.new.tentative ≡ vec_len self.old.tentative }
+        ensures capacity { vec_capacity self.new.tentative ≡ vec_capacity self.old.tentative }
+        ensures spare { self.new.current.spare ≡ self.old.current.spare }
     {
-        if self.recent.spare() / 2 < count {
-            self.forget();
-        } else {
-            self.undo_to(ops, place);
+        for at in from..self.tentative.len() {
+            self.apply(at);
         }
     }
 
-    /// Applies those operations that aren't applied yet, in order. Takes no memory.
-    pub fn apply_rest(&mut self, ops: &[Op])
-        requires within { vec_len self.old.undos ≤ length ops.now }
-        requires applied { Applies self.old (take (vec_len self.old.undos) ops.now) }
-        requires capacity { length ops.now ≤ vec_capacity self.old.undos }
-        requires spare { 2 * length ops.now ≤ self.old.recent.spare + 2 * vec_len self.old.undos }
-        requires recalled { Recalls self.old.recent self.old.recalled.items }
-        ensures base { self.new.base ≡ self.old.base }
-        ensures all { vec_len self.new.undos ≡ length ops.now }
-        ensures applied { Applies self.new ops.now }
-        ensures capacity { vec_capacity self.old.undos ≤ vec_capacity self.new.undos }
-        ensures memory { room_of self.old.recent ≤ room_of self.new.recent }
-        ensures recalled { self.new.recalled.items ≡ [] }
+    /// Puts an operation before the one at `at`, where this one and those behind it are undone. Takes no memory.
+    pub fn insert(&mut self, at: usize, op: Op)
+        requires within { at ≤ vec_len self.old.tentative }
+        requires applies { Applies self.old at }
+        requires capacity { vec_len self.old.tentative < vec_capacity self.old.tentative }
+        requires spare { wanted self.old.current op ≤ self.old.current.spare }
+        ensures settled { self.new.settled ≡ self.old.settled }
+        ensures applies { Applies self.new at }
+        ensures ops { ops_in self.new.tentative.items ≡ insert (ops_in self.old.tentative.items) at op }
+        ensures capacity { vec_capacity self.old.tentative ≤ vec_capacity self.new.tentative }
+        ensures spare { self.old.current.spare ≤ self.new.current.spare + wanted self.old.current op }
     {
-        while self.undos.len() < ops.len() {
-            self.apply(ops);
-        }
-        self.recalled.clear();
+        let places = look_up(&mut self.current, op);
+        insert_layer(&mut self.tentative, at, layer_of(op, places));
     }
 
-    /// Moves the first `count` operations into the values of committed ones, and drops their undos. Takes no memory.
-    pub fn settle(&mut self, ops: &[Op], count: usize)
-        requires within { count ≤ length ops.now }
-        requires applied { Applies self.old ops.now }
-        requires spare { 2 * count ≤ spare self.old.base }
-        ensures base { (key : ℕ) → value_at self.new.base key ≡ image_from (value_at self.old.base) (take count ops.now) key }
-        ensures spare { spare self.old.base ≤ spare self.new.base + 2 * count }
-        ensures recent { self.new.recent ≡ self.old.recent }
-        ensures recalled { self.new.recalled ≡ self.old.recalled }
-        ensures undos { vec_len self.new.undos + count ≡ vec_len self.old.undos }
-        ensures applied { Applies self.new (drop count ops.now) }
-        ensures capacity { vec_capacity self.new.undos ≡ vec_capacity self.old.undos }
+    /// Puts the operations of writes in place of those from `from` on, which are undone and no more. The places of these
+    /// are known where they come again in their order. Takes no memory.
+    pub fn replace_from(&mut self, from: usize, writes: &[Write])
+        requires within { from ≤ vec_len self.old.tentative }
+        requires applies { Applies self.old from }
+        requires more { vec_len self.old.tentative ≤ from + length writes.now }
+        requires capacity { from + length writes.now ≤ vec_capacity self.old.tentative }
+        requires spare { all_wanted self.old.current (ops_of writes.now) ≤ self.old.current.spare }
+        ensures settled { self.new.settled ≡ self.old.settled }
+        ensures applies { Applies self.new from }
+        ensures ops { ops_in self.new.tentative.items ≡ ops_in (take from self.old.tentative.items) ++ ops_of writes.now }
+        ensures capacity { vec_capacity self.old.tentative ≤ vec_capacity self.new.tentative }
+        ensures spare { self.old.current.spare ≤ self.new.current.spare + all_wanted self.old.current (ops_of writes.now) }
     {
-        apply_all(&mut self.base, &ops[..count]);
-        drop_front(&mut self.undos, count);
-    }
-
-    // Undoes operations from the last one back to `place`.
-    fn undo_to(&mut self, ops: &[Op], place: usize)
-        requires within { place ≤ length ops.now }
-        requires all { vec_len self.old.undos ≡ length ops.now }
-        requires applied { Applies self.old ops.now }
-        requires recalled { Recalls self.old.recent self.old.recalled.items }
-        ensures base { self.new.base ≡ self.old.base }
-        ensures place { vec_len self.new.undos ≡ place }
-        ensures applied { Applies self.new (take (vec_len self.new.undos) ops.now) }
-        ensures capacity { vec_capacity self.new.undos ≡ vec_capacity self.old.undos }
-        ensures memory { room_of self.new.recent ≡ room_of self.old.recent }
-        ensures spare { self.new.recent.spare ≡ self.old.recent.spare }
-        ensures recalled { Recalls self.new.recent self.new.recalled.items }
-    {
-        while self.undos.len() > place {
-            self.undo(ops);
+        let mut left = self.tentative.len();
+        let mut at = from + writes.len();
+        self.lengthen(at, writes);
+        while at > from {
+            at -= 1;
+            left = self.put(at, left, writes[at - from].op);
         }
     }
 
-    // Undoes the last operation that is applied, of `ops`, and recalls it.
-    fn undo(&mut self, ops: &[Op])
-        requires some { 0 < vec_len self.old.undos }
-        requires within { vec_len self.old.undos ≤ length ops.now }
-        requires applied { Applies self.old (take (vec_len self.old.undos) ops.now) }
-        requires recalled { Recalls self.old.recent self.old.recalled.items }
-        ensures base { self.new.base ≡ self.old.base }
-        ensures applied { Applies self.new (take (vec_len self.new.undos) ops.now) }
-        ensures undos { vec_len self.old.undos ≡ vec_len self.new.undos + 1 }
-        ensures capacity { vec_capacity self.new.undos ≡ vec_capacity self.old.undos }
-        ensures memory { room_of self.new.recent ≡ room_of self.old.recent }
-        ensures spare { self.new.recent.spare ≡ self.old.recent.spare }
-        ensures recalled { Recalls self.new.recent self.new.recalled.items }
+    /// Commits the first `count` operations: nothing undoes them any more. Takes no memory.
+    pub fn settle(&mut self, count: usize)
+        requires within { count ≤ vec_len self.old.tentative }
+        requires applies { Applies self.old (length self.old.tentative.items) }
+        ensures settled { self.new.settled.items ≡ self.old.settled.items ++ take count self.old.tentative.items }
+        ensures tentative { self.new.tentative.items ≡ drop count self.old.tentative.items }
+        ensures applies { Applies self.new (length self.new.tentative.items) }
+        ensures capacity { vec_capacity self.new.tentative ≡ vec_capacity self.old.tentative }
+        ensures current { self.new.current ≡ self.old.current }
     {
-        match self.undos.pop() {
-            Some(undo) => {
-                recall(&mut self.recalled, ops[self.undos.len()], undo.places);
-                set_places(&mut self.recent, undo.places, undo.held);
-            }
-            None => unreachable!(),
+        self.settled.extend(&self.tentative[..count]);
+        drop_front(&mut self.tentative, count);
+    }
+
+    // Undoes the operation at `at`, which is the last that is applied.
+    fn undo(&mut self, at: usize)
+        requires within { at < vec_len self.old.tentative }
+        requires applies { Applies self.old (at + 1) }
+        ensures settled { self.new.settled ≡ self.old.settled }
+        ensures tentative { self.new.tentative ≡ self.old.tentative }
+        ensures applies { Applies self.new at }
+        ensures places { self.new.current.places ≡ self.old.current.places }
+        ensures spare { self.new.current.spare ≡ self.old.current.spare }
+    {
+        let Layer { places, held, .. } = self.tentative[at];
+        set_places(&mut self.current, places, held);
+    }
+
+    // Applies the operation at `at`, where just those before it are applied.
+    fn apply(&mut self, at: usize)
+        requires within { at < vec_len self.old.tentative }
+        requires applies { Applies self.old at }
+        ensures settled { self.new.settled ≡ self.old.settled }
+        ensures applies { Applies self.new (at + 1) }
+        ensures ops { ops_in self.new.tentative.items ≡ ops_in self.old.tentative.items }
+        ensures count { vec_len self.new.tentative ≡ vec_len self.old.tentative }
+        ensures capacity { vec_capacity self.new.tentative ≡ vec_capacity self.old.tentative }
+        ensures spare { self.new.current.spare ≡ self.old.current.spare }
+    {
+        let Layer { op, places, .. } = self.tentative[at];
+        let held = held_at(&self.current, places);
+        self.tentative[at].held = held;
+        set_places(&mut self.current, places, values_after(op, held));
+    }
+
+    // Makes the list so long, with the first of these operations, where it is shorter.
+    fn lengthen(&mut self, count: usize, writes: &[Write])
+        requires few { count ≤ vec_len self.old.tentative + length writes.now }
+        requires more { vec_len self.old.tentative ≤ count }
+        requires capacity { count ≤ vec_capacity self.old.tentative }
+        requires spare { all_wanted self.old.current (ops_of writes.now) ≤ self.old.current.spare }
+        requires placed { ArePlaced self.old.current self.old.tentative.items }
+        ensures settled { self.new.settled ≡ self.old.settled }
+        ensures current { Extends self.old.current self.new.current }
+        ensures placed { ArePlaced self.new.current self.new.tentative.items }
+        ensures count { vec_len self.new.tentative ≡ count }
+        ensures tentative { take (length self.old.tentative.items) self.new.tentative.items ≡ self.old.tentative.items }
+        ensures capacity { vec_capacity self.old.tentative ≤ vec_capacity self.new.tentative }
+        ensures spare { self.old.current.spare + all_wanted self.new.current (ops_of writes.now)
+            ≤ self.new.current.spare + all_wanted self.old.current (ops_of writes.now) }
+    {
+        let Some(write) = writes.first() else {
+            return;
+        };
+        let places = look_up(&mut self.current, write.op);
+        let layer = layer_of(write.op, places);
+        for _place in self.tentative.len()..count {
+            push_layer(&mut self.tentative, layer);
         }
     }
 
-    // Undoes all operations at once, and takes the recent values away.
-    fn forget(&mut self)
-        ensures base { self.new.base ≡ self.old.base }
-        ensures undos { vec_len self.new.undos ≡ 0 }
-        ensures applied { Applies self.new [] }
-        ensures capacity { vec_capacity self.new.undos ≡ vec_capacity self.old.undos }
-        ensures memory { room_of self.old.recent ≤ self.new.recent.spare }
-        ensures recalled { self.new.recalled ≡ self.old.recalled }
+    // Puts an operation at a place of the list. Its keys have the places of the last one of the first `left`, where they
+    // are the same keys. The answer is how many of these are left.
+    fn put(&mut self, at: usize, left: usize, op: Op) -> usize
+        requires within { at < vec_len self.old.tentative }
+        requires left { left ≤ vec_len self.old.tentative }
+        requires placed { ArePlaced self.old.current self.old.tentative.items }
+        requires spare { wanted self.old.current op ≤ self.old.current.spare }
+        ensures left { result ≤ left }
+        ensures settled { self.new.settled ≡ self.old.settled }
+        ensures current { Extends self.old.current self.new.current }
+        ensures placed { ArePlaced self.new.current self.new.tentative.items }
+        ensures front { take at self.new.tentative.items ≡ take at self.old.tentative.items }
+        ensures rest { ops_in (drop at self.new.tentative.items) ≡ op ∷ ops_in (drop (at + 1) self.old.tentative.items) }
+        ensures count { vec_len self.new.tentative ≡ vec_len self.old.tentative }
+        ensures capacity { vec_capacity self.new.tentative ≡ vec_capacity self.old.tentative }
+        ensures spare { self.old.current.spare ≤ self.new.current.spare + wanted self.old.current op }
     {
-        self.recent.clear();
-        self.undos.clear();
-    }
-
-    // Applies the first operation that isn't applied yet.
-    fn apply(&mut self, ops: &[Op])
-        requires more { vec_len self.old.undos < length ops.now }
-        requires applied { Applies self.old (take (vec_len self.old.undos) ops.now) }
-        requires capacity { vec_len self.old.undos < vec_capacity self.old.undos }
-        requires spare { 2 ≤ self.old.recent.spare }
-        requires recalled { Recalls self.old.recent self.old.recalled.items }
-        ensures base { self.new.base ≡ self.old.base }
-        ensures applied { Applies self.new (take (vec_len self.new.undos) ops.now) }
-        ensures undos { vec_len self.new.undos ≡ vec_len self.old.undos + 1 }
-        ensures capacity { vec_capacity self.old.undos ≤ vec_capacity self.new.undos }
-        ensures memory { room_of self.old.recent ≤ room_of self.new.recent }
-        ensures spare { self.old.recent.spare ≤ self.new.recent.spare + 2 }
-        ensures recalled { Recalls self.new.recent self.new.recalled.items }
-    {
-        let op = ops[self.undos.len()];
-        let undo = undo_of(&mut self.recent, &mut self.recalled, &self.base, op);
-        if self.undos.push(undo).is_err() {
-            unreachable!();
+        if left > 0 && same_keys(self.tentative[left - 1].op, op) {
+            let places = self.tentative[left - 1].places;
+            self.tentative[at] = layer_of(op, places);
+            return left - 1;
         }
-        set_places(&mut self.recent, undo.places, values_after(op, undo.held));
+        let places = look_up(&mut self.current, op);
+        self.tentative[at] = layer_of(op, places);
+        left
     }
 }
 
-// What undoes an operation. Its keys get places, with the values that they have in `base`, where they have none.
-fn undo_of(recent: &mut Recent, recalled: &mut Vec<Recalled>, base: &Values, op: Op) -> Undo
-    requires spare { 2 ≤ recent.old.spare }
-    requires recalled { Recalls recent.old recalled.old.items }
-    ensures extends { Extends (value_at base.now) recent.old recent.new }
-    ensures places { HasPlaces recent.new result.places op }
-    ensures held { result.held ≡ key_values (over (value_at base.now) recent.old) op }
-    ensures room { room_of recent.old ≤ room_of recent.new }
-    ensures spare { recent.old.spare ≤ recent.new.spare + 2 }
-    ensures recalled { Recalls recent.new recalled.new.items }
+// Puts a layer before the one at a place, in memory that is there.
+fn insert_layer(layers: &mut Vec<Layer>, at: usize, layer: Layer)
+    requires within { at ≤ vec_len layers.old }
+    requires capacity { vec_len layers.old < vec_capacity layers.old }
+    ensures items { layers.new.items ≡ insert layers.old.items at layer }
+    ensures capacity { vec_capacity layers.old ≤ vec_capacity layers.new }
 {
-    let places = places_of(recent, recalled, base, op);
+    if layers.insert(at, layer).is_err() {
+        unreachable!();
+    }
+}
+
+// Puts a layer at the end, in memory that is there.
+fn push_layer(layers: &mut Vec<Layer>, layer: Layer)
+    requires { vec_len layers.old < vec_capacity layers.old }
+    ensures items { layers.new.items ≡ layers.old.items ++ layer ∷ [] }
+    ensures capacity { vec_capacity layers.old ≤ vec_capacity layers.new }
+{
+    if layers.push(layer).is_err() {
+        unreachable!();
+    }
+}
+
+// The layer of an operation that isn't applied.
+fn layer_of(op: Op, places: Places) -> Layer
+    ensures op { result.op ≡ op }
+    ensures places { result.places ≡ places }
+{
     let held = KeyValues {
-        first: recent.at(places.first),
-        second: recent.at(places.second),
+        first: 0,
+        second: 0,
     };
-    Undo { places, held }
+    Layer { op, places, held }
 }
 
-// The places of the keys of an operation, known where it is recalled, else looked up.
-fn places_of(recent: &mut Recent, recalled: &mut Vec<Recalled>, base: &Values, op: Op) -> Places
-    requires spare { 2 ≤ recent.old.spare }
-    requires recalled { Recalls recent.old recalled.old.items }
-    ensures extends { Extends (value_at base.now) recent.old recent.new }
-    ensures places { HasPlaces recent.new result op }
-    ensures room { room_of recent.old ≤ room_of recent.new }
-    ensures spare { recent.old.spare ≤ recent.new.spare + 2 }
-    ensures recalled { Recalls recent.new recalled.new.items }
+// What the keys with these places hold.
+fn held_at(current: &Current, places: Places) -> KeyValues
+    requires first { IsPlace current.now places.first }
+    requires second { IsPlace current.now places.second }
+    ensures { (op : operation.Op) → HasPlaces current.now places op → result ≡ keys.key_values (holds current.now) op }
 {
-    match take_places(recalled, op) {
-        Some(places) => places,
-        None => look_up(recent, base, op),
+    KeyValues {
+        first: current.at(places.first),
+        second: current.at(places.second),
     }
 }
 
-// The places of the keys of an operation, which get some, with the values that they have in `base`, where they have
-// none.
-fn look_up(recent: &mut Recent, base: &Values, op: Op) -> Places
-    requires { 2 ≤ recent.old.spare }
-    ensures extends { Extends (value_at base.now) recent.old recent.new }
-    ensures places { HasPlaces recent.new result op }
-    ensures room { room_of recent.old ≤ room_of recent.new }
-    ensures spare { recent.old.spare ≤ recent.new.spare + 2 }
+// The places of the keys of an operation, which get some where they have none.
+fn look_up(current: &mut Current, op: Op) -> Places
+    requires { wanted current.old op ≤ current.old.spare }
+    ensures extends { Extends current.old current.new }
+    ensures places { HasPlaces current.new result op }
+    ensures spare { current.old.spare ≤ current.new.spare + wanted current.old op }
 {
-    let first = recent.place_of(first_key(op), base);
+    let first = current.place_of(first_key(op));
     let second = if second_key(op) == first_key(op) {
         first
     } else {
-        recent.place_of(second_key(op), base)
+        current.place_of(second_key(op))
     };
     Places { first, second }
 }
 
-// Gives the keys at places other values.
-fn set_places(recent: &mut Recent, places: Places, values: KeyValues)
-    requires first { IsPlace recent.old places.first }
-    requires second { IsPlace recent.old places.second }
-    ensures places { recent.new.places ≡ recent.old.places }
-    ensures values { (op : operation.Op) → HasPlaces recent.old places op → SetsKeys recent.old recent.new op values }
-    ensures spare { recent.new.spare ≡ recent.old.spare }
+// Whether operations name the same keys, in the same order.
+fn same_keys(one: Op, other: Op) -> bool
+    ensures first { IsTrue result → keys.first_key one ≡ keys.first_key other }
+    ensures second { IsTrue result → keys.second_key one ≡ keys.second_key other }
 {
-    recent.set(places.first, values.first);
-    recent.set(places.second, values.second);
+    first_key(one) == first_key(other) && second_key(one) == second_key(other)
+}
+
+// Gives the keys at places other values.
+fn set_places(current: &mut Current, places: Places, values: KeyValues)
+    requires first { IsPlace current.old places.first }
+    requires second { IsPlace current.old places.second }
+    ensures places { current.new.places ≡ current.old.places }
+    ensures values { (op : operation.Op) → HasPlaces current.old places op → SetsKeys current.old current.new op values }
+    ensures spare { current.new.spare ≡ current.old.spare }
+{
+    current.set(places.first, values.first);
+    current.set(places.second, values.second);
 }

@@ -1,11 +1,10 @@
 //! An image: what keys hold after a list of operations, of which a front is committed.
 #![tactic(auto)]
 
+mod current;
 mod image;
 mod keys;
 mod layers;
-mod recalled;
-mod recent;
 mod values;
 
 pub use image::Image;

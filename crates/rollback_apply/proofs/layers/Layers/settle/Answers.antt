@@ -1,24 +1,26 @@
-use Rattle.std.proofs.Common.{◌≡◌, length, take, drop, ap, sym, arith}
-use Rattle.std.proofs.lemmas.List.{take-append-drop, length-take, length-map}
-use Rattle.tact_base.specs.Images.{image_from}
-use Rattle.rollback_apply.specs.Values.{value_at}
-use Rattle.rollback_apply.specs.declared.layers.Undo.{Undo}
-use Rattle.rollback_apply.proofs.ImageLemmas.{applied-settle, same_image, length-undos_of}
+use Rattle.std.proofs.Common.{◌++◌, take, drop, ap, ◌∙◌}
+use Rattle.std.proofs.lemmas.List.{take-append-drop, map-append}
+use Rattle.std.proofs.lemmas.List.Elements.{All-drop}
+use Rattle.std.proofs.Math.Seq.{take-length}
+use Rattle.std.proofs.lemmas.List.Sums.{fold-append}
+use Rattle.tact_base.specs.Images.{after_op, empty_image, image_of}
+use Rattle.rollback_apply.specs.Layers.{ops_in, HasPlaces, IsApplied}
+use Rattle.rollback_apply.specs.declared.layers.Layer.{Layer}
+use Rattle.rollback_apply.proofs.ImageLemmas.{op_in, applied-settle}
 use Rattle.rollback_apply.proofs.layers.Layers.settle.Goals as goal
 
-pub drop_front-requires : goal.drop_front-requires
-drop_front-requires c =
+pub returns-clause-applies : goal.returns-clause-applies
+returns-clause-applies c =
     let old = c.args.self.now in
-    omega (arith, c.requires.within, ap length c.requires.applied.undone, length-map old.undos.items (λ (undo : Undo). undo.held), length-undos_of (value_at old.base) c.args.ops.now)
-
-pub returns-clause-applied : goal.returns-clause-applied
-returns-clause-applied c =
-    let old = c.args.self.now in
-    let front = take c.args.count c.args.ops.now in
-    let rest = drop c.args.count c.args.ops.now in
-    let settled = value_at c.apply_all.new.values in
-    let count : length front ≡ c.args.count = omega (arith, length-take c.args.count c.args.ops.now, c.requires.within) in
-    let all = rw (sym (take-append-drop c.args.count c.args.ops.now)) at c.requires.applied in
-    let kept = applied-settle (value_at old.base) settled old.recent old.undos.items front rest all
-    (same_image settled (image_from (value_at old.base) front) c.apply_all.ensures.values) in
-    rw c.drop_front.ensures.items (rw count at kept)
+    let layers = old.tentative.items in
+    let before = old.settled.items in
+    let front = take c.args.count layers in
+    let rest = drop c.args.count layers in
+    let all : IsApplied (image_of (ops_in before)) old.current (front ++ rest) =
+    rw (take-length layers, ← take-append-drop c.args.count layers) at c.requires.applies.applied in
+    let settled = applied-settle (image_of (ops_in before)) (image_of (ops_in (before ++ front))) old.current front rest all
+    (ap image_of (map-append op_in before front) ∙ fold-append after_op empty_image (ops_in before) (ops_in front)) in
+    record {
+      applied = rw (c.drop_front.ensures.items, take-length rest, c.extend.ensures, c.deref.ensures.value) settled;
+      placed = rw c.drop_front.ensures.items (All-drop (λ (layer : Layer). HasPlaces old.current layer.places layer.op) c.args.count layers c.requires.applies.placed);
+    }

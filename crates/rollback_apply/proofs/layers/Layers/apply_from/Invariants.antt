@@ -1,0 +1,14 @@
+use Rattle.std.proofs.Common.{◌≡◌, vec_len}
+use Rattle.std.specs.Vec.{vec_capacity}
+use Rattle.rollback_apply.specs.Layers.{ops_in, Applies}
+use Rattle.rollback_apply.proofs.layers.Layers.apply_from.Given as goal
+
+abbrev pub invariant-loop-at : goal.invariant-loop-at
+invariant-loop-at l = record {
+  settled : l.self.settled ≡ l.initial.self.settled;
+  applies : Applies l.self l.at;
+  ops : ops_in l.self.tentative.items ≡ ops_in l.initial.self.tentative.items;
+  count : vec_len l.self.tentative ≡ vec_len l.initial.self.tentative;
+  capacity : vec_capacity l.self.tentative ≡ vec_capacity l.initial.self.tentative;
+  left : l.self.current.spare ≡ l.initial.self.current.spare;
+}

@@ -1,0 +1,17 @@
+use Rattle.std.proofs.Common.{◌≡◌, ◌≤◌, vec_len}
+use Rattle.rollback_apply.specs.Layers.{Applies}
+use Rattle.rollback_apply.proofs.layers.Layers.undo_from.Given as goal
+
+abbrev pub invariant-loop-at : goal.invariant-loop-at
+invariant-loop-at l = record {
+  above : l.from ≤ l.at;
+  within : l.at ≤ vec_len l.self.tentative;
+  settled : l.self.settled ≡ l.initial.self.settled;
+  tentative : l.self.tentative ≡ l.initial.self.tentative;
+  applies : Applies l.self l.at;
+  places : l.self.current.places ≡ l.initial.self.current.places;
+  left : l.self.current.spare ≡ l.initial.self.current.spare;
+}
+
+abbrev pub decreases-loop-at : goal.decreases-loop-at
+decreases-loop-at l = l.at
