@@ -1,12 +1,13 @@
 //! Images: what keys hold after operations, late ones and commits among them, against their fold from scratch.
 
-ghost use Rattle.std.specs.Prelude.{◌≡◌, ◌+◌, ◌<◌, ◌≤◌, ◌^◌, vec_len, length, OnOk};
+ghost use Rattle.std.specs.Prelude.{◌≡◌, ◌<◌, ◌≤◌, ◌^◌, [], ◌∷◌, ◌++◌, vec_len, take, IfOk, OnOk};
+ghost use Rattle.tact_base.specs.Images.{ops_of};
 
 use rollback_apply::{Image, value_after};
 use std::alloc::Global;
 use std::process::Abort;
 use std::test::Fail;
-use tact_base::{Op, Weights, Write};
+use tact_base::{Op, Weights, Write, drop_front};
 use test_draws::next;
 
 const MOST: i64 = 1_000_000_000_000_000;
@@ -112,7 +113,7 @@ fn a_late_operation_makes_a_shift_act(rt: HostRuntime) -> Result<(), Fail> {
     Ok(())
 }
 
-// A key below 256, mostly below 4, so that entries remain in the map until all are applied anew.
+// A key below 256, mostly below 4, so that keys get places all the time.
 fn key_of(number: u64) -> u64 {
     if number % 2 == 0 {
         number / 2 % 4
@@ -132,17 +133,17 @@ fn op_of(number: u64) -> Op {
     }
 }
 
-// A place between two others, by a number.
-fn place_between(number: u64, low: u64, high: u64) -> u64
-    requires order { low ≤ high }
-    requires small { high < 2 ^ 63 }
-    ensures low { low ≤ result }
-    ensures high { result ≤ high }
+// A place of a list of so many, or its end, by a number.
+fn place_in(number: u64, count: usize) -> usize
+    requires { count < 2 ^ 63 }
+    ensures { result ≤ count }
 {
-    low + (number >> 33) % (high - low + 1)
+    (number >> 33) as usize % (count + 1)
 }
 
-fn write(op: Op) -> Result<Write, Fail> {
+fn write(op: Op) -> Result<Write, Fail>
+    ensures { IfOk result (λ write. write.op ≡ op) }
+{
     Ok(Write {
         origin: 0,
         index: 0,
@@ -153,33 +154,44 @@ fn write(op: Op) -> Result<Write, Fail> {
     })
 }
 
-// Three writes, by a number.
-fn batch(number: u64) -> Result<[Write; 3], Fail> {
-    let second = next(number);
-    Ok([
-        write(op_of(number))?,
-        write(op_of(second))?,
-        write(op_of(next(second)))?,
-    ])
+// Writes of operations, with one before them and one behind.
+fn with_two(alloc: Global, ops: &[Op], first: Write, last: Write) -> Result<Vec<Write>, Fail>
+    ensures { IfOk result (λ writes. ops_of writes.items ≡ first.op ∷ ops.now ++ last.op ∷ []) }
+{
+    let mut writes = Vec::new(alloc);
+    writes.push(first)?;
+    for op in ops {
+        writes.push(write(*op)?)?;
+    }
+    writes.push(last)?;
+    Ok(writes)
 }
 
 // Puts the operations of writes in place of those from a place on.
-fn replace(order: &mut Vec<Op>, place: u64, writes: &[Write]) -> Result<(), Fail>
-    requires { place ≤ vec_len order.old }
-    ensures { OnOk result (vec_len order.new ≡ place + length writes.now) }
+fn replace(ops: &mut Vec<Op>, place: usize, writes: &[Write]) -> Result<(), Fail>
+    requires { place ≤ vec_len ops.old }
+    ensures { OnOk result (ops.new.items ≡ take place ops.old.items ++ ops_of writes.now) }
 {
-    order.truncate(place as usize);
+    ops.truncate(place);
     for write in writes {
-        order.push(write.op)?;
+        ops.push(write.op)?;
     }
     Ok(())
 }
 
-fn assert_same(rt: &(impl Abort + AllocGlobal), image: &Image, order: &[Op]) -> Result<(), Fail> {
+// What keys hold after committed operations and then tentative ones, from scratch.
+fn assert_same(
+    rt: &(impl Abort + AllocGlobal),
+    image: &Image,
+    early: &[Op],
+    late: &[Op],
+) -> Result<(), Fail> {
+    let mut all = Vec::from_slice(rt.alloc(), early)?;
+    all.extend_from_slice(late)?;
     for key in 0..4 {
         assert_eq!(rt;
             image.get(key),
-            value_after(rt.alloc(), order, key)?,
+            value_after(rt.alloc(), &all, key)?,
             "at key {key}"
         );
     }
@@ -189,23 +201,29 @@ fn assert_same(rt: &(impl Abort + AllocGlobal), image: &Image, order: &[Op]) -> 
 #[test]
 fn late_operations_and_batches_fold_as_in_order(rt: HostRuntime) -> Result<(), Fail> {
     let mut image = Image::new(rt.alloc());
-    let mut order: Vec<Op> = Vec::new(rt.alloc());
+    let mut early: Vec<Op> = Vec::new(rt.alloc());
+    let mut late: Vec<Op> = Vec::new(rt.alloc());
     let mut committed = 0;
     let mut number = 1;
     for _ in 0..300 {
         number = next(number);
-        let late = place_between(number, committed, order.len() as u64);
-        image.reserve(4)?;
-        image.insert_at(late, op_of(number));
-        order.insert(late as usize, op_of(number))?;
-        assert_same(&rt, &image, &order)?;
-        let place = place_between(next(number), committed, order.len() as u64);
-        let writes = batch(number)?;
-        image.redo_from(place, &writes);
-        replace(&mut order, place, &writes)?;
-        committed += (order.len() as u64 - committed) / 4;
+        let place = place_in(number, late.len());
+        image.reserve(3)?;
+        image.insert_at(committed + place as u64, op_of(number));
+        late.insert(place, op_of(number))?;
+        assert_same(&rt, &image, &early, &late)?;
+        let second = next(number);
+        let place = place_in(second, late.len());
+        let new = [write(op_of(second))?, write(op_of(next(second)))?];
+        let rest = with_two(rt.alloc(), &late[place..], new[0], new[1])?;
+        image.insert_all(committed + place as u64, &new, &rest);
+        replace(&mut late, place, &rest)?;
+        let going = late.len() / 4;
+        committed += going as u64;
         image.commit(committed);
-        assert_same(&rt, &image, &order)?;
+        early.extend_from_slice(&late[..going])?;
+        drop_front(&mut late, going);
+        assert_same(&rt, &image, &early, &late)?;
     }
     Ok(())
 }

@@ -94,7 +94,7 @@ impl Book {
         let writes = self.ordered()?;
         let mut image = Image::new(self.alloc);
         image.reserve(writes.items().len() as u64)?;
-        image.insert_all(0, writes.items());
+        image.insert_all(0, writes.items(), writes.items());
         Ok(image.get(key))
     }
 

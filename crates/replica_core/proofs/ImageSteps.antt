@@ -1,17 +1,19 @@
 -- The image of writes in order, as they are committed and as more are put in.
 use Rattle.std.proofs.Common.{◌≡◌, ℕ, ◌+◌, ◌-◌, ◌≤◌, true, false, if◌then◌else◌, List, [], ◌∷◌, ◌++◌, length, take, drop, refl, sym, ap, ap₂, ◌∙◌, arith}
 use Rattle.std.proofs.lemmas.List.{append_assoc, length-append, length-map, map-append, drop-take}
-use Rattle.std.proofs.lemmas.List.Sums.{fold-append}
+use Rattle.std.proofs.lemmas.List.Sums.{fold-append, sum_by-append, sum_by-cons}
+use Rattle.std.proofs.lemmas.List.Sorted.{sum_by-IsPermutation}
+use Rattle.std.specs.List.{sum_by}
 use Rattle.std.proofs.Math.Seq.{take-append_seam, drop-append_seam}
 use Rattle.tact_base.proofs.CommitLemmas.{committed_to-tentative_past, committed_to_prefix}
 use Rattle.tact_base.specs.Images.{Image, after_op, empty_image, image_of, image_from, ops_of}
-use Rattle.tact_base.proofs.OrderLemmas.{IsSortedByPlace, IsSortedByPlace-with_write}
-use Rattle.tact_base.specs.WriteOrder.{write_cmp, comes_before, with_write, committed_to, tentative_past}
+use Rattle.tact_base.proofs.OrderLemmas.{IsPermutation-in_order, IsSortedByPlace, IsSortedByPlace-with_write}
+use Rattle.tact_base.specs.WriteOrder.{write_cmp, comes_before, with_write, in_order, committed_to, tentative_past}
 use Rattle.commit_order.specs.Batches.{with_writes}
 use Rattle.tact_base.specs.declared.write.Op.{Op}
 use Rattle.tact_base.specs.declared.write.Write.{Write}
 use Rattle.std.specs.List.Sorted.{IsSorted}
-use Rattle.rollback_apply.specs.Image.{ImageState, base_of, value_in}
+use Rattle.rollback_apply.specs.Image.{ImageState, base_of, value_in, AreJoined}
 use Rattle.rollback_apply.proofs.ImageLemmas.{same_image}
 use Rattle.replica_core.specs.Seen.{HasImage}
 
@@ -119,6 +121,40 @@ module _ (seen more : List Write) (sorted : IsSorted write_cmp seen) (sorted_mor
     base = λ key. same_base key ∙ has.base key ∙ ap (λ (ws : List Write). image_of (ops_of ws) key) (sym same);
     ops = is_ops;
   }
+
+-- what operations of writes sum up to
+sum_by-ops : (amount : Op → ℕ) (writes : List Write) → sum_by amount (ops_of writes) ≡ sum_by (λ (write : Write). amount write.op) writes
+sum_by-ops amount [] = refl
+sum_by-ops amount (write ∷ writes) = omega (
+  arith,
+  sum_by-cons amount write.op (ops_of writes),
+  sum_by-cons (λ (write : Write). amount write.op) write writes,
+  sum_by-ops amount writes,
+)
+
+-- the operations of the tentative writes are joined by those of more writes that are put in, none of them among what is
+-- committed
+pub tentative-joined : (seen writes more : List Write) (sorted : IsSorted write_cmp seen) (sorted_more : IsSorted write_cmp more) (point : ℕ)
+    → more ≡ in_order (seen ++ writes)
+    → committed_to point more ≡ committed_to point seen
+    → AreJoined (ops_of (tentative_past point seen)) (ops_of writes) (ops_of (tentative_past point more))
+tentative-joined seen writes more sorted sorted_more point is same amount =
+    let of_write : Write → ℕ = λ write. amount write.op in
+    let total : List Write → ℕ = sum_by of_write in
+    omega (
+      arith,
+      sum_by-ops amount (tentative_past point seen),
+      sum_by-ops amount (tentative_past point more),
+      sum_by-ops amount writes,
+      ap total is,
+      sum_by-IsPermutation of_write (seen ++ writes) (in_order (seen ++ writes)) (IsPermutation-in_order (seen ++ writes)),
+      sum_by-append of_write seen writes,
+      ap total (committed_to-tentative_past point seen sorted),
+      sum_by-append of_write (committed_to point seen) (tentative_past point seen),
+      ap total (committed_to-tentative_past point more sorted_more),
+      sum_by-append of_write (committed_to point more) (tentative_past point more),
+      ap total same,
+    )
 
 -- more writes put in leave the order, and make it longer by their number
 pub sorted-with_writes : (writes held : List Write)

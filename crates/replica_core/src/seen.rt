@@ -10,7 +10,7 @@ ghost use Rattle.tact_base.specs.declared.limits.TheConstants.{SUMMED_WRITES};
 ghost use Rattle.commit_order.specs.Batches.{with_writes};
 ghost use Rattle.conit_sums.specs.ConitSums.{AreSumsOf};
 ghost use Rattle.conit_weights.specs.Running.{HoldsAll, conits_of, held_of};
-ghost use Rattle.rollback_apply.specs.Image.{base_of};
+ghost use Rattle.rollback_apply.specs.Image.{base_of, AreJoined};
 ghost use Rattle.replica_core.specs.Seen.{AreOnConits, weights_of, last_one};
 
 use crate::LastOne;
@@ -102,7 +102,7 @@ impl Seen {
         } }
     {
         let place = self.ordered.insert_all(writes);
-        follow(&mut self.image, &self.ordered, place);
+        follow(&mut self.image, &self.ordered, place, writes);
         add_all(&mut self.sums, writes);
         self.room -= writes.len() as u64;
     }
@@ -212,21 +212,21 @@ fn last_of(writes: &[Write]) -> Option<LastOne>
     })
 }
 
-// Makes the image that of the order, which is as it was before a place.
-fn follow(image: &mut Image, ordered: &Ordered, place: u64)
+// Makes the image that of the order, which is as it was before a place, and has new writes behind it.
+fn follow(image: &mut Image, ordered: &Ordered, place: u64, new: &[Write])
     requires past { image.old.committed ≤ place }
     requires committed { image.old.committed ≡ length (committed_to ordered.now.point ordered.now.writes) }
     requires within { place ≤ image.old.committed + length image.old.ops }
-    requires more { length image.old.ops ≤ length (tentative_past ordered.now.point ordered.now.writes) }
-    requires room { length (tentative_past ordered.now.point ordered.now.writes) ≤ length image.old.ops + image.old.room }
+    requires joined { AreJoined image.old.ops (ops_of new.now) (ops_of (tentative_past ordered.now.point ordered.now.writes)) }
+    requires room { length new.now ≤ image.old.room }
     requires stays { let front = place - image.old.committed in
         take front image.old.ops ≡ ops_of (take front (tentative_past ordered.now.point ordered.now.writes)) }
     ensures committed { image.new.committed ≡ image.old.committed }
     ensures base { (key : ℕ) → base_of image.new key ≡ base_of image.old key }
     ensures ops { image.new.ops ≡ ops_of (tentative_past ordered.now.point ordered.now.writes) }
-    ensures room { image.new.room + length (tentative_past ordered.now.point ordered.now.writes) ≡ image.old.room + length image.old.ops }
+    ensures room { image.old.room ≡ image.new.room + length new.now }
 {
-    image.insert_all(place, tentative_from(ordered, place));
+    image.insert_all(place, new, tentative_from(ordered, place));
 }
 
 // The tentative writes from a place on.

@@ -1,6 +1,5 @@
-ghost use Rattle.std.specs.Prelude.{◌≡◌, ℕ, pos, ◌+◌, ◌-◌, ◌<◌, ◌≤◌, List, [], ◌++◌, length, insert, take, drop, OnOk, OnErr, IsOk};
+ghost use Rattle.std.specs.Prelude.{◌≡◌, ℕ, pos, ◌+◌, ◌-◌, ◌<◌, ◌≤◌, [], ◌++◌, length, insert, take, drop, OnOk, OnErr, IsOk};
 ghost use Rattle.tact_base.specs.Images.{image_from, ops_of};
-ghost use Rattle.tact_base.specs.declared.write.Op as operation;
 ghost use Rattle.rollback_apply.specs.Image.{base_of, value_in, value_before, AreJoined};
 
 use crate::layers::Layers;
@@ -108,26 +107,25 @@ impl Image {
         self.room -= 1;
     }
 
-    /// Puts new operations among the tentative ones: those from `place` on are undone, from the last to the first, and
-    /// those of `writes` applied, which are these with the `new` ones among them. It costs what it undoes and applies.
-    /// Takes no memory.
-    pub fn insert_all(&mut self, place: u64, writes: &[Write])
-        ghost new: { List operation.Op }
+    /// Puts the operations of `new` among the tentative ones: those from `place` on are undone, from the last to the
+    /// first, and those of `rest` applied, which are these with the new ones among them. It costs what it undoes and
+    /// applies. Takes no memory.
+    pub fn insert_all(&mut self, place: u64, new: &[Write], rest: &[Write])
         requires tentative { self.old.committed ≤ place }
         requires within { place ≤ self.old.committed + length self.old.ops }
-        requires joined { AreJoined self.old.ops new (take (place - self.old.committed) self.old.ops ++ ops_of writes.now) }
-        requires room { length new ≤ self.old.room }
+        requires joined { AreJoined self.old.ops (ops_of new.now)
+            (take (place - self.old.committed) self.old.ops ++ ops_of rest.now) }
+        requires room { length new.now ≤ self.old.room }
         ensures committed { self.new.committed ≡ self.old.committed }
         ensures base { (key : ℕ) → base_of self.new key ≡ base_of self.old key }
-        ensures ops { self.new.ops ≡ take (place - self.old.committed) self.old.ops ++ ops_of writes.now }
-        ensures room { self.old.room ≡ self.new.room + length new }
+        ensures ops { self.new.ops ≡ take (place - self.old.committed) self.old.ops ++ ops_of rest.now }
+        ensures room { self.old.room ≡ self.new.room + length new.now }
     {
         let index = (place - self.committed) as usize;
-        let count = self.layers.tentative.len() + self.room;
         self.layers.undo_from(index);
-        self.layers.replace_from(index, writes);
+        self.layers.replace_from(index, rest);
         self.layers.apply_from(index);
-        self.room = count - self.layers.tentative.len();
+        self.room -= new.len();
     }
 
     /// Commits the operations before `count`: they are kept as values alone, and nothing is put between them any

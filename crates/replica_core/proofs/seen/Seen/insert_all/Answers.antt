@@ -14,7 +14,7 @@ use Rattle.commit_order.specs.Batches.{with_writes}
 use Rattle.conit_weights.specs.Running.{conits_of}
 use Rattle.rollback_apply.specs.Image.{ImageState}
 use Rattle.replica_core.specs.Seen.{SeenState, HasImage, AreOnConits}
-use Rattle.replica_core.proofs.ImageSteps.{op_of, late-stays, HasImage-admitted, sorted-with_writes, length-with_writes}
+use Rattle.replica_core.proofs.ImageSteps.{op_of, late-stays, tentative-joined, HasImage-admitted, sorted-with_writes, length-with_writes}
 use Rattle.replica_core.proofs.SeenLemmas.{HasSums-admitted}
 use Rattle.replica_core.proofs.seen.Seen.insert_all.Goals as goal
 
@@ -28,19 +28,6 @@ module _ (point : ℕ) (writes held more : List Write) (is : more ≡ with_write
 
   still_sorted : IsSorted write_cmp held → IsSorted write_cmp more
   still_sorted sorted = subst (IsSorted write_cmp) (sym is) (IsSorted-from_ordered (with_writes writes held) (sorted-with_writes writes held (IsSortedByPlace-from_sorted held sorted)))
-
-  counts : length (tentative_past point more) ≡ length (tentative_past point held) + length writes
-  counts =
-      omega (arith, length-committed_tentative point more, length-committed_tentative point held, ap length same_committed, ap length is, length-with_writes writes held)
-
-  -- how many tentative writes there are after, beside the operations of an image
-  many : (image : ImageState)
-      → HasImage held point image
-      → (p : ℕ)
-      → p ≡ point
-      → length (tentative_past p more) ≡ length image.ops + length writes
-  many image has p same =
-      omega (arith, ap (λ (n : ℕ). length (tentative_past n more)) same, counts, ap length has.ops, length-map (tentative_past point held) op_of)
 
 pub follow-requires-clause-committed : goal.follow-requires-clause-committed
 follow-requires-clause-committed c =
@@ -57,25 +44,21 @@ follow-requires-clause-within c =
     let has = c.self.invariant.has_image in
     omega (arith, c.insert_all-place.ensures.within, length-committed_tentative old.point old.writes, has.committed, ap length has.ops, length-map (tentative_past old.point old.writes) op_of)
 
-pub follow-requires-clause-more : goal.follow-requires-clause-more
-follow-requires-clause-more c =
+pub follow-requires-clause-joined : goal.follow-requires-clause-joined
+follow-requires-clause-joined c =
     let old = c.self.inside.ordered in
     let made = c.insert_all-place in
-    let past = subst (λ (s : SeenState). All (λ (write : Write). s.point < write.stamp) c.args.writes.now) (sym c.self.view_is) c.requires.past in
-    omega (arith, many old.point c.args.writes.now old.writes made.new.self.writes made.ensures.writes past c.self.inside.image c.self.invariant.has_image made.new.self.point made.ensures.point)
+    let writes = c.args.writes.now in
+    let sorted = c.self.invariant.sorted in
+    let past = subst (λ (s : SeenState). All (λ (write : Write). s.point < write.stamp) writes) (sym c.self.view_is) c.requires.past in
+    let same = same_committed old.point writes old.writes made.new.self.writes made.ensures.writes past in
+    let after = still_sorted old.point writes old.writes made.new.self.writes made.ensures.writes past sorted in
+    rw (c.self.invariant.has_image.ops, made.ensures.point)
+    (tentative-joined old.writes writes made.new.self.writes sorted after old.point made.ensures.in_order same)
 
 pub follow-requires-clause-room : goal.follow-requires-clause-room
 follow-requires-clause-room c =
-    let old = c.self.inside.ordered in
-    let made = c.insert_all-place in
-    let past = subst (λ (s : SeenState). All (λ (write : Write). s.point < write.stamp) c.args.writes.now) (sym c.self.view_is) c.requires.past in
-    omega (
-      arith,
-      many old.point c.args.writes.now old.writes made.new.self.writes made.ensures.writes past c.self.inside.image c.self.invariant.has_image made.new.self.point made.ensures.point,
-      c.requires.room,
-      ap (λ (s : SeenState). s.room) c.self.view_is,
-      c.self.invariant.image,
-    )
+    omega (arith, c.requires.room, ap (λ (s : SeenState). s.room) c.self.view_is, c.self.invariant.image)
 
 pub follow-requires-clause-stays : goal.follow-requires-clause-stays
 follow-requires-clause-stays c =
@@ -125,12 +108,7 @@ invariant_of-self c =
           made.ensures.in_order same c.add_all.ensures.added kept.has_sums);
       conits = kept.conits ∙ sym c.add_all.ensures.conits;
       order = omega (arith, made.ensures.room, kept.order);
-      image = omega (
-        arith,
-        many old.point writes old.writes more made.ensures.writes past c.self.inside.image kept.has_image made.new.self.point made.ensures.point,
-        c.follow.ensures.room,
-        kept.image,
-      );
+      image = omega (arith, c.follow.ensures.room, kept.image);
       gone = rw (made.ensures.dropped, made.ensures.point, same) kept.gone;
       gone_last = rw (made.ensures.dropped, made.ensures.point, same) kept.gone_last;
     }

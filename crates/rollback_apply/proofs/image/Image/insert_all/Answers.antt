@@ -70,94 +70,72 @@ module _ (state : ImageState) (layers : List Layer) (new : List Op) (writes : Li
     )
 
 pub replace_from-requires-clause-more : goal.replace_from-requires-clause-more
-replace_from-requires-clause-more g c =
+replace_from-requires-clause-more c =
     let image = c.self.inside in
     let layers = image.layers.tentative.items in
     let count =
-    many_layers c.args.self.now layers g.new c.args.writes.now c.args.place image.committed
+    many_layers c.args.self.now layers (ops_of c.args.new.now) c.args.rest.now c.args.place image.committed
     (ap (λ (image : ImageState). image.committed) c.self.view_is) (ap (λ (image : ImageState). image.ops) c.self.view_is)
-    c.requires.1.1.0 c.requires.1.0 in
+    c.requires.joined c.requires.within in
     rw c.undo_from.ensures.tentative (omega (arith, count))
 
 pub replace_from-requires-clause-capacity : goal.replace_from-requires-clause-capacity
-replace_from-requires-clause-capacity g c =
+replace_from-requires-clause-capacity c =
     let image = c.self.inside in
     let layers = image.layers.tentative.items in
     let count =
-    many_layers c.args.self.now layers g.new c.args.writes.now c.args.place image.committed
+    many_layers c.args.self.now layers (ops_of c.args.new.now) c.args.rest.now c.args.place image.committed
     (ap (λ (image : ImageState). image.committed) c.self.view_is) (ap (λ (image : ImageState). image.ops) c.self.view_is)
-    c.requires.1.1.0 c.requires.1.0 in
+    c.requires.joined c.requires.within in
     rw c.undo_from.ensures.tentative
-    (omega (arith, count, c.self.invariant.memory.listed, c.requires.1.1.1, ap (λ (image : ImageState). image.room) c.self.view_is))
+    (omega (arith, count, c.self.invariant.memory.listed, c.requires.room, length-map c.args.new.now op_of, ap (λ (image : ImageState). image.room) c.self.view_is))
 
 pub replace_from-requires-clause-spare : goal.replace_from-requires-clause-spare
-replace_from-requires-clause-spare g c =
+replace_from-requires-clause-spare c =
     let image = c.self.inside in
     let layers = image.layers.tentative.items in
     let index = c.args.place - image.committed in
     let before = image.layers.current in
     let now = c.undo_from.new.self.current in
     let joined =
-    all_joined c.args.self.now layers g.new c.args.writes.now c.args.place image.committed
+    all_joined c.args.self.now layers (ops_of c.args.new.now) c.args.rest.now c.args.place image.committed
     (ap (λ (image : ImageState). image.committed) c.self.view_is) (ap (λ (image : ImageState). image.ops) c.self.view_is)
-    c.requires.1.1.0 c.requires.1.0 in
+    c.requires.joined c.requires.within in
     omega (
       arith,
-      all_wanted-stays before now (ops_of c.args.writes.now) (same-places before now c.undo_from.ensures.places),
-      joined_wanted before layers g.new (ops_of c.args.writes.now) index c.self.invariant.applies.placed joined,
+      all_wanted-stays before now (ops_of c.args.rest.now) (same-places before now c.undo_from.ensures.places),
+      joined_wanted before layers (ops_of c.args.new.now) (ops_of c.args.rest.now) index c.self.invariant.applies.placed joined,
       c.self.invariant.memory.keys,
       c.undo_from.ensures.spare,
-      c.requires.1.1.1,
+      c.requires.room, length-map c.args.new.now op_of,
       ap (λ (image : ImageState). image.room) c.self.view_is,
     )
 
-pub overflow_sub-self : goal.overflow_sub-self
-overflow_sub-self g c =
-    let image = c.self.inside in
-    let layers = image.layers.tentative.items in
-    let count =
-    count_after c.args.self.now layers g.new c.args.writes.now c.args.place image.committed
-    (ap (λ (image : ImageState). image.committed) c.self.view_is) (ap (λ (image : ImageState). image.ops) c.self.view_is)
-    c.requires.1.1.0 c.requires.1.0 c.undo_from.new.self.tentative.items c.replace_from.new.self.tentative.items
-    c.apply_from.new.self.tentative.items (rw c.undo_from.ensures.tentative refl) c.replace_from.ensures.ops c.apply_from.ensures.ops in
-    omega (arith, count, c.len.ensures, c.len-2.ensures, c.requires.1.1.1, ap (λ (image : ImageState). image.room) c.self.view_is)
-
 pub returns-clause-ops : goal.returns-clause-ops
-returns-clause-ops g c =
+returns-clause-ops c =
     let image = c.self.inside in
     let layers = image.layers.tentative.items in
     let counted = ap (λ (image : ImageState). image.committed) c.self.view_is in
     let ops = ap (λ (image : ImageState). image.ops) c.self.view_is in
-    ops_after c.args.self.now layers g.new c.args.writes.now c.args.place image.committed counted ops
-    c.requires.1.1.0 c.requires.1.0 c.undo_from.new.self.tentative.items c.replace_from.new.self.tentative.items
+    ops_after c.args.self.now layers (ops_of c.args.new.now) c.args.rest.now c.args.place image.committed counted ops
+    c.requires.joined c.requires.within c.undo_from.new.self.tentative.items c.replace_from.new.self.tentative.items
     c.apply_from.new.self.tentative.items (rw c.undo_from.ensures.tentative refl) c.replace_from.ensures.ops c.apply_from.ensures.ops
-    ∙ ap₂ (λ (count : ℕ) (all : List Op). take (c.args.place - count) all ++ ops_of c.args.writes.now) counted ops
-
-pub returns-clause-room : goal.returns-clause-room
-returns-clause-room g c =
-    let image = c.self.inside in
-    let layers = image.layers.tentative.items in
-    let count =
-    count_after c.args.self.now layers g.new c.args.writes.now c.args.place image.committed
-    (ap (λ (image : ImageState). image.committed) c.self.view_is) (ap (λ (image : ImageState). image.ops) c.self.view_is)
-    c.requires.1.1.0 c.requires.1.0 c.undo_from.new.self.tentative.items c.replace_from.new.self.tentative.items
-    c.apply_from.new.self.tentative.items (rw c.undo_from.ensures.tentative refl) c.replace_from.ensures.ops c.apply_from.ensures.ops in
-    omega (arith, count, c.len.ensures, c.len-2.ensures, c.requires.1.1.1, ap (λ (image : ImageState). image.room) c.self.view_is)
+    ∙ ap₂ (λ (count : ℕ) (all : List Op). take (c.args.place - count) all ++ ops_of c.args.rest.now) counted ops
 
 pub invariant_of-self : goal.invariant_of-self
-invariant_of-self g c =
+invariant_of-self c =
     let image = c.self.inside in
     let layers = image.layers.tentative.items in
     let counted = ap (λ (image : ImageState). image.committed) c.self.view_is in
     let ops = ap (λ (image : ImageState). image.ops) c.self.view_is in
     let count =
-    count_after c.args.self.now layers g.new c.args.writes.now c.args.place image.committed counted ops
-    c.requires.1.1.0 c.requires.1.0 c.undo_from.new.self.tentative.items c.replace_from.new.self.tentative.items
+    count_after c.args.self.now layers (ops_of c.args.new.now) c.args.rest.now c.args.place image.committed counted ops
+    c.requires.joined c.requires.within c.undo_from.new.self.tentative.items c.replace_from.new.self.tentative.items
     c.apply_from.new.self.tentative.items (rw c.undo_from.ensures.tentative refl) c.replace_from.ensures.ops c.apply_from.ensures.ops in
     let before = image.layers.current in
     let now = c.undo_from.new.self.current in
     let joined =
-    all_joined c.args.self.now layers g.new c.args.writes.now c.args.place image.committed counted ops c.requires.1.1.0 c.requires.1.0 in
+    all_joined c.args.self.now layers (ops_of c.args.new.now) c.args.rest.now c.args.place image.committed counted ops c.requires.joined c.requires.within in
     record {
       applies = c.apply_from.ensures.applies;
       counted = rw (c.apply_from.ensures.settled, c.replace_from.ensures.settled, c.undo_from.ensures.settled) c.self.invariant.counted;
@@ -165,27 +143,25 @@ invariant_of-self g c =
         listed = omega (
           arith,
           count,
-          c.len.ensures,
-          c.len-2.ensures,
+         
           c.self.invariant.memory.listed,
           c.apply_from.ensures.capacity,
           c.replace_from.ensures.capacity,
           ap vec_capacity c.undo_from.ensures.tentative,
-          c.requires.1.1.1,
+          c.requires.room, length-map c.args.new.now op_of,
           ap (λ (image : ImageState). image.room) c.self.view_is,
         );
         keys = omega (
           arith,
           count,
-          c.len.ensures,
-          c.len-2.ensures,
-          all_wanted-stays before now (ops_of c.args.writes.now) (same-places before now c.undo_from.ensures.places),
-          joined_wanted before layers g.new (ops_of c.args.writes.now) (c.args.place - image.committed) c.self.invariant.applies.placed joined,
+         
+          all_wanted-stays before now (ops_of c.args.rest.now) (same-places before now c.undo_from.ensures.places),
+          joined_wanted before layers (ops_of c.args.new.now) (ops_of c.args.rest.now) (c.args.place - image.committed) c.self.invariant.applies.placed joined,
           c.self.invariant.memory.keys,
           c.undo_from.ensures.spare,
           c.replace_from.ensures.spare,
           c.apply_from.ensures.spare,
-          c.requires.1.1.1,
+          c.requires.room, length-map c.args.new.now op_of,
           ap (λ (image : ImageState). image.room) c.self.view_is,
         );
       };
