@@ -1,6 +1,6 @@
 //! Images: what keys hold after operations, late ones and commits among them, against their fold from scratch.
 
-ghost use Rattle.std.specs.Prelude.{◌≡◌, ◌<◌, ◌≤◌, ◌^◌, [], ◌∷◌, ◌++◌, vec_len, take, IfOk, OnOk};
+ghost use Rattle.std.specs.Prelude.{◌≡◌, ◌+◌, ◌<◌, ◌≤◌, ◌^◌, [], ◌∷◌, ◌++◌, vec_len, take, IfOk, OnOk};
 ghost use Rattle.tact_base.specs.Images.{ops_of};
 
 use rollback_apply::{Image, value_after};
@@ -179,6 +179,71 @@ fn replace(ops: &mut Vec<Op>, place: usize, writes: &[Write]) -> Result<(), Fail
     Ok(())
 }
 
+// Puts an operation among tentative ones, before that at a place of these.
+fn put_one(
+    image: &mut Image,
+    late: &mut Vec<Op>,
+    committed: u64,
+    place: usize,
+    op: Op,
+) -> Result<(), Fail>
+    requires same { image.old.ops ≡ late.old.items }
+    requires committed { committed ≡ image.old.committed }
+    requires small { committed < 2 ^ 63 }
+    requires within { place ≤ vec_len late.old }
+    requires room { 0 < image.old.room }
+    ensures same { OnOk result (image.new.ops ≡ late.new.items) }
+    ensures committed { image.new.committed ≡ image.old.committed }
+    ensures room { image.old.room ≡ image.new.room + 1 }
+{
+    image.insert_at(committed + place as u64, op);
+    late.insert(place, op)?;
+    Ok(())
+}
+
+// Commits the first `going` of the tentative operations.
+fn commit_some(
+    image: &mut Image,
+    early: &mut Vec<Op>,
+    late: &mut Vec<Op>,
+    going: usize,
+) -> Result<(), Fail>
+    requires same { image.old.ops ≡ late.old.items }
+    requires committed { image.old.committed ≡ vec_len early.old }
+    requires within { going ≤ vec_len late.old }
+    ensures same { OnOk result (image.new.ops ≡ late.new.items) }
+    ensures committed { OnOk result (image.new.committed ≡ vec_len early.new) }
+{
+    image.commit(early.len() as u64 + going as u64);
+    early.extend_from_slice(&late[..going])?;
+    drop_front(late, going);
+    Ok(())
+}
+
+// Puts two operations among tentative ones: one before that at a place of these, one at their end.
+fn put_two(
+    alloc: Global,
+    image: &mut Image,
+    late: &mut Vec<Op>,
+    committed: u64,
+    place: usize,
+    first: Write,
+    last: Write,
+) -> Result<(), Fail>
+    requires same { image.old.ops ≡ late.old.items }
+    requires committed { committed ≡ image.old.committed }
+    requires small { committed < 2 ^ 63 }
+    requires within { place ≤ vec_len late.old }
+    requires room { 2 ≤ image.old.room }
+    ensures same { OnOk result (image.new.ops ≡ late.new.items) }
+    ensures committed { image.new.committed ≡ image.old.committed }
+{
+    let new = [first, last];
+    let rest = with_two(alloc, &late[place..], new[0], new[1])?;
+    image.insert_all(committed + place as u64, &new, &rest);
+    replace(late, place, &rest)
+}
+
 // What keys hold after committed operations and then tentative ones, from scratch.
 fn assert_same(
     rt: &(impl Abort + AllocGlobal),
@@ -203,26 +268,20 @@ fn late_operations_and_batches_fold_as_in_order(rt: HostRuntime) -> Result<(), F
     let mut image = Image::new(rt.alloc());
     let mut early: Vec<Op> = Vec::new(rt.alloc());
     let mut late: Vec<Op> = Vec::new(rt.alloc());
-    let mut committed = 0;
     let mut number = 1;
     for _ in 0..300 {
+        let committed = early.len() as u64;
         number = next(number);
         let place = place_in(number, late.len());
         image.reserve(3)?;
-        image.insert_at(committed + place as u64, op_of(number));
-        late.insert(place, op_of(number))?;
+        put_one(&mut image, &mut late, committed, place, op_of(number))?;
         assert_same(&rt, &image, &early, &late)?;
         let second = next(number);
         let place = place_in(second, late.len());
-        let new = [write(op_of(second))?, write(op_of(next(second)))?];
-        let rest = with_two(rt.alloc(), &late[place..], new[0], new[1])?;
-        image.insert_all(committed + place as u64, &new, &rest);
-        replace(&mut late, place, &rest)?;
+        let (first, last) = (write(op_of(second))?, write(op_of(next(second)))?);
+        put_two(rt.alloc(), &mut image, &mut late, committed, place, first, last)?;
         let going = late.len() / 4;
-        committed += going as u64;
-        image.commit(committed);
-        early.extend_from_slice(&late[..going])?;
-        drop_front(&mut late, going);
+        commit_some(&mut image, &mut early, &mut late, going)?;
         assert_same(&rt, &image, &early, &late)?;
     }
     Ok(())

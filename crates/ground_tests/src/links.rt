@@ -6,6 +6,7 @@ use link_faults::{
     Counts, Fate, INBOX_MAX, Inbox, LinkPlan, Twin, counts_add_up, first_in_first_out,
 };
 use std::alloc::Global;
+use std::process::Abort;
 use std::test::Fail;
 use tact_base::NoMemory;
 
@@ -74,6 +75,36 @@ fn taken(alloc: Global, inbox: &mut Inbox<Parcel>) -> Result<Vec<u64>, Fail> {
     Ok(numbers)
 }
 
+// What an inbox of this plan counts is this.
+fn assert_counts(rt: &impl Abort, inbox: &Inbox<Parcel>, plan: LinkPlan, due: Counts) {
+    assert_eq!(rt; inbox.counts(), due, "{plan:?}");
+}
+
+// The items of these numbers come out of an inbox of this plan, and then none.
+fn assert_taken(
+    rt: &(impl Abort + AllocGlobal),
+    inbox: &mut Inbox<Parcel>,
+    plan: LinkPlan,
+    order: &[u64],
+) -> Result<(), Fail> {
+    let numbers = taken(rt.alloc(), inbox)?;
+    assert_eq!(rt; numbers.as_slice(), order, "{plan:?}");
+    Ok(())
+}
+
+// The fate of an item that is put into an inbox, with memory for a twin or without.
+fn assert_put(
+    rt: &impl Abort,
+    inbox: &mut Inbox<Parcel>,
+    with: bool,
+    item: Parcel,
+    fate: Fate,
+) -> Result<(), Fail> {
+    let number = item.number;
+    assert_eq!(rt; inbox.put(&with, item)?, fate, "put {number}");
+    Ok(())
+}
+
 #[test]
 fn loses_doubles_and_turns(rt: HostRuntime) -> Result<(), Fail> {
     for (plan, total, order) in [
@@ -95,13 +126,12 @@ fn loses_doubles_and_turns(rt: HostRuntime) -> Result<(), Fail> {
         (plan(2, 2, 2), counts(4, 0, 0, 2, 2), &[1, 3][..]),
     ] {
         let mut inbox = filled(rt.alloc(), plan, total.puts)?;
-        assert_eq!(rt; inbox.counts(), total, "{plan:?}");
-        let numbers = taken(rt.alloc(), &mut inbox)?;
-        assert_eq!(rt; numbers.as_slice(), order, "{plan:?}");
+        assert_counts(&rt, &inbox, plan, total);
+        assert_taken(&rt, &mut inbox, plan, order)?;
         let after = counts(total.puts, total.copies, total.waiting, total.lost, 0);
-        assert_eq!(rt; inbox.counts(), after, "{plan:?}");
-        assert!(rt; inbox.next().is_none());
-        assert_eq!(rt; inbox.counts(), after, "{plan:?}");
+        assert_counts(&rt, &inbox, plan, after);
+        assert_taken(&rt, &mut inbox, plan, &[])?;
+        assert_counts(&rt, &inbox, plan, after);
     }
     Ok(())
 }
@@ -118,7 +148,7 @@ fn answers_each_fate(rt: HostRuntime) -> Result<(), Fail> {
         (6, Fate::Queued),
         (7, Fate::Doubled),
     ] {
-        assert_eq!(rt; inbox.put(&true, parcel_of(number))?, fate, "put {number}");
+        assert_put(&rt, &mut inbox, true, parcel_of(number), fate)?;
     }
     Ok(())
 }
@@ -137,29 +167,30 @@ fn holds_no_more_than_1024(rt: HostRuntime) -> Result<(), Fail> {
         (plan(1_025, 1_025, 1_025), 1_024, Fate::Lost, 1_024),
     ] {
         let mut inbox = filled(rt.alloc(), plan, before)?;
-        assert_eq!(rt;
-            inbox.put(&true, parcel_of(0))?,
-            fate,
-            "{plan:?} after {before}"
-        );
+        assert_put(&rt, &mut inbox, true, parcel_of(before + 1), fate)?;
         assert_eq!(rt; inbox.counts().waiting, waiting, "{plan:?} after {before}");
     }
     Ok(())
 }
 
+// The item that is handed back where it can't be doubled.
+fn handed_back(inbox: &mut Inbox<Parcel>, item: Parcel) -> Result<Parcel, Fail> {
+    let fault = inbox.put(&false, item).err().ok_or("no fault")?;
+    Ok(fault.item)
+}
+
 #[test]
 fn hands_back_what_cannot_be_doubled(rt: HostRuntime) -> Result<(), Fail> {
-    let mut inbox = Inbox::new(rt.alloc(), plan(3, 2, 0))?;
-    assert_eq!(rt; inbox.put(&false, parcel_of(1))?, Fate::Queued);
-    let fault = inbox.put(&false, parcel_of(2)).err().ok_or("no fault")?;
-    assert_eq!(rt; fault.item.number, 2);
-    assert_eq!(rt; inbox.counts(), counts(1, 0, 0, 0, 1));
-    assert_eq!(rt; inbox.put(&true, fault.item)?, Fate::Doubled);
-    assert_eq!(rt; inbox.put(&false, parcel_of(3))?, Fate::Lost);
-    assert_eq!(rt; inbox.counts(), counts(3, 1, 0, 1, 3));
-    let numbers = taken(rt.alloc(), &mut inbox)?;
-    assert_eq!(rt; numbers.as_slice(), [1, 2, 2].as_slice());
-    Ok(())
+    let plan = plan(3, 2, 0);
+    let mut inbox = Inbox::new(rt.alloc(), plan)?;
+    assert_put(&rt, &mut inbox, false, parcel_of(1), Fate::Queued)?;
+    let item = handed_back(&mut inbox, parcel_of(2))?;
+    assert_eq!(rt; item.number, 2);
+    assert_counts(&rt, &inbox, plan, counts(1, 0, 0, 0, 1));
+    assert_put(&rt, &mut inbox, true, item, Fate::Doubled)?;
+    assert_put(&rt, &mut inbox, false, parcel_of(3), Fate::Lost)?;
+    assert_counts(&rt, &inbox, plan, counts(3, 1, 0, 1, 3));
+    assert_taken(&rt, &mut inbox, plan, &[1, 2, 2])
 }
 
 #[test]

@@ -5,7 +5,6 @@ ghost use Rattle.std.specs.List.Sorted.{IsStrictlySortedBy};
 ghost use Rattle.tact_base.specs.WriteOrder.{write_cmp};
 
 use commit_order::Ordered;
-use std::alloc::Global;
 use std::process::Abort;
 use std::test::Fail;
 use tact_base::{Op, Place, Weights, Write};
@@ -47,16 +46,18 @@ fn put(places: &mut Vec<Place>, writes: &[Write]) -> Result<(), Fail> {
     Ok(())
 }
 
+// The writes have these places.
+fn assert_at(rt: &impl Abort, writes: &[Write], places: &[Place]) {
+    assert_eq!(rt; writes.len(), places.len());
+    for (write, place) in writes.iter().zip(places) {
+        assert!(rt; write.place() == *place);
+    }
+}
+
 fn assert_places(rt: &impl Abort, ordered: &Ordered, point: u64, places: &[Place]) {
     let committed = places.partition_point(|place| place.stamp <= point);
-    assert_eq!(rt; ordered.committed().len(), committed);
-    for (write, place) in ordered.committed().iter().zip(places) {
-        assert_eq!(rt; write.place(), *place);
-    }
-    assert_eq!(rt; ordered.tentative().len(), places.len() - committed);
-    for (write, place) in ordered.tentative().iter().zip(&places[committed..]) {
-        assert_eq!(rt; write.place(), *place);
-    }
+    assert_at(rt, ordered.committed(), &places[..committed]);
+    assert_at(rt, ordered.tentative(), &places[committed..]);
 }
 
 #[test]
@@ -80,13 +81,12 @@ fn batches_go_in_one_by_one(rt: HostRuntime) -> Result<(), Fail> {
     Ok(())
 }
 
-// The stamps, origins and indices of writes.
-fn places(alloc: Global, writes: &[Write]) -> Result<Vec<(u64, u32, u64)>, Fail> {
-    let mut places = Vec::new(alloc);
-    for write in writes {
-        places.push((write.stamp, write.origin, write.index))?;
+fn at(stamp: u64, origin: u32, index: u64) -> Place {
+    Place {
+        stamp,
+        origin,
+        index,
     }
-    Ok(places)
 }
 
 #[test]
@@ -105,19 +105,14 @@ fn puts_writes_in_order(rt: HostRuntime) -> Result<(), Fail> {
         (2, 1, 0, 3),
     ] {
         let stamp = late as u64 + 1;
-        assert_eq!(rt;
-            ordered.place(stamp, origin, index),
-            place,
-            "{stamp}, {origin}, {index}"
-        );
+        let found = ordered.place(stamp, origin, index);
+        assert_eq!(rt; found, place, "{stamp}, {origin}, {index}");
     }
     assert_eq!(rt; ordered.committed().len(), 0);
     assert_eq!(rt; ordered.commit_to(1), 2);
     assert_eq!(rt; ordered.commit_to(2), 2);
-    let committed = places(rt.alloc(), ordered.committed())?;
-    assert_eq!(rt; committed.as_slice(), [(1, 0, 0), (1, 1, 0)].as_slice());
-    let tentative = places(rt.alloc(), ordered.tentative())?;
-    assert_eq!(rt; tentative.as_slice(), [(3, 0, 1)].as_slice());
+    assert_at(&rt, ordered.committed(), &[at(1, 0, 0), at(1, 1, 0)]);
+    assert_at(&rt, ordered.tentative(), &[at(3, 0, 1)]);
     Ok(())
 }
 
@@ -132,8 +127,7 @@ fn gives_up_the_first(rt: HostRuntime) -> Result<(), Fail> {
     let first = ordered.committed().len().min(1);
     ordered.drop_front(first as u64);
     assert_eq!(rt; ordered.dropped(), 1);
-    let committed = places(rt.alloc(), ordered.committed())?;
-    assert_eq!(rt; committed.as_slice(), [(2, 0, 1)].as_slice());
+    assert_at(&rt, ordered.committed(), &[at(2, 0, 1)]);
     assert_eq!(rt; ordered.place(4, 0, 0), 3);
     assert_eq!(rt; ordered.commit_to(3), 3);
     assert_eq!(rt; ordered.tentative().len(), 0);

@@ -4,9 +4,10 @@ use run_model::{
     Act, Config, Entry, Line, Message, Reply, Request, Sums, end_of, head_of, line_of,
 };
 use std::alloc::Global;
+use std::process::Abort;
 use std::test::Fail;
 use tact_base::{
-    Bytes, Covers, Need, Needs, Numbers, Op, SharedWrites, Weight, Weights, WriteList,
+    Bytes, Covers, Need, Needs, NoMemory, Numbers, Op, SharedWrites, Weight, Weights, WriteList,
 };
 
 const ADD: Op = Op::Add { key: 7, delta: 1 };
@@ -17,60 +18,66 @@ const ONE: Weight = Weight {
     oweight: 1,
 };
 
-// The line of replica 0's entry with this act at this moment, printed of a copy.
-fn line(alloc: Global, moment: u64, act: Act) -> Result<Bytes, Fail> {
+// Prints a copy of an entry. Entries are boxed, since a box is let go in one step.
+fn print(alloc: Global, entry: &Entry, out: &mut Bytes) -> Result<(), NoMemory> {
+    let copy = Box::new(alloc, entry.clone()?)?;
+    line_of(&copy, out)
+}
+
+// Replica 0's entry with this act at this moment.
+fn entry_of(alloc: Global, moment: u64, act: Act) -> Result<Box<Entry>, NoMemory> {
     let entry = Entry {
         replica: 0,
         moment,
         act,
     };
-    let mut out = Bytes::new(alloc);
-    line_of(&entry.clone()?, &mut out)?;
-    Ok(out)
+    Ok(Box::new(alloc, entry)?)
 }
 
-fn call(number: u64, request: Request, reply: Reply) -> Act {
-    Act::Call {
+// The line of an entry is this.
+fn assert_line(rt: &(impl Abort + AllocGlobal), entry: &Entry, due: &str) -> Result<(), Fail> {
+    let mut out = Bytes::new(rt.alloc());
+    print(rt.alloc(), entry, &mut out)?;
+    assert!(rt; out.items() == due.as_bytes(), "{due}");
+    Ok(())
+}
+
+// The line of a call of client 0 at replica 0, with copies of what is asked and said, is this.
+fn assert_call(
+    rt: &(impl Abort + AllocGlobal),
+    moment: u64,
+    number: u64,
+    request: &Request,
+    reply: &Reply,
+    due: &str,
+) -> Result<(), Fail> {
+    let (request, reply) = (request.clone()?, reply.clone()?);
+    let call = Act::Call {
         client: 0,
         number,
         request,
         reply,
-    }
+    };
+    assert_line(rt, &*entry_of(rt.alloc(), moment, call)?, due)
 }
 
-fn write_of(op: Op, weights: &[Weight]) -> Result<Request, Fail> {
-    let weights = Weights::new(weights)?;
-    Ok(Request::Write { weights, op })
-}
-
-fn read_of(needs: &[Need]) -> Result<Request, Fail> {
-    let needs = Needs::new(needs)?;
-    Ok(Request::Read { key: 1, needs })
-}
-
-fn message(
-    alloc: Global,
-    from: u32,
-    to: u32,
-    number: u64,
-    firsts: &[u64],
-) -> Result<Message, Fail> {
-    Ok(Message {
-        from,
-        to,
-        number,
-        haves: Numbers::new(alloc),
-        covers: Covers::new(alloc),
-        firsts: Numbers::from_slice(alloc, firsts)?,
-        writes: SharedWrites::new(alloc, WriteList::new(alloc))?,
-        lent: Numbers::new(alloc),
-        returned: Numbers::new(alloc),
-    })
+// The same of a request that is done.
+fn assert_request(
+    rt: &(impl Abort + AllocGlobal),
+    request: &Request,
+    due: &str,
+) -> Result<(), Fail> {
+    assert_call(rt, 3, 2, request, &Reply::Done { index: 0, stamp: 1 }, due)
 }
 
 #[test]
-fn prints_requests(rt: HostRuntime) -> Result<(), Fail> {
-    let done = Reply::Done { index: 0, stamp: 1 };
+fn prints_writes(rt: HostRuntime) -> Result<(), Fail> {
+    let put = Op::Put { key: 1, value: -5 };
+    let shift = Op::Shift {
+        from: 1,
+        to: 2,
+        amount: 5,
+    };
     let two = [
         Weight {
             conit: 0,
@@ -83,89 +90,144 @@ fn prints_requests(rt: HostRuntime) -> Result<(), Fail> {
             oweight: 0,
         },
     ];
-    let need = [Need {
-        conit: 0,
-        num: 10,
-        order: 9,
-        stale: 8,
-    }];
-    let put = Op::Put { key: 1, value: -5 };
-    let shift = Op::Shift {
-        from: 1,
-        to: 2,
-        amount: 5,
-    };
-    let cases = [
-        (write_of(ADD, &[])?, "write add 7 1"),
-        (write_of(put, &[ONE])?, "write put 1 -5 0:1:1"),
+    for (op, weights, due) in [
         (
-            write_of(shift, &two)?,
-            "write shift 1 2 5 0:-5:1 15:1000000:0",
+            ADD,
+            [].as_slice(),
+            "e 0 3 call 0 2 write add 7 1 = done 0 1\n",
         ),
         (
-            Request::Held {
-                weight: ONE,
-                op: ADD,
-            },
-            "held add 7 1 0:1:1",
+            put,
+            &[ONE],
+            "e 0 3 call 0 2 write put 1 -5 0:1:1 = done 0 1\n",
         ),
         (
-            Request::Reserve {
-                conit: 0,
-                amount: 10,
-            },
-            "reserve 0 10",
+            shift,
+            &two,
+            "e 0 3 call 0 2 write shift 1 2 5 0:-5:1 15:1000000:0 = done 0 1\n",
         ),
-        (
-            Request::Release {
-                conit: 0,
-                amount: 1,
-            },
-            "release 0 1",
-        ),
-        (read_of(&[])?, "read 1"),
-        (read_of(&need)?, "read 1 0:10:9:8"),
-    ];
-    for (request, text) in &cases {
-        let line = line(rt.alloc(), 3, call(2, request.clone()?, done.clone()?))?;
-        let due = format!(in rt.alloc(); "e 0 3 call 0 2 {text} = done 0 1\n")?;
-        assert_eq!(rt; line.items(), due.as_bytes());
+    ] {
+        let weights = Weights::new(weights)?;
+        assert_request(&rt, &Request::Write { weights, op }, due)?;
     }
     Ok(())
 }
 
 #[test]
-fn prints_replies(rt: HostRuntime) -> Result<(), Fail> {
+fn prints_reads(rt: HostRuntime) -> Result<(), Fail> {
+    let need = Need {
+        conit: 0,
+        num: 10,
+        order: 9,
+        stale: 8,
+    };
+    for (needs, due) in [
+        ([].as_slice(), "e 0 3 call 0 2 read 1 = done 0 1\n"),
+        (&[need], "e 0 3 call 0 2 read 1 0:10:9:8 = done 0 1\n"),
+    ] {
+        let needs = Needs::new(needs)?;
+        assert_request(&rt, &Request::Read { key: 1, needs }, due)?;
+    }
+    Ok(())
+}
+
+#[test]
+fn prints_what_is_held(rt: HostRuntime) -> Result<(), Fail> {
+    let held = Request::Held {
+        weight: ONE,
+        op: ADD,
+    };
+    assert_request(&rt, &held, "e 0 3 call 0 2 held add 7 1 0:1:1 = done 0 1\n")?;
+    let reserve = Request::Reserve {
+        conit: 0,
+        amount: 10,
+    };
+    assert_request(&rt, &reserve, "e 0 3 call 0 2 reserve 0 10 = done 0 1\n")?;
+    let release = Request::Release {
+        conit: 0,
+        amount: 1,
+    };
+    assert_request(&rt, &release, "e 0 3 call 0 2 release 0 1 = done 0 1\n")
+}
+
+// A reply to a write waits or doesn't, and its line is this.
+fn assert_reply(
+    rt: &(impl Abort + AllocGlobal),
+    reply: &Reply,
+    waits: bool,
+    due: &str,
+) -> Result<(), Fail> {
+    assert!(rt; reply.is_waiting() == waits, "{due}");
+    let weights = Weights::new(&[ONE])?;
+    assert_call(rt, 0, 1, &Request::Write { weights, op: ADD }, reply, due)
+}
+
+#[test]
+fn prints_what_is_done(rt: HostRuntime) -> Result<(), Fail> {
     let cases = [
-        (Reply::Done { index: 1, stamp: 2 }, false, "done 1 2"),
-        (Reply::Granted, false, "granted"),
-        (Reply::Released, false, "released"),
+        (
+            Reply::Done { index: 1, stamp: 2 },
+            "e 0 0 call 0 1 write add 7 1 0:1:1 = done 1 2\n",
+        ),
+        (
+            Reply::Granted,
+            "e 0 0 call 0 1 write add 7 1 0:1:1 = granted\n",
+        ),
+        (
+            Reply::Released,
+            "e 0 0 call 0 1 write add 7 1 0:1:1 = released\n",
+        ),
         (
             Reply::Value {
                 value: 0,
                 sums: Sums::new(&[]),
             },
-            false,
-            "value 0",
+            "e 0 0 call 0 1 write add 7 1 0:1:1 = value 0\n",
         ),
         (
             Reply::Value {
                 value: -1,
                 sums: Sums::new(&[5, -6]),
             },
-            false,
-            "value -1 5 -6",
+            "e 0 0 call 0 1 write add 7 1 0:1:1 = value -1 5 -6\n",
         ),
-        (
-            Reply::TooHeavy {
-                conit: 0,
-                peer: 1,
-                weight: 6,
-                share: 5,
-            },
-            false,
-            "too-heavy 0 1 6 5",
-        ),
+    ];
+    for (reply, due) in &cases {
+        assert_reply(&rt, reply, false, due)?;
+    }
+    Ok(())
+}
+
+#[test]
+fn prints_refusals(rt: HostRuntime) -> Result<(), Fail> {
+    let too_heavy = Reply::TooHeavy {
+        conit: 0,
+        peer: 1,
+        weight: 6,
+        share: 5,
+    };
+    assert_reply(
+        &rt,
+        &too_heavy,
+        false,
+        "e 0 0 call 0 1 write add 7 1 0:1:1 = too-heavy 0 1 6 5\n",
+    )?;
+    let not_held = Reply::NotHeld {
+        conit: 0,
+        held: 0,
+        amount: 1,
+    };
+    assert_reply(
+        &rt,
+        &not_held,
+        false,
+        "e 0 0 call 0 1 write add 7 1 0:1:1 = not-held 0 0 1\n",
+    )
+}
+
+#[test]
+fn prints_what_is_waited_for(rt: HostRuntime) -> Result<(), Fail> {
+    let cases = [
         (
             Reply::WaitHeld {
                 conit: 0,
@@ -174,8 +236,7 @@ fn prints_replies(rt: HostRuntime) -> Result<(), Fail> {
                 weight: 1,
                 share: 10,
             },
-            true,
-            "wait-held 0 1 10 1 10",
+            "e 0 0 call 0 1 write add 7 1 0:1:1 = wait-held 0 1 10 1 10\n",
         ),
         (
             Reply::WaitShare {
@@ -186,8 +247,7 @@ fn prints_replies(rt: HostRuntime) -> Result<(), Fail> {
                 weight: 1,
                 share: 5,
             },
-            true,
-            "wait-share 0 2 5 0 1 5",
+            "e 0 0 call 0 1 write add 7 1 0:1:1 = wait-share 0 2 5 0 1 5\n",
         ),
         (
             Reply::WaitLent {
@@ -197,8 +257,7 @@ fn prints_replies(rt: HostRuntime) -> Result<(), Fail> {
                 total: 10,
                 num: 9,
             },
-            true,
-            "wait-lent 0 1 5 10 9",
+            "e 0 0 call 0 1 write add 7 1 0:1:1 = wait-lent 0 1 5 10 9\n",
         ),
         (
             Reply::WaitOrder {
@@ -207,8 +266,7 @@ fn prints_replies(rt: HostRuntime) -> Result<(), Fail> {
                 tentative: 4,
                 order: 3,
             },
-            true,
-            "wait-order 0 1 4 3",
+            "e 0 0 call 0 1 write add 7 1 0:1:1 = wait-order 0 1 4 3\n",
         ),
         (
             Reply::WaitStale {
@@ -217,77 +275,69 @@ fn prints_replies(rt: HostRuntime) -> Result<(), Fail> {
                 moment: 100,
                 wanted: 101,
             },
-            true,
-            "wait-stale 0 1 100 101",
-        ),
-        (
-            Reply::NotHeld {
-                conit: 0,
-                held: 0,
-                amount: 1,
-            },
-            false,
-            "not-held 0 0 1",
+            "e 0 0 call 0 1 write add 7 1 0:1:1 = wait-stale 0 1 100 101\n",
         ),
     ];
-    for (reply, waits, text) in &cases {
-        assert_eq!(rt; reply.is_waiting(), *waits, "{text}");
-        let line = line(
-            rt.alloc(),
-            0,
-            call(1, write_of(ADD, &[ONE])?, reply.clone()?),
-        )?;
-        let due = format!(in rt.alloc(); "e 0 0 call 0 1 write add 7 1 0:1:1 = {text}\n")?;
-        assert_eq!(rt; line.items(), due.as_bytes());
+    for (reply, due) in &cases {
+        assert_reply(&rt, reply, true, due)?;
     }
     Ok(())
 }
 
+// A message with no writes and no counts.
+fn message(alloc: Global, from: u32, to: u32, number: u64) -> Result<Message, NoMemory> {
+    Ok(Message {
+        from,
+        to,
+        number,
+        haves: Numbers::new(alloc),
+        covers: Covers::new(alloc),
+        firsts: Numbers::from_slice(alloc, &[2, 0, 3])?,
+        writes: SharedWrites::new(alloc, WriteList::new(alloc))?,
+        lent: Numbers::new(alloc),
+        returned: Numbers::new(alloc),
+    })
+}
+
+// The line of replica 0's entry with this act at the moment 100 is this.
+fn assert_act(rt: &(impl Abort + AllocGlobal), act: Act, due: &str) -> Result<(), Fail> {
+    assert_line(rt, &*entry_of(rt.alloc(), 100, act)?, due)
+}
+
 #[test]
-fn prints_other_acts(rt: HostRuntime) -> Result<(), Fail> {
-    let alloc = rt.alloc();
-    let cases = [
-        (
-            Act::Send {
-                message: message(alloc, 0, 1, 4, &[2, 0, 3])?,
-            },
-            "send 1 4 2 0 3",
-        ),
-        (
-            Act::Take {
-                message: message(alloc, 1, 0, 5, &[2, 0, 3])?,
-            },
-            "take 1 5",
-        ),
-        (
-            Act::Lend {
-                to: 1,
-                conit: 2,
-                amount: 6,
-            },
-            "lend 1 2 6",
-        ),
-        (
-            Act::Back {
-                owner: 2,
-                conit: 1,
-                amount: 7,
-            },
-            "back 2 1 7",
-        ),
-        (Act::Restart, "restart"),
-    ];
-    for (act, text) in cases {
-        let line = line(alloc, 100, act)?;
-        let due = format!(in alloc; "e 0 100 {text}\n")?;
-        assert_eq!(rt; line.items(), due.as_bytes());
-    }
-    Ok(())
+fn prints_messages(rt: HostRuntime) -> Result<(), Fail> {
+    let message_to = message(rt.alloc(), 0, 1, 4)?;
+    let send = Act::Send {
+        message: message_to,
+    };
+    assert_act(&rt, send, "e 0 100 send 1 4 2 0 3\n")?;
+    let message_from = message(rt.alloc(), 1, 0, 5)?;
+    let take = Act::Take {
+        message: message_from,
+    };
+    assert_act(&rt, take, "e 0 100 take 1 5\n")
+}
+
+#[test]
+fn prints_loans_and_restarts(rt: HostRuntime) -> Result<(), Fail> {
+    let lend = Act::Lend {
+        to: 1,
+        conit: 2,
+        amount: 6,
+    };
+    assert_act(&rt, lend, "e 0 100 lend 1 2 6\n")?;
+    let back = Act::Back {
+        owner: 2,
+        conit: 1,
+        amount: 7,
+    };
+    assert_act(&rt, back, "e 0 100 back 2 1 7\n")?;
+    assert_act(&rt, Act::Restart, "e 0 100 restart\n")
 }
 
 #[test]
 fn begins_and_ends_records(rt: HostRuntime) -> Result<(), Fail> {
-    let cases = [
+    for (conits, alphas, loans, due) in [
         (
             1,
             [10, 10].as_slice(),
@@ -296,17 +346,16 @@ fn begins_and_ends_records(rt: HostRuntime) -> Result<(), Fail> {
         ),
         (
             2,
-            [1, 2, 3, 4].as_slice(),
-            [0, 1, 0, 2, 3, 0, 4, 0].as_slice(),
+            &[1, 2, 3, 4],
+            &[0, 1, 0, 2, 3, 0, 4, 0],
             "tact 1 2 2\nbound 0 0 1 0 1\nbound 0 1 2 0 2\nbound 1 0 3 3 0\nbound 1 1 4 4 0\nend 7\n",
         ),
-    ];
-    for (conits, alphas, loans, text) in cases {
+    ] {
         let config = Config::new(rt.alloc(), 2, conits, alphas, loans)?;
         let mut out = Bytes::new(rt.alloc());
         head_of(&config, &mut out)?;
         end_of(7, &mut out)?;
-        assert_eq!(rt; out.items(), text.as_bytes());
+        assert!(rt; out.items() == due.as_bytes(), "{due}");
     }
     Ok(())
 }
@@ -319,6 +368,7 @@ fn copies_lines(rt: HostRuntime) -> Result<(), Fail> {
         to: 1,
         firsts,
     };
-    assert_eq!(rt; line.clone()?, line);
+    let copy = line.clone()?;
+    assert!(rt; copy == line);
     Ok(())
 }

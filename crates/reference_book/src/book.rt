@@ -93,8 +93,9 @@ impl Book {
     {
         let writes = self.ordered()?;
         let mut image = Image::new(self.alloc);
-        image.reserve(writes.items().len() as u64)?;
-        image.insert_all(0, writes.items(), writes.items());
+        let all = writes.items();
+        image.reserve(all.len() as u64)?;
+        image.insert_all(0, all, all);
         Ok(image.get(key))
     }
 

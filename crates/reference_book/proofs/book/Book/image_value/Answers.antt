@@ -1,6 +1,8 @@
 use Rattle.std.specs.Int.{w64}
 use Rattle.std.proofs.lemmas.Int.{to_z-of_z}
-use Rattle.std.proofs.Common.{◌≡◌, ◌++◌, ◌-◌, ℕ, List, take, rules, FitsSigned, ap, ap₂, ◌∙◌, arith}
+use Rattle.std.proofs.Common.{[], length, ◌≡◌, ◌++◌, ◌-◌, ℕ, List, take, rules, FitsSigned, ap, ap₂, ◌∙◌, arith}
+use Rattle.std.specs.List.{sum_by}
+use Rattle.std.proofs.lemmas.List.{take_all}
 use Rattle.tact_base.specs.Images.{Image, image_of, image_from, empty_image, ops_of}
 use Rattle.tact_base.specs.WriteOrder.{in_order}
 use Rattle.tact_base.specs.declared.write.Op.{Op}
@@ -12,15 +14,14 @@ use Rattle.reference_book.proofs.Histories.{writes_in-is}
 use Rattle.reference_book.proofs.book.Book.image_value.Goals as goal
 
 -- Operations alone are what they are among none.
-alone : (none ops : List Op) (place : ℕ) → none ≡ [] → AreJoined none ops (take place none ++ ops)
-alone none ops place empty amount =
-    let front : take place none ≡ [] = ap (take place) empty ∙ take_none place in
-    rw (front, empty) refl where
-      take_none : (n : ℕ) → take n {A = Op} [] ≡ []
-      take_none n = ?
+alone : (none ops : List Op) (count : ℕ) → none ≡ [] → AreJoined none ops (take count none ++ ops)
+alone none ops count empty amount =
+    let front : take count none ≡ [] = take_all count none (omega (arith, ap length empty)) ∙ empty in
+    rw front (omega (arith, ap (sum_by amount) empty))
 
 pub insert_all-requires-clause-joined : goal.insert_all-requires-clause-joined
-insert_all-requires-clause-joined c = ?
+insert_all-requires-clause-joined c =
+    alone c.reserve.new.self.ops (ops_of c.items-all.result.now) (0 - c.reserve.new.self.committed) (c.in_ok-reserve.ensures.ops ∙ c.new-image.ensures.ops)
 
 pub returns-clause-value : goal.returns-clause-value
 returns-clause-value c =
@@ -29,7 +30,7 @@ returns-clause-value c =
     let base : base_of image ≡ empty_image =
     same_image (base_of image) empty_image (λ key. c.insert_all.ensures.base key ∙ c.in_ok-reserve.ensures.base key ∙ c.new-image.ensures.base key) in
     let none : 0 - c.reserve.new.self.committed ≡ 0 = omega arith in
-    let sorted : c.items-2.result.now ≡ in_order (writes_in c.args.self.now) = c.items-2.ensures ∙ c.in_ok-writes.ensures in
+    let sorted : c.items-all.result.now ≡ in_order (writes_in c.args.self.now) = c.items-all.ensures ∙ c.in_ok-writes.ensures in
     let ops : image.ops ≡ ops_of (in_order (writes_in c.args.self.now)) =
     c.insert_all.ensures.ops
     ∙ ap₂ (λ (n : ℕ) (ws : List Write). take n c.reserve.new.self.ops ++ ops_of ws) none sorted in
