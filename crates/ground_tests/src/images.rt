@@ -279,7 +279,15 @@ fn late_operations_and_batches_fold_as_in_order(rt: HostRuntime) -> Result<(), F
         let second = next(number);
         let place = place_in(second, late.len());
         let (first, last) = (write(op_of(second))?, write(op_of(next(second)))?);
-        put_two(rt.alloc(), &mut image, &mut late, committed, place, first, last)?;
+        put_two(
+            rt.alloc(),
+            &mut image,
+            &mut late,
+            committed,
+            place,
+            first,
+            last,
+        )?;
         let going = late.len() / 4;
         commit_some(&mut image, &mut early, &mut late, going)?;
         assert_same(&rt, &image, &early, &late)?;

@@ -107,7 +107,8 @@ replace_from-requires-clause-spare c =
       joined_wanted before layers (ops_of c.args.new.now) (ops_of c.args.rest.now) index c.self.invariant.applies.placed joined,
       c.self.invariant.memory.keys,
       c.undo_from.ensures.spare,
-      c.requires.room, length-map c.args.new.now op_of,
+      c.requires.room,
+      length-map c.args.new.now op_of,
       ap (λ (image : ImageState). image.room) c.self.view_is,
     )
 
@@ -143,25 +144,25 @@ invariant_of-self c =
         listed = omega (
           arith,
           count,
-         
           c.self.invariant.memory.listed,
           c.apply_from.ensures.capacity,
           c.replace_from.ensures.capacity,
           ap vec_capacity c.undo_from.ensures.tentative,
-          c.requires.room, length-map c.args.new.now op_of,
+          c.requires.room,
+          length-map c.args.new.now op_of,
           ap (λ (image : ImageState). image.room) c.self.view_is,
         );
         keys = omega (
           arith,
           count,
-         
           all_wanted-stays before now (ops_of c.args.rest.now) (same-places before now c.undo_from.ensures.places),
           joined_wanted before layers (ops_of c.args.new.now) (ops_of c.args.rest.now) (c.args.place - image.committed) c.self.invariant.applies.placed joined,
           c.self.invariant.memory.keys,
           c.undo_from.ensures.spare,
           c.replace_from.ensures.spare,
           c.apply_from.ensures.spare,
-          c.requires.room, length-map c.args.new.now op_of,
+          c.requires.room,
+          length-map c.args.new.now op_of,
           ap (λ (image : ImageState). image.room) c.self.view_is,
         );
       };
