@@ -1,0 +1,4 @@
+pub mod ValueLemmas
+pub mod Filling
+pub mod EntryLemmas
+pub mod Texts

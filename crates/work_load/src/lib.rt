@@ -1,0 +1,19 @@
+//! Workloads: what the clients of a run ask for, over which links, as one JSON object.
+#![tactic(auto)]
+
+mod bounds;
+mod clients;
+mod entries;
+mod fault;
+mod forms;
+mod head;
+mod items;
+mod links;
+mod lists;
+mod plan;
+mod reader;
+mod values;
+
+pub use fault::LoadFault;
+pub use reader::parse_plan;
+pub use plan::{Client, ITEMS_MAX, Item, Items, Plan, SETTLE_MAX};
