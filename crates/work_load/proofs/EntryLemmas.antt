@@ -1,14 +1,15 @@
 -- Lists whose entries are judged one after the other.
-use Rattle.std.proofs.Common.{◌≡◌, ℕ, suc, ◌+◌, ◌<◌, List, [], ◌∷◌, ◌++◌, length, take, drop, map, get_or, Ok, Err, refl, ap, sym, ◌∙◌}
+use Rattle.std.proofs.Common.{◌≡◌, ℕ, suc, ◌+◌, ◌<◌, List, [], ◌∷◌, ◌++◌, length, take, drop, map, get_or, Ok, Err, refl, ap, sym, subst, All, ◌∙◌}
 use Rattle.std.specs.List.{fold}
-use Rattle.std.proofs.lemmas.List.{drop_more, map-append, take-append-drop}
+use Rattle.std.proofs.lemmas.List.{append-nil, append_assoc, drop_more, map_more, map-append, take-append-drop}
+use Rattle.std.proofs.lemmas.List.Elements.{All-nil, All-cons}
 use Rattle.std.proofs.lemmas.List.Sums.{fold_push}
 use Rattle.serde_json.specs.View.{view}
 use Rattle.serde_json.specs.declared.value.Value.{Value}
 use Rattle.run_model.specs.declared.status.LoadKind.{LoadKind}
 use Rattle.serde_json.specs.Data.{Data}
 use Rattle.work_load.specs.Values.{Reading}
-use Rattle.work_load.specs.Entries.{Placed, at, with_entry, entries, Fails, FailsAt, placed_fault}
+use Rattle.work_load.specs.Entries.{Placed, EachAfter, at, with_entry, entries, Fails, FailsAt, placed_fault}
 use Rattle.work_load.specs.declared.fault.EntryFault.{EntryFault}
 use Rattle.work_load.specs.declared.fault.EntryFault.TheVariants as entry
 
@@ -63,3 +64,34 @@ parted values place value within is =
     drop_more values place value within ∙ ap (λ (x : Value). x ∷ drop (place + 1) values) (sym is) in
     ap (map view) (sym (take-append-drop place values) ∙ ap (λ (xs : List Value). take place values ++ xs) rest)
     ∙ map-append view (take place values) (value ∷ drop (place + 1) values)
+
+-- one more entry that fits
+each_from : {A : Type 0} (fits : List A → A → Type 0) (before list : List A) (entry : A)
+    → EachAfter fits before list
+    → fits (before ++ list) entry
+    → EachAfter fits before (list ++ entry ∷ [])
+each_from {A} fits before [] entry each fit = (subst (λ (xs : List A). fits xs entry) (append-nil before) fit, tt)
+each_from {A} fits before (first ∷ list) entry each fit =
+    (each.0, each_from fits (before ++ first ∷ []) list entry each.1 (subst (λ (xs : List A). fits xs entry) (sym (append_assoc before (first ∷ []) list)) fit))
+
+pub each_more : {A : Type 0} (fits : List A → A → Type 0) (list : List A) (entry : A)
+    → EachAfter fits [] list
+    → fits list entry
+    → EachAfter fits [] (list ++ entry ∷ [])
+each_more fits list entry each fit = each_from fits [] list entry each fit
+
+-- what each fits whatever stands before it
+pub All-from_each : {A : Type 0} (fits : List A → A → Type 0) (P : A → Type 0) (before list : List A)
+    → ((front : List A) (entry : A) → fits front entry → P entry)
+    → EachAfter fits before list
+    → All P list
+All-from_each fits P before [] weaker each = All-nil P
+All-from_each fits P before (first ∷ list) weaker each =
+    All-cons P first list (weaker before first each.0) (All-from_each fits P (before ++ first ∷ []) list weaker each.1)
+
+pub one_on : (values : List Value) (place : ℕ) (value : Value)
+    → place < length values
+    → value ≡ get_or values place value
+    → map view (take (place + 1) values) ≡ map view (take place values) ++ view value ∷ []
+one_on values place value within is =
+    map_more view values place value within ∙ ap (λ (x : Value). map view (take place values) ++ view x ∷ []) (sym is)

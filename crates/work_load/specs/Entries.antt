@@ -31,6 +31,11 @@ with_entry first read found value = do
 abbrev pub entries : {A : Type 0} → ℕ → (List A → Data → Reading A) → List Data → Placed (List A)
 entries first read values = fold (with_entry first read) (Ok []) values
 
+-- each entry of a list fits after those before it
+abbrev pub EachAfter : {A : Type 0} → (List A → A → Type 0) → List A → List A → Type 0
+EachAfter fits before [] = Unit {0}
+EachAfter fits before (entry ∷ rest) = fits before entry × EachAfter fits (before ++ entry ∷ []) rest
+
 -- what a function answers is what reading gives, unless memory ran out
 abbrev pub Fails : {A : Type 0} → Reading A → EntryFault → Type 0
 Fails read (entry.Kind kind) = read ≡ Err kind

@@ -5,4 +5,5 @@ pub mod Entries
 pub mod Bounds
 pub mod Links
 pub mod Clients
+pub mod Ranges
 pub mod Workloads

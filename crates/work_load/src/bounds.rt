@@ -1,11 +1,12 @@
 //! The bounds of a workload, and the setup that they make.
-ghost use Rattle.std.specs.Prelude.{◌≡◌, ◌<◌, ◌≤◌, ◌+◌, ◌*◌, ◌/◌, ◌%◌, ◌==◌, ◌++◌, IfOk, OnOk, MatchResult, length, take, map, sum, nat_lt, option_map, find, None, Ok, Err, if◌then◌else◌};
+ghost use Rattle.std.specs.Prelude.{◌≡◌, ◌<◌, ◌≤◌, ◌+◌, ◌*◌, ◌/◌, ◌%◌, ◌==◌, ◌++◌, IfOk, OnOk, MatchResult, get_or, length, take, map, sum, nat_lt, option_map, find, None, Ok, Err, if◌then◌else◌};
 ghost use Rattle.std.specs.List.{list_any};
 ghost use Rattle.tact_base.specs.Setup.{IsSetup};
 ghost use Rattle.tact_base.specs.declared.limits.TheConstants.{ALPHA_MAX, REPLICAS_MAX, CONITS_MAX};
 ghost use Rattle.serde_json.specs.View.{view};
 ghost use Rattle.work_load.specs.Values.{all_of, natural};
 ghost use Rattle.work_load.specs.Entries.{Tells};
+ghost use Rattle.work_load.specs.Ranges.{IsBoundOf};
 ghost use Rattle.work_load.specs.Bounds.{loans, bound, bound_after, bound_of, binds, alpha_by, loans_by, alphas_of, loans_of, setup_of};
 
 use crate::entries::{Counts, Entry};
@@ -34,6 +35,8 @@ pub(crate) struct Bound {
 impl Entry for Bound {
     ghost read_after = { λ counts. bound_after counts.replicas counts.conits };
 
+    ghost fits = { λ counts before. IsBoundOf counts.replicas };
+
     fn read_after(
         _alloc: Global,
         counts: Counts,
@@ -54,7 +57,8 @@ fn bound_after(
     requires replicas { 0 < replicas }
     requires few { replicas ≤ REPLICAS_MAX }
     requires conits { 0 < conits }
-    ensures { result ≡ bound_after replicas conits before.now (view value.now) }
+    ensures bound { result ≡ bound_after replicas conits before.now (view value.now) }
+    ensures within { IfOk result (λ bound. IsBoundOf replicas bound) }
 {
     let next = bound_in(value, replicas, conits)?;
     if is_bound(before, next.owner, next.conit) {
@@ -80,7 +84,10 @@ fn bound_in(value: &Value, replicas: u32, conits: u32) -> Result<Bound, LoadKind
     requires replicas { 0 < replicas }
     requires few { replicas ≤ REPLICAS_MAX }
     requires conits { 0 < conits }
-    ensures { result ≡ bound replicas conits (view value.now) }
+    ensures bound { result ≡ bound replicas conits (view value.now) }
+    ensures holders { IfOk result (λ bound. length bound.loans ≡ replicas) }
+    ensures alpha { IfOk result (λ bound. bound.alpha ≤ ALPHA_MAX) }
+    ensures own { IfOk result (λ bound. get_or bound.loans bound.owner 0 ≡ 0) }
 {
     let [owner, conit, alpha, row] = listed(value)? else {
         return Err(LoadKind::Shape);

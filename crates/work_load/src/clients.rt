@@ -1,9 +1,11 @@
 //! The clients of a workload.
-ghost use Rattle.std.specs.Prelude.{◌≡◌, ◌<◌, ◌≤◌, map, Ok, Err};
+ghost use Rattle.std.specs.Prelude.{◌≡◌, ◌<◌, ◌≤◌, ℕ, All, IfOk, length, Ok};
 ghost use Rattle.std.specs.List.{list_any};
 ghost use Rattle.tact_base.specs.declared.limits.TheConstants.{REPLICAS_MAX};
 ghost use Rattle.serde_json.specs.View.{view};
 ghost use Rattle.work_load.specs.Entries.{Tells};
+ghost use Rattle.work_load.specs.Ranges.{IsClientAfter, IsItemOf};
+ghost use Rattle.work_load.specs.declared.plan.TheConstants.{ITEMS_MAX};
 ghost use Rattle.work_load.specs.Clients.{item_count, items_of, is_of, client_by, client_after};
 
 use crate::entries::{Counts, Entry, entries};
@@ -17,6 +19,8 @@ use tact_base::CLIENTS;
 
 impl Entry for Client {
     ghost read_after = { λ counts. client_after counts.replicas counts.conits };
+
+    ghost fits = { λ counts. IsClientAfter counts.replicas counts.conits };
 
     fn read_after(
         alloc: Global,
@@ -38,7 +42,8 @@ fn client_after(
     requires replicas { 0 < counts.replicas }
     requires few { counts.replicas ≤ REPLICAS_MAX }
     requires conits { 0 < counts.conits }
-    ensures { Tells (client_after counts.replicas counts.conits before.now (view value.now)) result }
+    ensures within { IfOk result (λ client. IsClientAfter counts.replicas counts.conits before.now client) }
+    ensures client { Tells (client_after counts.replicas counts.conits before.now (view value.now)) result }
 {
     let [replica, number, list] = listed(value)? else {
         return Err(EntryFault::Kind(LoadKind::Shape));
@@ -61,7 +66,8 @@ fn client_after(
 // How many items there are in a list of at most 1,000.
 #[tactic(auto, unfolding(crate::specs::Clients::item_count))]
 fn item_count(value: &Value) -> Result<usize, LoadKind>
-    ensures { result ≡ item_count (view value.now) }
+    ensures count { result ≡ item_count (view value.now) }
+    ensures few { IfOk result (λ count. count ≤ ITEMS_MAX) }
 {
     let values = listed(value)?;
     if values.len() > ITEMS_MAX {
@@ -78,12 +84,14 @@ fn is_named(clients: &[Client], replica: u32, number: u32) -> bool
         .any(|client| client.replica == replica && client.client == number)
 }
 
-#[tactic(auto, unfolding(crate::specs::Clients::items_of))]
+#[tactic(auto, unfolding(crate::specs::Clients::items_of, crate::specs::Clients::item_count))]
 fn items_of(alloc: Global, counts: Counts, value: &Value) -> Result<Items, EntryFault>
     requires replicas { 0 < counts.replicas }
     requires few { counts.replicas ≤ REPLICAS_MAX }
     requires conits { 0 < counts.conits }
-    ensures { Tells (items_of counts.replicas counts.conits counts.replica (view value.now)) result }
+    ensures length { IfOk result (λ items. (count : ℕ) → item_count (view value.now) ≡ Ok count → length items ≡ count) }
+    ensures within { IfOk result (λ items. All (IsItemOf counts.replicas counts.conits counts.replica) items) }
+    ensures items { Tells (items_of counts.replicas counts.conits counts.replica (view value.now)) result }
 {
     let values = listed(value)?;
     Ok(entries(alloc, 0, counts, values)?)

@@ -1,8 +1,8 @@
 //! Lists whose entries are judged one after the other: the first one at fault counts.
-ghost use Rattle.std.specs.Prelude.{◌≡◌, ◌≤◌, ◌<◌, map};
+ghost use Rattle.std.specs.Prelude.{◌≡◌, ◌≤◌, ◌<◌, [], IfOk, length, map};
 ghost use Rattle.tact_base.specs.declared.limits.TheConstants.{REPLICAS_MAX};
 ghost use Rattle.serde_json.specs.View.{view};
-ghost use Rattle.work_load.specs.Entries.{Tells, TellsAt, entries, placed_fault};
+ghost use Rattle.work_load.specs.Entries.{Tells, TellsAt, EachAfter, entries, placed_fault};
 
 use crate::fault::{EntryFault, LoadFault};
 use serde_json::Value;
@@ -19,6 +19,9 @@ pub(crate) trait Entry: Drop + Sized {
     /// How one is read by itself and by those before it.
     ghost read_after: { Counts → List Self → Data → Reading Self };
 
+    /// What one that was read is within.
+    ghost fits: { Counts → List Self → Self → Type 0 };
+
     /// Reads one.
     fn read_after(
         alloc: Global,
@@ -29,7 +32,8 @@ pub(crate) trait Entry: Drop + Sized {
         requires replicas { 0 < counts.replicas }
         requires few { counts.replicas ≤ REPLICAS_MAX }
         requires conits { 0 < counts.conits }
-        ensures { Tells (read_after counts before.now (view value.now)) result };
+        ensures read { Tells (read_after counts before.now (view value.now)) result }
+        ensures within { IfOk result (λ entry. fits counts before.now entry) };
 }
 
 /// What a workload's numbers are judged by.
@@ -54,7 +58,9 @@ pub(crate) fn entries<T: Entry>(
     requires replicas { 0 < counts.replicas }
     requires few { counts.replicas ≤ REPLICAS_MAX }
     requires conits { 0 < counts.conits }
-    ensures { TellsAt (entries first (T.read_after counts) (map view values.now)) result }
+    ensures read { TellsAt (entries first (T.read_after counts) (map view values.now)) result }
+    ensures length { IfOk result (λ list. length list ≡ length values.now) }
+    ensures within { IfOk result (λ list. EachAfter (T.fits counts) [] list) }
 {
     let mut list = Items::with_capacity(alloc, values.len())?;
     for place in 0..values.len() {

@@ -1,5 +1,6 @@
 //! The operations of a workload, and lists that begin with a name.
-ghost use Rattle.std.specs.Prelude.{◌≡◌, ◌∷◌, map, Ok, Err, MatchResult};
+ghost use Rattle.std.specs.Prelude.{◌≡◌, ◌∷◌, map, Ok, Err, IfOk, MatchResult};
+ghost use Rattle.run_model.specs.Ranges.{IsOpInRange};
 ghost use Rattle.serde_json.specs.View.{view};
 ghost use Rattle.work_load.specs.Forms.{named, named_from, put, add, shift, op_named, op};
 
@@ -25,7 +26,8 @@ pub(crate) fn named(value: &Value) -> Result<(&str, &[Value]), LoadKind>
 }
 
 fn put(fields: &[Value]) -> Result<Op, LoadKind>
-    ensures { result ≡ put (map view fields.now) }
+    ensures op { result ≡ put (map view fields.now) }
+    ensures within { IfOk result IsOpInRange }
 {
     let [key, value] = fields else {
         return Err(LoadKind::Shape);
@@ -35,7 +37,8 @@ fn put(fields: &[Value]) -> Result<Op, LoadKind>
 }
 
 fn add(fields: &[Value]) -> Result<Op, LoadKind>
-    ensures { result ≡ add (map view fields.now) }
+    ensures op { result ≡ add (map view fields.now) }
+    ensures within { IfOk result IsOpInRange }
 {
     let [key, delta] = fields else {
         return Err(LoadKind::Shape);
@@ -45,7 +48,8 @@ fn add(fields: &[Value]) -> Result<Op, LoadKind>
 }
 
 fn shift(fields: &[Value]) -> Result<Op, LoadKind>
-    ensures { result ≡ shift (map view fields.now) }
+    ensures op { result ≡ shift (map view fields.now) }
+    ensures within { IfOk result IsOpInRange }
 {
     let [from, to, amount] = fields else {
         return Err(LoadKind::Shape);
@@ -57,7 +61,8 @@ fn shift(fields: &[Value]) -> Result<Op, LoadKind>
 }
 
 fn op_named(name: &str, fields: &[Value]) -> Result<Op, LoadKind>
-    ensures { result ≡ op_named name.now (map view fields.now) }
+    ensures op { result ≡ op_named name.now (map view fields.now) }
+    ensures within { IfOk result IsOpInRange }
 {
     if name == "put" {
         put(fields)
@@ -73,7 +78,8 @@ fn op_named(name: &str, fields: &[Value]) -> Result<Op, LoadKind>
 /// The operation that a value is.
 #[tactic(auto, unfolding(crate::specs::Forms::op))]
 pub(crate) fn op(value: &Value) -> Result<Op, LoadKind>
-    ensures { result ≡ op (view value.now) }
+    ensures op { result ≡ op (view value.now) }
+    ensures within { IfOk result IsOpInRange }
 {
     let (name, fields) = named(value)?;
     op_named(name, fields)

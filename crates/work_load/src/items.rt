@@ -1,7 +1,8 @@
 //! The items of a client.
-ghost use Rattle.std.specs.Prelude.{◌≡◌, ◌<◌, ◌==◌, map, Ok, Err};
+ghost use Rattle.std.specs.Prelude.{◌≡◌, ◌<◌, IfOk, map, Err};
 ghost use Rattle.serde_json.specs.View.{view};
 ghost use Rattle.work_load.specs.Entries.{Tells};
+ghost use Rattle.work_load.specs.Ranges.{IsItemOf, IsLoanOf};
 ghost use Rattle.work_load.specs.ItemForms.{write, held, reserve, release, read, loan, lend, back, restart, item_named, item_of};
 
 use crate::entries::{Counts, Entry};
@@ -18,6 +19,8 @@ use tact_base::{AMOUNT_MAX, KEY_MAX, Needs, Weight, Weights};
 impl Entry for Item {
     ghost read_after = { λ counts before. item_of counts.replicas counts.conits counts.replica };
 
+    ghost fits = { λ counts before. IsItemOf counts.replicas counts.conits counts.replica };
+
     fn read_after(
         _alloc: Global,
         counts: Counts,
@@ -32,7 +35,8 @@ impl Entry for Item {
 fn item_of(value: &Value, counts: Counts) -> Result<Item, LoadKind>
     requires replicas { 0 < counts.replicas }
     requires conits { 0 < counts.conits }
-    ensures { result ≡ item_of counts.replicas counts.conits counts.replica (view value.now) }
+    ensures within { IfOk result (IsItemOf counts.replicas counts.conits counts.replica) }
+    ensures item { result ≡ item_of counts.replicas counts.conits counts.replica (view value.now) }
 {
     let (name, fields) = named(value)?;
     item_named(name, fields, counts)
@@ -41,82 +45,88 @@ fn item_of(value: &Value, counts: Counts) -> Result<Item, LoadKind>
 fn item_named(name: &str, fields: &[Value], counts: Counts) -> Result<Item, LoadKind>
     requires replicas { 0 < counts.replicas }
     requires conits { 0 < counts.conits }
-    ensures { result ≡ item_named counts.replicas counts.conits counts.replica name.now (map view fields.now) }
+    ensures within { IfOk result (IsItemOf counts.replicas counts.conits counts.replica) }
+    ensures item { result ≡ item_named counts.replicas counts.conits counts.replica name.now (map view fields.now) }
 {
     if name == "write" {
-        write(fields, counts.conits)
+        write(fields, counts)
     } else if name == "held" {
-        held(fields, counts.conits)
+        held(fields, counts)
     } else if name == "reserve" {
-        reserve(fields, counts.conits)
+        reserve(fields, counts)
     } else if name == "release" {
-        release(fields, counts.conits)
+        release(fields, counts)
     } else if name == "read" {
-        read(fields, counts.conits)
+        read(fields, counts)
     } else if name == "lend" {
         lend(fields, counts)
     } else if name == "back" {
         back(fields, counts)
     } else if name == "restart" {
-        restart(fields)
+        Err(restart_fault(fields))
     } else {
         Err(LoadKind::Shape)
     }
 }
 
-fn write(fields: &[Value], conits: u32) -> Result<Item, LoadKind>
-    requires { 0 < conits }
-    ensures { result ≡ write conits (map view fields.now) }
+fn write(fields: &[Value], counts: Counts) -> Result<Item, LoadKind>
+    requires { 0 < counts.conits }
+    ensures within { IfOk result (IsItemOf counts.replicas counts.conits counts.replica) }
+    ensures item { result ≡ write counts.conits (map view fields.now) }
 {
     let [op_value, list] = fields else {
         return Err(LoadKind::Shape);
     };
-    let weights: Result<Weights, LoadKind> = rows(list, conits);
+    let weights: Result<Weights, LoadKind> = rows(list, counts.conits);
     let (op, weights) = both(op(op_value), weights)?;
     Ok(Item::Write { weights, op })
 }
 
-fn held(fields: &[Value], conits: u32) -> Result<Item, LoadKind>
-    requires { 0 < conits }
-    ensures { result ≡ held conits (map view fields.now) }
+fn held(fields: &[Value], counts: Counts) -> Result<Item, LoadKind>
+    requires { 0 < counts.conits }
+    ensures within { IfOk result (IsItemOf counts.replicas counts.conits counts.replica) }
+    ensures item { result ≡ held counts.conits (map view fields.now) }
 {
     let [op_value, row] = fields else {
         return Err(LoadKind::Shape);
     };
-    let (op, weight) = both(op(op_value), Weight::read(row, conits))?;
+    let (op, weight) = both(op(op_value), Weight::read(row, counts.conits))?;
     Ok(Item::Held { weight, op })
 }
 
-fn reserve(fields: &[Value], conits: u32) -> Result<Item, LoadKind>
-    requires { 0 < conits }
-    ensures { result ≡ reserve conits (map view fields.now) }
+fn reserve(fields: &[Value], counts: Counts) -> Result<Item, LoadKind>
+    requires { 0 < counts.conits }
+    ensures within { IfOk result (IsItemOf counts.replicas counts.conits counts.replica) }
+    ensures item { result ≡ reserve counts.conits (map view fields.now) }
 {
     let [conit, amount] = fields else {
         return Err(LoadKind::Shape);
     };
-    let (conit, amount) = both(number_below(conit, conits), natural(amount, 0, AMOUNT_MAX))?;
+    let (conit, amount) = both(number_below(conit, counts.conits), natural(amount, 0, AMOUNT_MAX))?;
     Ok(Item::Reserve { conit, amount })
 }
 
-fn release(fields: &[Value], conits: u32) -> Result<Item, LoadKind>
-    requires { 0 < conits }
-    ensures { result ≡ release conits (map view fields.now) }
+fn release(fields: &[Value], counts: Counts) -> Result<Item, LoadKind>
+    requires { 0 < counts.conits }
+    ensures within { IfOk result (IsItemOf counts.replicas counts.conits counts.replica) }
+    ensures item { result ≡ release counts.conits (map view fields.now) }
 {
     let [conit] = fields else {
         return Err(LoadKind::Shape);
     };
-    let conit = number_below(conit, conits)?;
+    let conit = number_below(conit, counts.conits)?;
     Ok(Item::Release { conit })
 }
 
-fn read(fields: &[Value], conits: u32) -> Result<Item, LoadKind>
-    requires { 0 < conits }
-    ensures { result ≡ read conits (map view fields.now) }
+fn read(fields: &[Value], counts: Counts) -> Result<Item, LoadKind>
+    requires { 0 < counts.conits }
+    ensures within { IfOk result (IsItemOf counts.replicas counts.conits counts.replica) }
+    ensures item { result ≡ read counts.conits (map view fields.now) }
 {
     let [key, list] = fields else {
         return Err(LoadKind::Shape);
     };
-    let needs: Result<Needs, LoadKind> = rows(list, conits);
+    let needs: Result<Needs, LoadKind> = rows(list, counts.conits);
     let (key, needs) = both(natural(key, 0, KEY_MAX), needs)?;
     Ok(Item::Read { key, needs })
 }
@@ -125,7 +135,8 @@ fn read(fields: &[Value], conits: u32) -> Result<Item, LoadKind>
 fn loan(fields: &[Value], counts: Counts) -> Result<(u32, (u32, u64)), LoadKind>
     requires replicas { 0 < counts.replicas }
     requires conits { 0 < counts.conits }
-    ensures { result ≡ loan counts.replicas counts.conits counts.replica (map view fields.now) }
+    ensures within { IfOk result (λ loan. IsLoanOf counts.replicas counts.conits counts.replica loan.0 loan.1.0 loan.1.1) }
+    ensures loan { result ≡ loan counts.replicas counts.conits counts.replica (map view fields.now) }
 {
     let [other, conit, amount] = fields else {
         return Err(LoadKind::Shape);
@@ -143,7 +154,8 @@ fn loan(fields: &[Value], counts: Counts) -> Result<(u32, (u32, u64)), LoadKind>
 fn lend(fields: &[Value], counts: Counts) -> Result<Item, LoadKind>
     requires replicas { 0 < counts.replicas }
     requires conits { 0 < counts.conits }
-    ensures { result ≡ lend counts.replicas counts.conits counts.replica (map view fields.now) }
+    ensures within { IfOk result (IsItemOf counts.replicas counts.conits counts.replica) }
+    ensures item { result ≡ lend counts.replicas counts.conits counts.replica (map view fields.now) }
 {
     let (holder, (conit, amount)) = loan(fields, counts)?;
     Ok(Item::Lend {
@@ -157,7 +169,8 @@ fn lend(fields: &[Value], counts: Counts) -> Result<Item, LoadKind>
 fn back(fields: &[Value], counts: Counts) -> Result<Item, LoadKind>
     requires replicas { 0 < counts.replicas }
     requires conits { 0 < counts.conits }
-    ensures { result ≡ back counts.replicas counts.conits counts.replica (map view fields.now) }
+    ensures within { IfOk result (IsItemOf counts.replicas counts.conits counts.replica) }
+    ensures item { result ≡ back counts.replicas counts.conits counts.replica (map view fields.now) }
 {
     let (owner, (conit, amount)) = loan(fields, counts)?;
     Ok(Item::Back {
@@ -168,12 +181,12 @@ fn back(fields: &[Value], counts: Counts) -> Result<Item, LoadKind>
 }
 
 // A restart is known, and not built yet.
-fn restart(fields: &[Value]) -> Result<Item, LoadKind>
-    ensures { result ≡ restart (map view fields.now) }
+fn restart_fault(fields: &[Value]) -> LoadKind
+    ensures { Err result ≡ restart (map view fields.now) }
 {
     if fields.is_empty() {
-        Err(LoadKind::NotBuilt)
+        LoadKind::NotBuilt
     } else {
-        Err(LoadKind::Shape)
+        LoadKind::Shape
     }
 }

@@ -29,6 +29,8 @@ pub(crate) struct Link {
 impl Entry for Link {
     ghost read_after = { λ counts. link_after counts.replicas };
 
+    ghost fits = { λ counts before link. Unit {0} };
+
     fn read_after(
         _alloc: Global,
         counts: Counts,

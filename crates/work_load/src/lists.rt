@@ -2,6 +2,7 @@
 ghost use Rattle.std.specs.Prelude.{◌≡◌, ◌<◌, ◌≤◌, true, unsigned_abs, length, take, map, All, IfOk, MatchResult, Ok, Err, unwrap_or, option_map};
 ghost use Rattle.serde_json.specs.View.{view};
 ghost use Rattle.tact_base.specs.declared.limits.TheConstants.{AMOUNT_MAX, MOMENT_MAX, WEIGHT_MAX};
+ghost use Rattle.tact_base.specs.ConitList.{IsConitList};
 ghost use Rattle.work_load.specs.Values.{all_of, earlier};
 ghost use Rattle.work_load.specs.Forms.{weight, need, rows};
 
@@ -25,7 +26,8 @@ pub(crate) trait Row: OnConit {
     fn read(value: &Value, conits: u32) -> Result<Self, LoadKind>
         requires { 0 < conits }
         ensures row { result ≡ read conits (view value.now) }
-        ensures within { IfOk result (λ row. Self.in_limits row ≡ true) };
+        ensures within { IfOk result (λ row. Self.in_limits row ≡ true) }
+        ensures conit { IfOk result (λ row. Self.conit_of row < conits) };
 }
 
 impl Row for Weight {
@@ -48,6 +50,7 @@ impl Row for Need {
 fn weight(value: &Value, conits: u32) -> Result<Weight, LoadKind>
     requires { 0 < conits }
     ensures weight { result ≡ weight conits (view value.now) }
+    ensures conit { IfOk result (λ weight. weight.conit < conits) }
     ensures nweight { IfOk result (λ weight. unsigned_abs weight.nweight ≤ WEIGHT_MAX) }
     ensures oweight { IfOk result (λ weight. weight.oweight ≤ WEIGHT_MAX) }
 {
@@ -68,6 +71,7 @@ fn weight(value: &Value, conits: u32) -> Result<Weight, LoadKind>
 fn need(value: &Value, conits: u32) -> Result<Need, LoadKind>
     requires { 0 < conits }
     ensures need { result ≡ need conits (view value.now) }
+    ensures conit { IfOk result (λ need. need.conit < conits) }
     ensures num { IfOk result (λ need. need.num ≤ AMOUNT_MAX) }
     ensures order { IfOk result (λ need. need.order ≤ AMOUNT_MAX) }
     ensures stale { IfOk result (λ need. need.stale ≤ MOMENT_MAX) }
@@ -95,7 +99,7 @@ fn fill<T: Row>(items: &mut [T], values: &[Value], conits: u32) -> Result<(), Lo
     ensures length { length items.new ≡ length items.old }
     ensures read { MatchResult result
         (λ _. (all_of (T.read conits) (map view values.now) ≡ Ok (take (length values.now) items.new))
-        × All (λ item. T.in_limits item ≡ true) (take (length values.now) items.new))
+        × All (λ item. (T.in_limits item ≡ true) × (T.conit_of item < conits)) (take (length values.now) items.new))
         (λ kind. all_of (T.read conits) (map view values.now) ≡ Err kind) }
 {
     let mut fault = None;
@@ -115,7 +119,9 @@ fn fill<T: Row>(items: &mut [T], values: &[Value], conits: u32) -> Result<(), Lo
 #[tactic(auto, unfolding(crate::specs::Forms::rows))]
 pub(crate) fn rows<T: Row>(value: &Value, conits: u32) -> Result<ConitList<T>, LoadKind>
     requires { 0 < conits }
-    ensures { result ≡ rows T.conit_of (T.read conits) (view value.now) }
+    ensures rows { result ≡ rows T.conit_of (T.read conits) (view value.now) }
+    ensures listed { IfOk result (λ list. IsConitList T.conit_of T.in_limits list) }
+    ensures conits { IfOk result (λ list. All (λ row. T.conit_of row < conits) list) }
 {
     let values = listed(value)?;
     if values.len() > LIST_MAX {
