@@ -1,9 +1,9 @@
 -- What a workload is: one JSON object, or its first fault and the place of that.
-use Rattle.std.specs.Prelude.{ℕ, ◌==◌, bytes_eq, Bool, false, not, List, [], ◌∷◌, codes, length, Result, Ok, Err, Option, Some, None, if◌then◌else◌}
+use Rattle.std.specs.Prelude.{◌≡◌, ◌<◌, ◌≤◌, ℕ, ◌==◌, bytes_eq, Bool, false, not, List, [], ◌∷◌, codes, length, Result, Ok, Err, Option, Some, None, if◌then◌else◌}
 use Rattle.std.specs.List.{list_all, list_any}
 use Rattle.std.specs.Str.{is_utf8}
 use Rattle.link_faults.specs.declared.plan.LinkPlan.{LinkPlan}
-use Rattle.tact_base.specs.Setup.{Setup}
+use Rattle.tact_base.specs.Setup.{Setup, IsSetup}
 use Rattle.tact_base.specs.declared.limits.TheConstants.{REPLICAS_MIN, REPLICAS_MAX, CONITS_MAX}
 use Rattle.run_model.specs.declared.status.LoadKind.{LoadKind}
 use Rattle.run_model.specs.declared.status.LoadKind.TheVariants.{NotJson, Shape}
@@ -11,10 +11,11 @@ use Rattle.serde_json.specs.Data.{Data, Members, no_members, member}
 use Rattle.serde_json.specs.Find.{as_object, get}
 use Rattle.serde_json.specs.Read.{read}
 use Rattle.work_load.specs.Values.{Reading, ◌>>=◌, natural, listed}
-use Rattle.work_load.specs.Entries.{Placed, at, unplaced, entries}
+use Rattle.work_load.specs.Entries.{Placed, EachAfter, at, unplaced, entries}
 use Rattle.work_load.specs.Bounds.{bound_after, setup_of}
 use Rattle.work_load.specs.Links.{link_after, plans_of}
 use Rattle.work_load.specs.Clients.{client_after}
+use Rattle.work_load.specs.Ranges.{IsClientAfter}
 use Rattle.work_load.specs.declared.plan.Client.{Client}
 use Rattle.work_load.specs.declared.plan.TheConstants.{SETTLE_MAX}
 
@@ -24,6 +25,15 @@ pub record Workload : Type 0 where
   pub links : List LinkPlan
   pub settle : ℕ
   pub clients : List Client
+
+-- what every workload keeps to
+pub record IsWorkload (workload : Workload) : Type 0 where
+  pub setup : IsSetup workload.setup
+  pub links : length workload.links ≡ workload.setup.replicas
+  pub settle : workload.settle ≤ SETTLE_MAX
+  pub some : 0 < length workload.clients
+  -- no two are of one replica under one number, and their items are in range
+  pub clients : EachAfter (IsClientAfter workload.setup.replicas workload.setup.conits) [] workload.clients
 
 -- the names that an object may have
 abbrev pub is_name : List ℕ → Bool

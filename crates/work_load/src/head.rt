@@ -3,6 +3,7 @@ ghost use Rattle.std.specs.Prelude.{◌≡◌, ◌<◌, ◌≤◌, length, optio
 ghost use Rattle.std.specs.List.{list_all};
 ghost use Rattle.std.specs.Map.{keys_of};
 ghost use Rattle.tact_base.specs.declared.limits.TheConstants.{REPLICAS_MAX, CONITS_MAX};
+ghost use Rattle.work_load.specs.declared.plan.TheConstants.{SETTLE_MAX};
 ghost use Rattle.serde_json.specs.Find.{as_object};
 ghost use Rattle.serde_json.specs.View.{view};
 ghost use Rattle.work_load.specs.Entries.{Tells};
@@ -33,14 +34,15 @@ pub(crate) struct Head {
 }
 
 impl Model for Head {
-    ghost use Rattle.std.specs.Prelude.{◌≡◌, length};
+    ghost use Rattle.std.specs.Prelude.{◌≡◌, ◌≤◌, length};
     ghost use Rattle.work_load.specs.Workloads.{Head as HeadView};
+    ghost use Rattle.work_load.specs.declared.plan.TheConstants.{SETTLE_MAX};
 
     ghost Value = { HeadView };
 
     ghost view = { λ h. record { setup = h.config; links = h.links; settle = h.settle } };
 
-    ghost invariant = { λ h. length h.links ≡ h.config.replicas };
+    ghost invariant = { λ h. (length h.links ≡ h.config.replicas) × (h.settle ≤ SETTLE_MAX) };
 }
 
 fn is_name(name: &str) -> bool
@@ -102,7 +104,8 @@ fn entries_or_none<T: Entry>(
 
 // A count of rounds, which may be missing.
 fn rounds(found: Option<&Value>) -> Result<u64, LoadKind>
-    ensures { result ≡ rounds (option_map (λ v. view v.now) found.entry) }
+    ensures few { IfOk result (λ settle. settle ≤ SETTLE_MAX) }
+    ensures rounds { result ≡ rounds (option_map (λ v. view v.now) found.entry) }
 {
     match found {
         Some(value) => natural(value, 0, SETTLE_MAX),

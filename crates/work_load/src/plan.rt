@@ -1,6 +1,8 @@
 //! What a workload asks for.
-ghost use Rattle.std.specs.Prelude.{◌≡◌, ◌<◌, get_or};
+ghost use Rattle.std.specs.Prelude.{◌≡◌, ◌<◌, ◌≤◌, get_or};
 ghost use Rattle.link_faults.specs.Plans.{no_faults};
+ghost use Rattle.work_load.specs.Workloads.{IsWorkload};
+ghost use Rattle.work_load.specs.declared.plan.TheConstants.{SETTLE_MAX};
 
 use link_faults::LinkPlan;
 use run_model::Config;
@@ -58,20 +60,20 @@ pub struct Plan {
 }
 
 impl Model for Plan {
-    ghost use Rattle.std.specs.Prelude.{◌≡◌, length};
-    ghost use Rattle.work_load.specs.Workloads.{Workload};
+    ghost use Rattle.work_load.specs.Workloads.{Workload, IsWorkload};
 
     ghost Value = { Workload };
 
     ghost view = { λ p. record { setup = p.config; links = p.links; settle = p.settle; clients = p.clients } };
 
-    ghost invariant = { λ p. length p.links ≡ p.config.replicas };
+    ghost invariant = { λ p. IsWorkload (record { setup = p.config; links = p.links; settle = p.settle; clients = p.clients }) };
 }
 
 impl Plan {
     /// What the run is made for.
     pub fn config(&self) -> &Config
-        ensures { result.now ≡ self.now.setup }
+        ensures config { result.now ≡ self.now.setup }
+        ensures sound { IsWorkload self.now }
     {
         &self.config
     }
@@ -86,14 +88,16 @@ impl Plan {
 
     /// How many rounds settle the run, at most 100.
     pub fn settle(&self) -> u64
-        ensures { result ≡ self.now.settle }
+        ensures rounds { result ≡ self.now.settle }
+        ensures few { result ≤ SETTLE_MAX }
     {
         self.settle
     }
 
     /// The clients, in order, no two of which have both their replica and their number.
     pub fn clients(&self) -> &[Client]
-        ensures { result.now ≡ self.now.clients }
+        ensures clients { result.now ≡ self.now.clients }
+        ensures sound { IsWorkload self.now }
     {
         self.clients.items()
     }

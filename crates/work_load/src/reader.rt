@@ -1,5 +1,5 @@
 //! The reader of workloads.
-ghost use Rattle.std.specs.Prelude.{◌≡◌, map, option_map, MatchResult, Ok, Err};
+ghost use Rattle.std.specs.Prelude.{◌≡◌, ◌<◌, IfOk, length, map, option_map, MatchResult, Ok, Err};
 ghost use Rattle.serde_json.specs.View.{view};
 ghost use Rattle.work_load.specs.Entries.{TellsAt};
 ghost use Rattle.work_load.specs.Workloads.{client_values, workload_of, workload_in};
@@ -35,7 +35,8 @@ pub fn parse_plan(alloc: Global, bytes: &[u8]) -> Result<Plan, LoadFault>
 // The values of at least one client.
 #[tactic(auto, unfolding(crate::specs::Workloads::client_values))]
 fn client_values(found: Option<&Value>) -> Result<&[Value], LoadKind>
-    ensures { MatchResult result
+    ensures some { IfOk result (λ values. 0 < length values.now) }
+    ensures values { MatchResult result
         (λ values. client_values (option_map (λ v. view v.now) found.entry) ≡ Ok (map view values.now))
         (λ kind. client_values (option_map (λ v. view v.now) found.entry) ≡ Err kind) }
 {
