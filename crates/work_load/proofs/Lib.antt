@@ -2,3 +2,4 @@ pub mod ValueLemmas
 pub mod Filling
 pub mod EntryLemmas
 pub mod Texts
+pub mod SetupOf

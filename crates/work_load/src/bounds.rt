@@ -1,5 +1,5 @@
 //! The bounds of a workload, and the setup that they make.
-ghost use Rattle.std.specs.Prelude.{◌≡◌, ◌<◌, ◌≤◌, ◌+◌, ◌*◌, ◌/◌, ◌%◌, ◌==◌, ◌++◌, IfOk, OnOk, MatchResult, get_or, length, take, map, sum, nat_lt, option_map, find, None, Ok, Err, if◌then◌else◌};
+ghost use Rattle.std.specs.Prelude.{◌≡◌, ◌<◌, ◌≤◌, ◌+◌, ◌*◌, ◌/◌, ◌%◌, ◌==◌, ◌++◌, All, IfOk, OnOk, MatchResult, get_or, length, take, map, sum, nat_lt, option_map, find, None, Ok, Err, if◌then◌else◌};
 ghost use Rattle.std.specs.List.{list_any};
 ghost use Rattle.tact_base.specs.Setup.{IsSetup};
 ghost use Rattle.tact_base.specs.declared.limits.TheConstants.{ALPHA_MAX, REPLICAS_MAX, CONITS_MAX};
@@ -237,8 +237,11 @@ pub(crate) fn setup_of(
     conits: u32,
     bounds: &[Bound],
 ) -> Result<Config, NoMemory>
+    requires least { 2 ≤ replicas }
     requires few_replicas { replicas ≤ REPLICAS_MAX }
+    requires conits { 1 ≤ conits }
     requires few_conits { conits ≤ CONITS_MAX }
+    requires bounds { All (IsBoundOf replicas) bounds.now }
     ensures setup { IfOk result (λ config. config ≡ setup_of replicas conits bounds.now) }
     ensures sound { OnOk result (IsSetup (setup_of replicas conits bounds.now)) }
 {
@@ -246,6 +249,7 @@ pub(crate) fn setup_of(
     let loans = loans_of(alloc, replicas, conits, bounds)?;
     match Config::new(alloc, replicas, conits, alphas.items(), loans.items()) {
         Ok(config) => Ok(config),
-        Err(_) => Err(NoMemory),
+        Err(ConfigFault::NoMemory) => Err(NoMemory),
+        Err(_) => unreachable!(),
     }
 }

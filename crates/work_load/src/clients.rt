@@ -79,9 +79,7 @@ fn item_count(value: &Value) -> Result<usize, LoadKind>
 fn is_named(clients: &[Client], replica: u32, number: u32) -> bool
     ensures { result ≡ list_any (is_of replica number) clients.now }
 {
-    clients
-        .iter()
-        .any(|client| client.replica == replica && client.client == number)
+    clients.iter().any(|client| client.replica == replica && client.client == number)
 }
 
 #[tactic(auto, unfolding(crate::specs::Clients::items_of, crate::specs::Clients::item_count))]

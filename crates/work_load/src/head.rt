@@ -1,12 +1,12 @@
 //! What a workload says before its clients.
-ghost use Rattle.std.specs.Prelude.{◌≡◌, ◌<◌, ◌≤◌, length, option_map, string_bytes, IfOk};
+ghost use Rattle.std.specs.Prelude.{◌≡◌, ◌<◌, ◌≤◌, [], length, option_map, string_bytes, IfOk};
 ghost use Rattle.std.specs.List.{list_all};
 ghost use Rattle.std.specs.Map.{keys_of};
 ghost use Rattle.tact_base.specs.declared.limits.TheConstants.{REPLICAS_MAX, CONITS_MAX};
 ghost use Rattle.work_load.specs.declared.plan.TheConstants.{SETTLE_MAX};
 ghost use Rattle.serde_json.specs.Find.{as_object};
 ghost use Rattle.serde_json.specs.View.{view};
-ghost use Rattle.work_load.specs.Entries.{Tells};
+ghost use Rattle.work_load.specs.Entries.{Tells, EachAfter};
 ghost use Rattle.work_load.specs.Workloads.{is_name, has_names, count, entries_or_none, rounds, head_after, head_of};
 
 use crate::bounds::{Bound, setup_of};
@@ -94,7 +94,8 @@ fn entries_or_none<T: Entry>(
     requires replicas { 0 < counts.replicas }
     requires few { counts.replicas ≤ REPLICAS_MAX }
     requires conits { 0 < counts.conits }
-    ensures { Tells (entries_or_none (T.read_after counts) (option_map (λ v. view v.now) found.entry)) result }
+    ensures read { Tells (entries_or_none (T.read_after counts) (option_map (λ v. view v.now) found.entry)) result }
+    ensures within { IfOk result (λ list. EachAfter (T.fits counts) [] list) }
 {
     match found {
         Some(value) => Ok(entries(alloc, 0, counts, listed(value)?)?),
@@ -114,13 +115,8 @@ fn rounds(found: Option<&Value>) -> Result<u64, LoadKind>
 }
 
 #[tactic(auto, unfolding(crate::specs::Workloads::head_after))]
-fn head_after(
-    alloc: Global,
-    replicas: u32,
-    conits: u32,
-    value: &Value,
-) -> Result<Head, EntryFault>
-    requires replicas { 0 < replicas }
+fn head_after(alloc: Global, replicas: u32, conits: u32, value: &Value) -> Result<Head, EntryFault>
+    requires replicas { 2 ≤ replicas }
     requires few_replicas { replicas ≤ REPLICAS_MAX }
     requires conits { 0 < conits }
     requires few_conits { conits ≤ CONITS_MAX }

@@ -102,7 +102,10 @@ fn reserve(fields: &[Value], counts: Counts) -> Result<Item, LoadKind>
     let [conit, amount] = fields else {
         return Err(LoadKind::Shape);
     };
-    let (conit, amount) = both(number_below(conit, counts.conits), natural(amount, 0, AMOUNT_MAX))?;
+    let (conit, amount) = both(
+        number_below(conit, counts.conits),
+        natural(amount, 0, AMOUNT_MAX),
+    )?;
     Ok(Item::Reserve { conit, amount })
 }
 

@@ -15,5 +15,5 @@ mod reader;
 mod values;
 
 pub use fault::LoadFault;
-pub use reader::parse_plan;
 pub use plan::{Client, ITEMS_MAX, Item, Items, Plan, SETTLE_MAX};
+pub use reader::parse_plan;

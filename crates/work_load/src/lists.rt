@@ -9,9 +9,7 @@ ghost use Rattle.work_load.specs.Forms.{weight, need, rows};
 use crate::values::{both, earliest, listed, natural, number_below, signed};
 use run_model::LoadKind;
 use serde_json::Value;
-use tact_base::{
-    AMOUNT_MAX, ConitList, LIST_MAX, MOMENT_MAX, Need, OnConit, WEIGHT_MAX, Weight,
-};
+use tact_base::{AMOUNT_MAX, ConitList, LIST_MAX, MOMENT_MAX, Need, OnConit, WEIGHT_MAX, Weight};
 
 /// What stands in a list by conit: a weight or a need.
 pub(crate) trait Row: OnConit {

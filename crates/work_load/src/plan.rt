@@ -19,20 +19,42 @@ pub const SETTLE_MAX: u64 = 100;
 #[derive(Clone, Copy, Debug, PartialEq, Eq)]
 pub enum Item {
     /// To make a write.
-    Write { weights: Weights, op: Op },
+    Write {
+        weights: Weights,
+        op: Op,
+    },
     /// To make a write of one weight out of what the client holds on its conit, where that is enough, or else as any
     /// write.
-    Held { weight: Weight, op: Op },
+    Held {
+        weight: Weight,
+        op: Op,
+    },
     /// To set an amount of the shares on a conit aside for writes to come.
-    Reserve { conit: u32, amount: u64 },
+    Reserve {
+        conit: u32,
+        amount: u64,
+    },
     /// To give up all that the client holds on a conit.
-    Release { conit: u32 },
+    Release {
+        conit: u32,
+    },
     /// To read the value of a key.
-    Read { key: u64, needs: Needs },
+    Read {
+        key: u64,
+        needs: Needs,
+    },
     /// To lend another replica an amount on a conit.
-    Lend { holder: u32, conit: u32, amount: u64 },
+    Lend {
+        holder: u32,
+        conit: u32,
+        amount: u64,
+    },
     /// To give back an amount of what another replica lent on a conit.
-    Back { owner: u32, conit: u32, amount: u64 },
+    Back {
+        owner: u32,
+        conit: u32,
+        amount: u64,
+    },
 }
 
 /// The items of a client, in order.

@@ -27,7 +27,11 @@ fn rank(kind: LoadKind) -> u8
 fn earlier(first: LoadKind, second: LoadKind) -> LoadKind
     ensures { result ≡ earlier first second }
 {
-    if rank(second) < rank(first) { second } else { first }
+    if rank(second) < rank(first) {
+        second
+    } else {
+        first
+    }
 }
 
 /// The fault of what was read so far and of one more.

@@ -20,8 +20,9 @@ loop-place-preserved g c =
     let value = c.index-values-place.result in
     let more = c.in_ok-push-in-Ok.ensures.ok in
     let read = entries-ok c.args.first (g.T.Entry.read_after c.args.counts) (map view (take place values)) (view value) list c.in-Ok.entry
-      c.loop-place.invariant.0 (rw c.items.ensures at c.in-Ok.ensures.read) in
-    let fits = each_more (g.T.Entry.fits c.args.counts) list c.in-Ok.entry c.loop-place.invariant.2 (rw c.items.ensures at c.in-Ok.ensures.within) in
-    (rw (one_on values place value (omega arith) c.index-values-place.is, more) read,
-    rw (more, length-append) (omega (arith, c.loop-place.invariant.1)),
-    rw more fits)
+    c.loop-place.invariant.0 (rw c.items.ensures at c.in-Ok.ensures.read) in
+    let fits = each_more (g.T.Entry.fits c.args.counts) list c.in-Ok.entry c.loop-place.invariant.2 (rw c.items.ensures at c.in-Ok.ensures.within) in (
+      rw (one_on values place value (omega arith) c.index-values-place.is, more) read,
+      rw (more, length-append) (omega (arith, c.loop-place.invariant.1)),
+      rw more fits,
+    )
