@@ -1,5 +1,5 @@
 -- Lists whose entries are judged one after the other.
-use Rattle.std.proofs.Common.{◌≡◌, ℕ, suc, ◌+◌, ◌<◌, List, [], ◌∷◌, ◌++◌, length, take, drop, map, get_or, Ok, Err, refl, ap, sym, subst, All, ◌∙◌}
+use Rattle.std.proofs.Common.{◌≡◌, ℕ, ◌+◌, ◌<◌, List, [], ◌∷◌, ◌++◌, length, take, drop, map, get_or, Ok, Err, refl, ap, sym, subst, All, ◌∙◌}
 use Rattle.std.specs.List.{fold}
 use Rattle.std.proofs.lemmas.List.{append-nil, append_assoc, drop_more, map_more, map-append, take-append-drop}
 use Rattle.std.proofs.lemmas.List.Elements.{All-nil, All-cons}
@@ -9,7 +9,7 @@ use Rattle.serde_json.specs.declared.value.Value.{Value}
 use Rattle.run_model.specs.declared.status.LoadKind.{LoadKind}
 use Rattle.serde_json.specs.Data.{Data}
 use Rattle.work_load.specs.Values.{Reading}
-use Rattle.work_load.specs.Entries.{Placed, EachAfter, at, with_entry, entries, Fails, FailsAt, placed_fault}
+use Rattle.work_load.specs.Entries.{Placed, EachAfter, with_entry, entries, Fails, FailsAt, placed_fault}
 use Rattle.work_load.specs.declared.fault.EntryFault.{EntryFault}
 use Rattle.work_load.specs.declared.fault.EntryFault.TheVariants as entry
 

@@ -1,5 +1,5 @@
 -- A loop that reads items which stand together into the front of a list.
-use Rattle.std.proofs.Common.{◌≡◌, List, [], ◌∷◌, ◌++◌, All, Result, Ok, Err, Option, Some, None, option_map, unwrap_or, refl, ap, sym, ◌∙◌}
+use Rattle.std.proofs.Common.{◌≡◌, List, [], ◌∷◌, ◌++◌, All, Ok, Err, Option, Some, None, option_map, unwrap_or, refl, ◌∙◌}
 use Rattle.std.proofs.lemmas.List.Elements.{All-push}
 use Rattle.std.proofs.lemmas.List.Sums.{fold_push}
 use Rattle.run_model.specs.declared.status.LoadKind.{LoadKind}

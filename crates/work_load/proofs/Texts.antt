@@ -1,5 +1,5 @@
 -- The value of a text, and the names of an object.
-use Rattle.std.proofs.Common.{◌≡◌, ℕ, Bool, true, false, List, [], ◌∷◌, map, cond, Option, Some, None, Ok, Err, Result, String, Global, string_bytes, refl, ap, sym, ◌∙◌}
+use Rattle.std.proofs.Common.{◌≡◌, ℕ, Bool, true, false, List, [], ◌∷◌, map, cond, Some, None, Err, String, Global, string_bytes, refl, ap, sym, ◌∙◌}
 use Rattle.std.specs.Prelude.{IsUtf8}
 use Rattle.std.specs.Str.{is_utf8}
 use Rattle.std.specs.List.{list_all}
@@ -9,10 +9,9 @@ use Rattle.std.proofs.lemmas.Str.{IsUtf8-from_is_utf8, is_utf8-from_IsUtf8}
 use Rattle.run_model.specs.declared.status.LoadKind.TheVariants.{NotJson}
 use Rattle.serde_json.specs.Data.{Data}
 use Rattle.serde_json.specs.Read.{read}
-use Rattle.serde_json.specs.View.{view, members_view}
+use Rattle.serde_json.specs.View.{members_view}
 use Rattle.serde_json.specs.declared.value.Value.{Value}
-use Rattle.work_load.specs.Entries.{Placed, TellsAt}
-use Rattle.work_load.specs.Workloads.{Workload, has_names, is_name, json_of, names_of, workload_by, workload_of, workload_in}
+use Rattle.work_load.specs.Workloads.{has_names, is_name, names_of, workload_by, workload_of, workload_in}
 
 -- a text that is JSON is what its value is
 pub workload_in-json : (text : List ℕ) (value : Data)

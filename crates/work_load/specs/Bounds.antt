@@ -1,5 +1,5 @@
 -- The bounds of a workload, and the setup that they make.
-use Rattle.std.specs.Prelude.{ℕ, ◌-◌, ◌*◌, ◌/◌, ◌%◌, ◌==◌, ◌&&◌, Bool, find, nat_lt, sum, List, [], ◌∷◌, length, map, slice_index, Result, Ok, Err, Option, Some, None, if◌then◌else◌}
+use Rattle.std.specs.Prelude.{ℕ, ◌-◌, ◌*◌, ◌/◌, ◌%◌, ◌==◌, ◌&&◌, Bool, find, nat_lt, sum, List, [], ◌∷◌, length, map, slice_index, Ok, Err, Option, Some, None, if◌then◌else◌}
 use Rattle.std.specs.List.{flat_map, list_any, range_with_len}
 use Rattle.tact_base.specs.Setup.{Setup, setup}
 use Rattle.tact_base.specs.declared.limits.TheConstants.{ALPHA_MAX}

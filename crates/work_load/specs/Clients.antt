@@ -1,5 +1,5 @@
 -- The clients of a workload.
-use Rattle.std.specs.Prelude.{ℕ, ◌-◌, ◌==◌, ◌&&◌, Bool, nat_lt, List, [], ◌∷◌, length, Result, Ok, Err, if◌then◌else◌}
+use Rattle.std.specs.Prelude.{ℕ, ◌-◌, ◌==◌, ◌&&◌, Bool, nat_lt, List, [], ◌∷◌, length, Ok, Err, if◌then◌else◌}
 use Rattle.std.specs.List.{list_any}
 use Rattle.tact_base.specs.declared.limits.TheConstants.{CLIENTS}
 use Rattle.run_model.specs.declared.status.LoadKind.TheVariants.{Shape, Twice}

@@ -1,5 +1,5 @@
 -- The operations, weights and needs of a workload.
-use Rattle.std.specs.Prelude.{ℕ, bytes_eq, ◌-◌, is_some, List, [], ◌∷◌, codes, length, nat_lt, true, Result, Ok, Err, Option, Some, None, if◌then◌else◌}
+use Rattle.std.specs.Prelude.{ℕ, bytes_eq, ◌-◌, is_some, List, [], ◌∷◌, codes, length, nat_lt, true, Ok, Err, Option, Some, None, if◌then◌else◌}
 use Rattle.tact_base.specs.ConitList.{first_unordered}
 use Rattle.tact_base.specs.declared.conit_list.Need.{Need}
 use Rattle.tact_base.specs.declared.conit_list.Weight.{Weight}

@@ -1,5 +1,5 @@
 -- The items of a client: what it asks of its replica, one after the other.
-use Rattle.std.specs.Prelude.{ℕ, bytes_eq, ◌-◌, ◌==◌, List, [], ◌∷◌, codes, Result, Ok, Err, if◌then◌else◌}
+use Rattle.std.specs.Prelude.{ℕ, bytes_eq, ◌-◌, ◌==◌, List, [], ◌∷◌, codes, Ok, Err, if◌then◌else◌}
 use Rattle.tact_base.specs.declared.limits.TheConstants.{AMOUNT_MAX, KEY_MAX}
 use Rattle.run_model.specs.declared.status.LoadKind.TheVariants.{Shape, Same, NotBuilt}
 use Rattle.serde_json.specs.Data.{Data}

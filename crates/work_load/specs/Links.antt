@@ -1,5 +1,5 @@
 -- The links of a workload: what each inbox loses, doubles and turns.
-use Rattle.std.specs.Prelude.{ℕ, ◌-◌, ◌==◌, find, List, [], ◌∷◌, map, Result, Ok, Err, Option, Some, None, if◌then◌else◌}
+use Rattle.std.specs.Prelude.{ℕ, ◌-◌, ◌==◌, find, List, [], ◌∷◌, map, Ok, Err, Option, Some, None, if◌then◌else◌}
 use Rattle.std.specs.List.{list_any, range_with_len}
 use Rattle.link_faults.specs.Plans.{no_faults}
 use Rattle.link_faults.specs.declared.plan.LinkPlan.{LinkPlan}

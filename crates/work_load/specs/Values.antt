@@ -1,6 +1,6 @@
 -- What a JSON value is read as: a whole number in its range, or a list. Of the faults of what stands together the one
 -- counts whose kind is tried first, wherever it is.
-use Rattle.std.specs.Prelude.{ℕ, ◌++◌, ℤ, unsigned_abs, Bool, ◌&&◌, nat_le, nat_lt, is_some, List, [], ◌∷◌, Option, Some, None, option_and_then, Result, Ok, Err, if◌then◌else◌}
+use Rattle.std.specs.Prelude.{ℕ, ◌++◌, ℤ, unsigned_abs, ◌&&◌, nat_le, nat_lt, List, [], ◌∷◌, Option, Some, None, option_and_then, Result, Ok, Err, if◌then◌else◌}
 use Rattle.std.specs.List.{fold}
 use Rattle.run_model.specs.declared.status.LoadKind.{LoadKind}
 use Rattle.run_model.specs.declared.status.LoadKind.TheVariants.{NotJson, Shape, Range, Twice, LoansOver, Same, Unordered, NotBuilt}

@@ -1,11 +1,10 @@
 -- What a workload is: one JSON object, or its first fault and the place of that.
-use Rattle.std.specs.Prelude.{◌≡◌, ◌<◌, ◌≤◌, ℕ, ◌==◌, bytes_eq, Bool, false, not, List, [], ◌∷◌, codes, length, Result, Ok, Err, Option, Some, None, if◌then◌else◌}
+use Rattle.std.specs.Prelude.{◌≡◌, ◌<◌, ◌≤◌, ℕ, ◌==◌, bytes_eq, Bool, false, not, List, [], ◌∷◌, codes, length, Ok, Err, Option, Some, None, if◌then◌else◌}
 use Rattle.std.specs.List.{list_all, list_any}
 use Rattle.std.specs.Str.{is_utf8}
 use Rattle.link_faults.specs.declared.plan.LinkPlan.{LinkPlan}
 use Rattle.tact_base.specs.Setup.{Setup, IsSetup}
 use Rattle.tact_base.specs.declared.limits.TheConstants.{REPLICAS_MIN, REPLICAS_MAX, CONITS_MAX}
-use Rattle.run_model.specs.declared.status.LoadKind.{LoadKind}
 use Rattle.run_model.specs.declared.status.LoadKind.TheVariants.{NotJson, Shape}
 use Rattle.serde_json.specs.Data.{Data, Members, no_members, member}
 use Rattle.serde_json.specs.Find.{as_object, get}

@@ -1,4 +1,4 @@
-use Rattle.std.proofs.Common.{◌≡◌, ◌+◌, arith, drop, map, take}
+use Rattle.std.proofs.Common.{◌+◌, arith, drop, map, take}
 use Rattle.std.proofs.lemmas.List.{length-append}
 use Rattle.serde_json.specs.View.{view}
 use Rattle.work_load.proofs.EntryLemmas.{entries-ok, entries-fails, each_more, one_on, parted}

@@ -1,6 +1,5 @@
-use Rattle.std.proofs.Common.{◌≡◌, sym, true≢false, ◌∙◌}
+use Rattle.std.proofs.Common.{sym, true≢false, ◌∙◌}
 use Rattle.serde_json.specs.View.{view}
-use Rattle.work_load.specs.Entries.{TellsAt}
 use Rattle.work_load.proofs.Texts.{workload_in-json, workload_in-not_json}
 use Rattle.work_load.proofs.reader.parse_plan.Goals.{in-String-1, in-Array-1, in-Object-1, in-Null-1}
 use Rattle.work_load.proofs.reader.parse_plan.Goals as goal

@@ -1,5 +1,3 @@
-use Rattle.std.proofs.Common.{rules, ◌≡◌, map, Ok, ap, ◌∙◌}
-use Rattle.serde_json.specs.View.{view}
 use Rattle.work_load.proofs.ValueLemmas.{listed-items}
 use Rattle.work_load.proofs.values.listed.Goals as goal
 
