@@ -69,11 +69,11 @@ fn a_run_and_its_links(rt: HostRuntime) -> Result<(), Fail> {
         plan.config().opening_loans(),
         [0, 100, 100, 100, 0, 100, 100, 100, 0].as_slice()
     );
-    for (to, turn) in [(0, 0), (1, 0), (2, 3)] {
+    for to in 0..plan.config().replicas() {
         let link = LinkPlan {
             lose: 5,
             double: 7,
-            turn,
+            turn: if to == 2 { 3 } else { 0 },
         };
         assert_eq!(rt; plan.link(to), link);
     }
@@ -136,10 +136,14 @@ fn what_no_name_says(rt: HostRuntime) -> Result<(), Fail> {
     let text = b"{\"clients\":[[7,7,[]]],\"replicas\":8,\"conits\":16}";
     let plan = parse_plan(rt.alloc(), text)?;
     assert_eq!(rt; plan.settle(), 0);
-    for (owner, conit, holder, loan) in [(0, 0, 0, 0), (0, 0, 7, 100_000), (7, 15, 6, 100_000)] {
-        assert_eq!(rt; plan.config().alpha(owner, conit), 1_000_000);
-        assert_eq!(rt; plan.config().loan(owner, conit, holder), loan);
-        assert_eq!(rt; plan.link(owner), LinkPlan::default());
+    assert_eq!(rt; plan.config().alphas(), [1_000_000; 128].as_slice());
+    assert_eq!(rt; plan.config().opening_loans().len(), 1_024);
+    for (place, loan) in plan.config().opening_loans().iter().enumerate() {
+        let due = if place / 128 == place % 8 { 0 } else { 100_000 };
+        assert_eq!(rt; *loan, due, "{place}");
+    }
+    for to in 0..plan.config().replicas() {
+        assert_eq!(rt; plan.link(to), LinkPlan::default());
     }
     Ok(())
 }
@@ -160,8 +164,10 @@ fn bounds_among_others(rt: HostRuntime) -> Result<(), Fail> {
     let loans = [0, 100_000, 0, 0, 0, 100_000, 100_000, 0, 100_000, 0, 4, 0];
     assert_eq!(rt; plan.config().alphas(), alphas.as_slice());
     assert_eq!(rt; plan.config().opening_loans(), loans.as_slice());
-    assert_eq!(rt; plan.link(0), LinkPlan::default());
-    assert_eq!(rt; plan.link(1).double, 2);
+    for to in 0..plan.config().replicas() {
+        let double = if to == 1 { 2 } else { 0 };
+        assert_eq!(rt; plan.link(to).double, double);
+    }
     Ok(())
 }
 
