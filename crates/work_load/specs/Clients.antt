@@ -29,8 +29,8 @@ is_of replica number client = client.replica == replica && client.client == numb
 
 -- `[REPLICA, CLIENT, [ITEMS]]` after the clients before it, which are others
 abbrev pub client_by : ℕ → ℕ → List Client → List Data → Reading Client
-client_by replicas conits before (replica ∷ number ∷ items ∷ []) = do
-  head ← both (both (natural 0 (replicas - 1) replica) (natural 0 (CLIENTS - 1) number)) (item_count items)
+client_by replicas conits before (replica ∷ client ∷ items ∷ []) = do
+  head ← both (both (natural 0 (replicas - 1) replica) (natural 0 (CLIENTS - 1) client)) (item_count items)
   if list_any (is_of head.0.0 head.0.1) before then Err Twice else do
     list ← items_of replicas conits head.0.0 items
     Ok (record { replica = head.0.0; client = head.0.1; items = list })
