@@ -128,8 +128,10 @@ impl Locked {
           moment = moment_at (part_in self.old) moment;
           act = act.Call client (calls_in (part_in self.old) client) request reply;
         })) }
-        ensures rooms { OnOk result ((slice_index self.old.totals (turns_place self.old.core.setup.conits client) + 1 < 2 ^ 64) × (slice_index self.old.totals (made_place self.old.core.setup.conits client) + 1 < 2 ^ 64)) }
-        ensures totals { OnOk result (self.new.totals ≡ slice_set (one_more_at (made_place self.old.core.setup.conits client) (one_more_at (turns_place self.old.core.setup.conits client) self.old.totals)) conit (reserved (part_in self.new) conit)) }
+        ensures rooms { OnOk result ((slice_index self.old.totals (turns_place self.old.core.setup.conits client) + 1 < 2 ^ 64) ×
+            (slice_index self.old.totals (made_place self.old.core.setup.conits client) + 1 < 2 ^ 64)) }
+        ensures totals { OnOk result (self.new.totals ≡ slice_set (one_more_at (made_place self.old.core.setup.conits client)
+            (one_more_at (turns_place self.old.core.setup.conits client) self.old.totals)) conit (reserved (part_in self.new) conit)) }
         ensures spare { self.old.spare ≤ self.new.spare + 1 }
         ensures room { self.old.room ≤ self.new.room + 1 }
         ensures enough { is_full self.old.core ≡ false → 0 < self.old.spare → 0 < self.old.room → IsOk result }
@@ -265,8 +267,10 @@ impl Locked {
           moment = moment_at (part_in self.old) moment;
           act = act.Call client (calls_in (part_in self.old) client) request reply;
         })) }
-        ensures rooms { OnOk result ((slice_index self.old.totals (turns_place self.old.core.setup.conits client) + 1 < 2 ^ 64) × (slice_index self.old.totals (made_place self.old.core.setup.conits client) + 1 < 2 ^ 64)) }
-        ensures totals { OnOk result (self.new.totals ≡ slice_set (one_more_at (made_place self.old.core.setup.conits client) (one_more_at (turns_place self.old.core.setup.conits client) self.old.totals)) conit (reserved (part_in self.new) conit)) }
+        ensures rooms { OnOk result ((slice_index self.old.totals (turns_place self.old.core.setup.conits client) + 1 < 2 ^ 64) ×
+            (slice_index self.old.totals (made_place self.old.core.setup.conits client) + 1 < 2 ^ 64)) }
+        ensures totals { OnOk result (self.new.totals ≡ slice_set (one_more_at (made_place self.old.core.setup.conits client)
+            (one_more_at (turns_place self.old.core.setup.conits client) self.old.totals)) conit (reserved (part_in self.new) conit)) }
         ensures grows { IsPrefix self.old.clerk.seen self.new.clerk.seen }
         ensures run { IsRun desk.now.setup self.old.clerk.seen → IsRun desk.now.setup self.new.clerk.seen }
         ensures spare { self.old.spare ≤ self.new.spare + 1 }

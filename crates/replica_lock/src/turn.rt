@@ -90,7 +90,8 @@ impl<'n, 'd, G: Gate> Turn<'n, 'd, G> {
           moment = moment_at (part_in self.old.state) moment;
           act = act.Call session.old.client (calls_in (part_in self.old.state) session.old.client) request reply;
         })) }
-        ensures totals { OnOk result (self.new.state.totals ≡ one_more_at (made_place session.old.conits session.old.client) (one_more_at (turns_place session.old.conits session.old.client) self.old.state.totals)) }
+        ensures totals { OnOk result (self.new.state.totals ≡ one_more_at (made_place session.old.conits session.old.client)
+            (one_more_at (turns_place session.old.conits session.old.client) self.old.state.totals)) }
         ensures seen { session.new.seen ≡ self.new.state.clerk.seen }
         ensures called { IfOk result (HasCalled self.old.node.desk.setup session.old session.new moment request) }
         ensures refused { OnErr result (HasHeard self.old.node.desk.setup session.old session.new) }

@@ -1,12 +1,12 @@
-//! Sources and sinks: their forms in memory, the real edge, and reading and writing to the end.
+//! Sources and sinks: their forms in memory, the real edge, and reading and writing to the end; and clocks.
 
 use std::fmt::Display;
 use std::io;
 use std::io::{ErrorKind, Read};
 use std::test::Fail;
 use tact_io::{
-    Failed, MemSink, MemSource, OutFault, ReadEnd, Sink, Source, StdSink, StdSource, SureSink,
-    SureSource, read_all, write_all,
+    Clock, Failed, MemSink, MemSource, OutFault, ReadEnd, Sink, Source, StdClock, StdSink,
+    StdSource, StepClock, SureSink, SureSource, read_all, write_all,
 };
 
 /// A stream that is closed: each call on it is an error.
@@ -130,4 +130,18 @@ fn reading_to_the_end(rt: HostRuntime) -> Result<(), Fail> {
         b"tact 1 2 1\n".as_slice()
     );
     Ok(())
+}
+
+#[test]
+fn clocks(rt: HostRuntime) {
+    for (first, step, want) in [
+        (7, 0, [7, 7, 7]),
+        (5, 3, [5, 8, 11]),
+        (u64::MAX, 2, [u64::MAX, 1, 3]),
+    ] {
+        let clock = StepClock::new(first, step);
+        assert_eq!(rt; [clock.now(), clock.now(), clock.now()], want);
+    }
+    // No clock of today tells less than the milliseconds up to 2020.
+    assert!(rt; StdClock::new(&rt).now() > 1_577_836_800_000);
 }

@@ -1,7 +1,9 @@
 //! The traits of the outside: sources that bytes are read from and sinks that they are written to, each
-//! with a count of its faults, their forms in memory, and the real edge; and gates that calls pass.
+//! with a count of its faults, their forms in memory, and the real edge; clocks, and gates that calls
+//! pass.
 #![tactic(auto)]
 
+mod clock;
 mod edge;
 mod fault;
 mod gate;
@@ -15,6 +17,7 @@ mod std_sink;
 mod std_source;
 mod writing;
 
+pub use clock::{Clock, StdClock, StepClock};
 pub use edge::StdStream;
 pub use fault::{Failed, OutFault};
 pub use gate::{FreeGate, Gate};

@@ -8,7 +8,8 @@ use Rattle.script_run.proofs.playing.step_all.Goals as goal
 
 pub step-requires : goal.step-requires
 step-requires c = record {
-  first = λ unspent. AreFirstLines-next c.loop-line.world.setup c.args.lines.now c.loop-line.world.lines c.loop-line.line-index c.line-item.result c.requires.script c.requires.few c.loop-line.invariant.0 c.loop-line.invariant.1 c.loop-line-test.true c.line-item.is;
+  first = λ unspent. AreFirstLines-next c.loop-line.world.setup c.args.lines.now c.loop-line.world.lines c.loop-line.line-index c.line-item.result
+      c.requires.script c.requires.few c.loop-line.invariant.0 c.loop-line.invariant.1 c.loop-line-test.true c.line-item.is;
 }
 
 pub loop-line-preserved : goal.loop-line-preserved

@@ -19,8 +19,16 @@ note_call-requires c =
     let entry : Entry = record { replica = c.args.replica; moment = c.moment_of-moment.result; act = act.Call c.args.client c.calls-number.result c.args.request c.in-Ok.reply } in
     let stands = keeps.stands.parts replica c.at.result.now.core c.at.ensures in
     let number : c.calls-number.result ≡ calls_in (part_of old.entries replica) c.args.client = c.calls-number.ensures ∙ stands.counts.calls c.args.client c.requires.client in
-    let is = (ap₂ (λ (moment number : ℕ). let e : Entry = record { replica = c.args.replica; moment = moment; act = act.Call c.args.client number c.args.request c.in-Ok.reply } in e) c.moment_of-moment.ensures number) in
-    record { next = λ write some. IsNextIn-due old.set.setup old.entries old.book keeps.book entry write (made_due old keeps replica c.requires.replica c.call.new.self c.call.ensures.setup (λ part. act.Call c.args.client (calls_in part c.args.client) c.args.request c.in-Ok.reply) c.in-Ok.ensures.goes_on entry is tt) some }
+    let is = (ap₂ (λ (moment number : ℕ). let e : Entry = record {
+      replica = c.args.replica;
+      moment = moment;
+      act = act.Call c.args.client number c.args.request c.in-Ok.reply;
+    } in e) c.moment_of-moment.ensures number) in
+    record {
+      next = λ write some. IsNextIn-due old.set.setup old.entries old.book keeps.book entry write
+          (made_due old keeps replica c.requires.replica c.call.new.self c.call.ensures.setup
+          (λ part. act.Call c.args.client (calls_in part c.args.client) c.args.request c.in-Ok.reply) c.in-Ok.ensures.goes_on entry is tt) some;
+    }
 
 pub enter-requires : goal.enter-requires
 enter-requires c =
@@ -30,9 +38,25 @@ enter-requires c =
     let entry : Entry = record { replica = c.args.replica; moment = c.moment_of-moment.result; act = act.Call c.args.client c.calls-number.result c.args.request c.in-Ok.reply } in
     let stands = keeps.stands.parts replica c.at.result.now.core c.at.ensures in
     let number : c.calls-number.result ≡ calls_in (part_of old.entries replica) c.args.client = c.calls-number.ensures ∙ stands.counts.calls c.args.client c.requires.client in
-    let is = (ap₂ (λ (moment number : ℕ). let e : Entry = record { replica = c.args.replica; moment = moment; act = act.Call c.args.client number c.args.request c.in-Ok.reply } in e) c.moment_of-moment.ensures number) in
-    let mid : Stage = record { set = c.call.new.self; book = c.note_call.new.book; entries = c.args.self.now.entries; sends = c.args.self.now.sends; handed = c.args.self.now.handed; zeros = c.args.self.now.zeros; prints = c.args.self.now.prints } in
-    record { made = is_made old keeps replica c.requires.replica c.call.new.self c.call.ensures.setup (λ part. act.Call c.args.client (calls_in part c.args.client) c.args.request c.in-Ok.reply) c.in-Ok.ensures.goes_on entry is tt mid refl refl (c.in_ok-note_call.ensures old.set.setup old.entries c.args.client c.calls-number.result keeps.book) }
+    let is = (ap₂ (λ (moment number : ℕ). let e : Entry = record {
+      replica = c.args.replica;
+      moment = moment;
+      act = act.Call c.args.client number c.args.request c.in-Ok.reply;
+    } in e) c.moment_of-moment.ensures number) in
+    let mid : Stage = record {
+      set = c.call.new.self;
+      book = c.note_call.new.book;
+      entries = c.args.self.now.entries;
+      sends = c.args.self.now.sends;
+      handed = c.args.self.now.handed;
+      zeros = c.args.self.now.zeros;
+      prints = c.args.self.now.prints;
+    } in
+    record {
+      made = is_made old keeps replica c.requires.replica c.call.new.self c.call.ensures.setup
+          (λ part. act.Call c.args.client (calls_in part c.args.client) c.args.request c.in-Ok.reply) c.in-Ok.ensures.goes_on entry is tt mid refl refl
+          (c.in_ok-note_call.ensures old.set.setup old.entries c.args.client c.calls-number.result keeps.book);
+    }
 
 pub returns-clause-enters : goal.returns-clause-enters
 returns-clause-enters c =
@@ -42,14 +66,29 @@ returns-clause-enters c =
     let entry : Entry = record { replica = c.args.replica; moment = c.moment_of-moment.result; act = act.Call c.args.client c.calls-number.result c.args.request c.in-Ok.reply } in
     let stands = keeps.stands.parts replica c.at.result.now.core c.at.ensures in
     let number : c.calls-number.result ≡ calls_in (part_of old.entries replica) c.args.client = c.calls-number.ensures ∙ stands.counts.calls c.args.client c.requires.client in
-    let is = (ap₂ (λ (moment number : ℕ). let e : Entry = record { replica = c.args.replica; moment = moment; act = act.Call c.args.client number c.args.request c.in-Ok.reply } in e) c.moment_of-moment.ensures number) in
-    let mid : Stage = record { set = c.call.new.self; book = c.note_call.new.book; entries = c.args.self.now.entries; sends = c.args.self.now.sends; handed = c.args.self.now.handed; zeros = c.args.self.now.zeros; prints = c.args.self.now.prints } in
+    let is = (ap₂ (λ (moment number : ℕ). let e : Entry = record {
+      replica = c.args.replica;
+      moment = moment;
+      act = act.Call c.args.client number c.args.request c.in-Ok.reply;
+    } in e) c.moment_of-moment.ensures number) in
+    let mid : Stage = record {
+      set = c.call.new.self;
+      book = c.note_call.new.book;
+      entries = c.args.self.now.entries;
+      sends = c.args.self.now.sends;
+      handed = c.args.self.now.handed;
+      zeros = c.args.self.now.zeros;
+      prints = c.args.self.now.prints;
+    } in
     let setup = old.set.setup in
     let client = c.args.client in
     let due = c.in-Ok.ensures.due old.entries keeps.stands in
     on_ok_weaker c.enter.result
-    (λ entered. enters_quiet old mid c.enter.new.self keeps entry c.args.out.now c.enter.new.out replica (λ part moment. act.Call client (calls_in part client) c.args.request (reply_of setup replica part moment c.args.request))
+    (λ entered. enters_quiet old mid c.enter.new.self keeps entry c.args.out.now c.enter.new.out replica
+    (λ part moment. act.Call client (calls_in part client) c.args.request (reply_of setup replica part moment c.args.request))
     c.call.ensures.setup refl refl refl refl refl refl
     (is ∙ ap (λ (given : Reply). entry_of old.entries replica old.handed (act.Call client (calls_in (part_of old.entries replica) client) c.args.request given)) due)
-    (is_made old keeps replica c.requires.replica c.call.new.self c.call.ensures.setup (λ part. act.Call c.args.client (calls_in part c.args.client) c.args.request c.in-Ok.reply) c.in-Ok.ensures.goes_on entry is tt mid refl refl (c.in_ok-note_call.ensures old.set.setup old.entries c.args.client c.calls-number.result keeps.book)) entered)
+    (is_made old keeps replica c.requires.replica c.call.new.self c.call.ensures.setup
+    (λ part. act.Call c.args.client (calls_in part c.args.client) c.args.request c.in-Ok.reply) c.in-Ok.ensures.goes_on entry is tt mid refl refl
+    (c.in_ok-note_call.ensures old.set.setup old.entries c.args.client c.calls-number.result keeps.book)) entered)
     c.enter.ensures.entered

@@ -17,11 +17,21 @@ use Rattle.script_run.proofs.stage.Stage.lend.Goals as goal
 
 pub enter-requires : goal.enter-requires
 enter-requires c =
-    let mid : Stage = record { set = c.lend.new.self; book = c.args.self.now.book; entries = c.args.self.now.entries; sends = c.args.self.now.sends; handed = c.args.self.now.handed; zeros = c.args.self.now.zeros; prints = c.args.self.now.prints } in
+    let mid : Stage = record {
+      set = c.lend.new.self;
+      book = c.args.self.now.book;
+      entries = c.args.self.now.entries;
+      sends = c.args.self.now.sends;
+      handed = c.args.self.now.handed;
+      zeros = c.args.self.now.zeros;
+      prints = c.args.self.now.prints;
+    } in
     let entry : Entry = record { replica = c.args.owner; moment = c.moment_of-moment.result; act = act.Lend c.args.holder c.args.conit c.args.amount } in
     record {
-      made = is_made_quiet c.args.self.now c.requires.keeps c.args.owner c.requires.owner c.lend.new.self c.lend.ensures.setup (λ part. act.Lend c.args.holder c.args.conit c.args.amount) c.in-Ok.ensures.goes_on entry
-          (ap (λ (moment : ℕ). let e : Entry = record { replica = c.args.owner; moment = moment; act = act.Lend c.args.holder c.args.conit c.args.amount } in e) c.moment_of-moment.ensures) tt mid refl refl refl refl;
+      made = is_made_quiet c.args.self.now c.requires.keeps c.args.owner c.requires.owner c.lend.new.self c.lend.ensures.setup
+          (λ part. act.Lend c.args.holder c.args.conit c.args.amount) c.in-Ok.ensures.goes_on entry
+          (ap (λ (moment : ℕ). let e : Entry = record { replica = c.args.owner; moment = moment; act = act.Lend c.args.holder c.args.conit c.args.amount }
+          in e) c.moment_of-moment.ensures) tt mid refl refl refl refl;
     }
 
 pub returns-in-Ok-clause-steps : goal.returns-in-Ok-clause-steps
@@ -33,13 +43,24 @@ returns-in-Ok-clause-steps c =
     let within : c.args.amount ≤ home old.set.setup c.args.owner (part_of old.entries c.args.owner) c.args.conit =
     subst (λ (s : Setup). c.args.amount ≤ home s c.args.owner (part_of old.entries c.args.owner) c.args.conit) one.setup
     (subst (λ (r : ℕ). c.args.amount ≤ home there.0.setup r (part_of old.entries c.args.owner) c.args.conit) one.replica may) in
-    let mid : Stage = record { set = c.lend.new.self; book = c.args.self.now.book; entries = c.args.self.now.entries; sends = c.args.self.now.sends; handed = c.args.self.now.handed; zeros = c.args.self.now.zeros; prints = c.args.self.now.prints } in
+    let mid : Stage = record {
+      set = c.lend.new.self;
+      book = c.args.self.now.book;
+      entries = c.args.self.now.entries;
+      sends = c.args.self.now.sends;
+      handed = c.args.self.now.handed;
+      zeros = c.args.self.now.zeros;
+      prints = c.args.self.now.prints;
+    } in
     let entry : Entry = record { replica = c.args.owner; moment = c.moment_of-moment.result; act = act.Lend c.args.holder c.args.conit c.args.amount } in
     on_ok_weaker c.enter.result (λ entered. lends old c.enter.new.self c.args.owner c.args.holder c.args.conit c.args.amount c.args.out.now c.enter.new.out within
     (enters_quiet c.args.self.now mid c.enter.new.self c.requires.keeps entry c.args.out.now c.enter.new.out c.args.owner (λ part moment. act.Lend c.args.holder c.args.conit c.args.amount)
-    c.lend.ensures.setup refl refl refl refl refl refl (ap (λ (moment : ℕ). let e : Entry = record { replica = c.args.owner; moment = moment; act = act.Lend c.args.holder c.args.conit c.args.amount } in e) c.moment_of-moment.ensures)
-    (is_made_quiet c.args.self.now c.requires.keeps c.args.owner c.requires.owner c.lend.new.self c.lend.ensures.setup (λ part. act.Lend c.args.holder c.args.conit c.args.amount) c.in-Ok.ensures.goes_on entry
-    (ap (λ (moment : ℕ). let e : Entry = record { replica = c.args.owner; moment = moment; act = act.Lend c.args.holder c.args.conit c.args.amount } in e) c.moment_of-moment.ensures) tt mid refl refl refl refl) entered)) c.enter.ensures.entered
+    c.lend.ensures.setup refl refl refl refl refl refl (ap (λ (moment : ℕ). let e : Entry = record
+    { replica = c.args.owner; moment = moment; act = act.Lend c.args.holder c.args.conit c.args.amount } in e) c.moment_of-moment.ensures)
+    (is_made_quiet c.args.self.now c.requires.keeps c.args.owner c.requires.owner c.lend.new.self c.lend.ensures.setup
+    (λ part. act.Lend c.args.holder c.args.conit c.args.amount) c.in-Ok.ensures.goes_on entry
+    (ap (λ (moment : ℕ). let e : Entry = record { replica = c.args.owner; moment = moment; act = act.Lend c.args.holder c.args.conit c.args.amount } in e)
+    c.moment_of-moment.ensures) tt mid refl refl refl refl) entered)) c.enter.ensures.entered
 
 pub returns-in-Err-Home-clause-steps : goal.returns-in-Err-Home-clause-steps
 returns-in-Err-Home-clause-steps c =
@@ -48,7 +69,8 @@ returns-in-Err-Home-clause-steps c =
     let there = core_there old.set c.args.owner keeps.stands.is_set c.requires.owner in
     let one = keeps.stands.is_set.each c.args.owner there.0 there.1 in
     let part = part_of old.entries c.args.owner in
-    let fault : IsLendFault there.0 c.args.conit c.args.amount (fault.Home c.in-Err-Home.field-0-0 c.in-Err-Home.home) = subst (IsLendFault there.0 c.args.conit c.args.amount) c.in-Err-Home.field-0-is (c.in-Err-Home.ensures.fault there.0 there.1) in
+    let fault : IsLendFault there.0 c.args.conit c.args.amount (fault.Home c.in-Err-Home.field-0-0 c.in-Err-Home.home) = subst
+    (IsLendFault there.0 c.args.conit c.args.amount) c.in-Err-Home.field-0-is (c.in-Err-Home.ensures.fault there.0 there.1) in
     let limit : c.in-Err-Home.home ≡ home old.set.setup c.args.owner part c.args.conit =
     fault.3.1 part (keeps.stands.parts c.args.owner there.0 there.1)
     ∙ ap₂ (λ (s : Setup) (r : ℕ). home s r part c.args.conit) one.setup one.replica in

@@ -13,7 +13,15 @@ use Rattle.script_run.proofs.stage.Stage.send.Goals as goal
 
 pub enter-requires : goal.enter-requires
 enter-requires c =
-    let mid : Stage = record { set = c.send.new.self; book = c.args.self.now.book; entries = c.args.self.now.entries; sends = c.keep_place.new.sends; handed = c.args.self.now.handed; zeros = c.args.self.now.zeros; prints = c.args.self.now.prints } in
+    let mid : Stage = record {
+      set = c.send.new.self;
+      book = c.args.self.now.book;
+      entries = c.args.self.now.entries;
+      sends = c.keep_place.new.sends;
+      handed = c.args.self.now.handed;
+      zeros = c.args.self.now.zeros;
+      prints = c.args.self.now.prints;
+    } in
     let entry : Entry = record { replica = c.args.from; moment = c.moment_of-moment.result; act = act.Send c.in-Ok.message } in
     record {
       made = is_made_quiet c.args.self.now c.requires.keeps c.args.from c.requires.from c.send.new.self c.send.ensures.setup (λ part. act.Send c.in-Ok.message) c.in-Ok.ensures.goes_on entry
@@ -25,7 +33,15 @@ returns-clause-enters c =
     let old = c.args.self.now in
     let setup = old.set.setup in
     let from = c.args.from in
-    let mid : Stage = record { set = c.send.new.self; book = c.args.self.now.book; entries = c.args.self.now.entries; sends = c.keep_place.new.sends; handed = c.args.self.now.handed; zeros = c.args.self.now.zeros; prints = c.args.self.now.prints } in
+    let mid : Stage = record {
+      set = c.send.new.self;
+      book = c.args.self.now.book;
+      entries = c.args.self.now.entries;
+      sends = c.keep_place.new.sends;
+      handed = c.args.self.now.handed;
+      zeros = c.args.self.now.zeros;
+      prints = c.args.self.now.prints;
+    } in
     let entry : Entry = record { replica = c.args.from; moment = c.moment_of-moment.result; act = act.Send c.in-Ok.message } in
     let keeps = c.requires.keeps in
     let message = c.in-Ok.message in
@@ -35,7 +51,9 @@ returns-clause-enters c =
     c.in_ok-keep_place.ensures ∙ ap (λ (place : ℕ). set old.sends.items from (get_or old.sends.items from [] ++ place ∷ [])) c.len.ensures in
     let inside : from < length old.sends.items = omega (arith, c.requires.from, keeps.sized) in
     on_ok_weaker c.enter.result
-    (λ entered. enters_one old mid c.enter.new.self keeps entry c.args.out.now c.enter.new.out c.send.ensures.setup refl refl refl refl (is_made_quiet c.args.self.now c.requires.keeps c.args.from c.requires.from c.send.new.self c.send.ensures.setup (λ part. act.Send c.in-Ok.message) c.in-Ok.ensures.goes_on entry
+    (λ entered. enters_one old mid c.enter.new.self keeps entry c.args.out.now c.enter.new.out c.send.ensures.setup refl refl refl refl
+    (is_made_quiet c.args.self.now c.requires.keeps c.args.from c.requires.from c.send.new.self c.send.ensures.setup (λ part. act.Send c.in-Ok.message)
+    c.in-Ok.ensures.goes_on entry
     (ap (λ (moment : ℕ). let e : Entry = record { replica = c.args.from; moment = moment; act = act.Send c.in-Ok.message } in e) c.moment_of-moment.ensures) tt mid refl refl refl refl) entered
     (ap length kept ∙ length-set old.sends.items from places ∙ keeps.sized)
     (subst (λ (sends : List (List ℕ)). AreSends setup (old.entries ++ entry ∷ []) sends) (sym kept) (sends_more old.entries entry setup old.sends.items keeps.sized keeps.sends message refl inside))

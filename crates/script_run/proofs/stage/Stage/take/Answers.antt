@@ -38,9 +38,22 @@ enter-requires c =
     let message = c.in_ok-message.message in
     let same : c.requires.message.0 ≡ message = same_Some c.requires.message.0 message (sym c.requires.message.1.found ∙ c.in_ok-message.ensures) in
     let named : IsNamed setup old.entries replica c.args.from c.args.number message = subst (IsNamed setup old.entries replica c.args.from c.args.number) same c.requires.message.1 in
-    let mid : Stage = record { set = c.take.new.self; book = c.args.self.now.book; entries = c.args.self.now.entries; sends = c.args.self.now.sends; handed = c.args.self.now.handed; zeros = c.args.self.now.zeros; prints = c.args.self.now.prints } in
+    let mid : Stage = record {
+      set = c.take.new.self;
+      book = c.args.self.now.book;
+      entries = c.args.self.now.entries;
+      sends = c.args.self.now.sends;
+      handed = c.args.self.now.handed;
+      zeros = c.args.self.now.zeros;
+      prints = c.args.self.now.prints;
+    } in
     let entry : Entry = record { replica = c.args.replica; moment = c.moment_of-moment.result; act = act.Take c.in_ok-message.message } in
-    record { made = is_made_quiet old keeps replica c.requires.replica c.take.new.self c.take.ensures.setup (λ part. act.Take message) c.in-Ok.ensures.goes_on entry (ap (λ (moment : ℕ). let e : Entry = record { replica = c.args.replica; moment = moment; act = act.Take c.in_ok-message.message } in e) c.moment_of-moment.ensures) named.was_sent mid refl refl refl refl }
+    record {
+      made = is_made_quiet old keeps replica c.requires.replica c.take.new.self c.take.ensures.setup (λ part. act.Take message)
+          c.in-Ok.ensures.goes_on entry (ap (λ (moment : ℕ). let e : Entry = record
+          { replica = c.args.replica; moment = moment; act = act.Take c.in_ok-message.message } in e) c.moment_of-moment.ensures) named.was_sent mid refl
+          refl refl refl;
+    }
 
 pub returns-clause-enters : goal.returns-clause-enters
 returns-clause-enters c =
@@ -51,11 +64,22 @@ returns-clause-enters c =
     let message = c.in_ok-message.message in
     let same : c.requires.message.0 ≡ message = same_Some c.requires.message.0 message (sym c.requires.message.1.found ∙ c.in_ok-message.ensures) in
     let named : IsNamed setup old.entries replica c.args.from c.args.number message = subst (IsNamed setup old.entries replica c.args.from c.args.number) same c.requires.message.1 in
-    let mid : Stage = record { set = c.take.new.self; book = c.args.self.now.book; entries = c.args.self.now.entries; sends = c.args.self.now.sends; handed = c.args.self.now.handed; zeros = c.args.self.now.zeros; prints = c.args.self.now.prints } in
+    let mid : Stage = record {
+      set = c.take.new.self;
+      book = c.args.self.now.book;
+      entries = c.args.self.now.entries;
+      sends = c.args.self.now.sends;
+      handed = c.args.self.now.handed;
+      zeros = c.args.self.now.zeros;
+      prints = c.args.self.now.prints;
+    } in
     let entry : Entry = record { replica = c.args.replica; moment = c.moment_of-moment.result; act = act.Take c.in_ok-message.message } in
     on_ok_weaker c.enter.result
     (λ entered. subst (λ found. Enters old c.enter.new.self (takes_one (played_in old) replica found) c.args.out.now c.enter.new.out) (sym named.found)
     (enters_quiet old mid c.enter.new.self keeps entry c.args.out.now c.enter.new.out replica (λ part moment. act.Take message)
-    c.take.ensures.setup refl refl refl refl refl refl (ap (λ (moment : ℕ). let e : Entry = record { replica = c.args.replica; moment = moment; act = act.Take c.in_ok-message.message } in e) c.moment_of-moment.ensures)
-    (is_made_quiet old keeps replica c.requires.replica c.take.new.self c.take.ensures.setup (λ part. act.Take message) c.in-Ok.ensures.goes_on entry (ap (λ (moment : ℕ). let e : Entry = record { replica = c.args.replica; moment = moment; act = act.Take c.in_ok-message.message } in e) c.moment_of-moment.ensures) named.was_sent mid refl refl refl refl) entered))
+    c.take.ensures.setup refl refl refl refl refl refl (ap (λ (moment : ℕ). let e : Entry = record
+    { replica = c.args.replica; moment = moment; act = act.Take c.in_ok-message.message } in e) c.moment_of-moment.ensures)
+    (is_made_quiet old keeps replica c.requires.replica c.take.new.self c.take.ensures.setup (λ part. act.Take message) c.in-Ok.ensures.goes_on entry
+    (ap (λ (moment : ℕ). let e : Entry = record { replica = c.args.replica; moment = moment; act = act.Take c.in_ok-message.message } in e)
+    c.moment_of-moment.ensures) named.was_sent mid refl refl refl refl) entered))
     c.enter.ensures.entered
