@@ -3,3 +3,4 @@ pub mod Filling
 pub mod EntryLemmas
 pub mod Texts
 pub mod SetupOf
+pub mod AttemptLemmas

@@ -7,3 +7,4 @@ pub mod Links
 pub mod Clients
 pub mod Ranges
 pub mod Workloads
+pub mod Attempts

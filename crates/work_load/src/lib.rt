@@ -8,6 +8,7 @@ mod fault;
 mod forms;
 mod head;
 mod items;
+mod laws;
 mod links;
 mod lists;
 mod plan;
@@ -15,5 +16,6 @@ mod reader;
 mod values;
 
 pub use fault::LoadFault;
+pub use laws::items_are_done_one_by_one;
 pub use plan::{Client, ITEMS_MAX, Item, Items, Plan, SETTLE_MAX};
 pub use reader::parse_plan;
