@@ -43,15 +43,7 @@ enter-requires c =
       moment = moment;
       act = act.Call c.args.client number c.args.request c.in-Ok.reply;
     } in e) c.moment_of-moment.ensures number) in
-    let mid : Stage = record {
-      set = c.call.new.self;
-      book = c.note_call.new.book;
-      entries = c.args.self.now.entries;
-      sends = c.args.self.now.sends;
-      handed = c.args.self.now.handed;
-      zeros = c.args.self.now.zeros;
-      prints = c.args.self.now.prints;
-    } in
+    let mid : Stage = record c.args.self.now { set = c.call.new.self; book = c.note_call.new.book } in
     record {
       made = is_made old keeps replica c.requires.replica c.call.new.self c.call.ensures.setup
           (λ part. act.Call c.args.client (calls_in part c.args.client) c.args.request c.in-Ok.reply) c.in-Ok.ensures.goes_on entry is tt mid refl refl
@@ -71,15 +63,7 @@ returns-clause-enters c =
       moment = moment;
       act = act.Call c.args.client number c.args.request c.in-Ok.reply;
     } in e) c.moment_of-moment.ensures number) in
-    let mid : Stage = record {
-      set = c.call.new.self;
-      book = c.note_call.new.book;
-      entries = c.args.self.now.entries;
-      sends = c.args.self.now.sends;
-      handed = c.args.self.now.handed;
-      zeros = c.args.self.now.zeros;
-      prints = c.args.self.now.prints;
-    } in
+    let mid : Stage = record c.args.self.now { set = c.call.new.self; book = c.note_call.new.book } in
     let setup = old.set.setup in
     let client = c.args.client in
     let due = c.in-Ok.ensures.due old.entries keeps.stands in

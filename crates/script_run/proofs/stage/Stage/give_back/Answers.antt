@@ -17,15 +17,7 @@ use Rattle.script_run.proofs.stage.Stage.give_back.Goals as goal
 
 pub enter-requires : goal.enter-requires
 enter-requires c =
-    let mid : Stage = record {
-      set = c.give_back.new.self;
-      book = c.args.self.now.book;
-      entries = c.args.self.now.entries;
-      sends = c.args.self.now.sends;
-      handed = c.args.self.now.handed;
-      zeros = c.args.self.now.zeros;
-      prints = c.args.self.now.prints;
-    } in
+    let mid : Stage = record c.args.self.now { set = c.give_back.new.self } in
     let entry : Entry = record { replica = c.args.holder; moment = c.moment_of-moment.result; act = act.Back c.args.owner c.args.conit c.args.amount } in
     record {
       made = is_made_quiet c.args.self.now c.requires.keeps c.args.holder c.requires.holder c.give_back.new.self c.give_back.ensures.setup
@@ -43,15 +35,7 @@ returns-in-Ok-clause-steps c =
     let within : c.args.amount ≤ free old.set.setup c.args.holder (part_of old.entries c.args.holder) c.args.owner c.args.conit =
     subst (λ (s : Setup). c.args.amount ≤ free s c.args.holder (part_of old.entries c.args.holder) c.args.owner c.args.conit) one.setup
     (subst (λ (r : ℕ). c.args.amount ≤ free there.0.setup r (part_of old.entries c.args.holder) c.args.owner c.args.conit) one.replica may) in
-    let mid : Stage = record {
-      set = c.give_back.new.self;
-      book = c.args.self.now.book;
-      entries = c.args.self.now.entries;
-      sends = c.args.self.now.sends;
-      handed = c.args.self.now.handed;
-      zeros = c.args.self.now.zeros;
-      prints = c.args.self.now.prints;
-    } in
+    let mid : Stage = record c.args.self.now { set = c.give_back.new.self } in
     let entry : Entry = record { replica = c.args.holder; moment = c.moment_of-moment.result; act = act.Back c.args.owner c.args.conit c.args.amount } in
     on_ok_weaker c.enter.result (λ entered. gives old c.enter.new.self c.args.owner c.args.holder c.args.conit c.args.amount c.args.out.now c.enter.new.out within
     (enters_quiet c.args.self.now mid c.enter.new.self c.requires.keeps entry c.args.out.now c.enter.new.out c.args.holder (λ part moment. act.Back c.args.owner c.args.conit c.args.amount)

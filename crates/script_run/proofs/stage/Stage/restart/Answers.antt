@@ -8,15 +8,7 @@ use Rattle.script_run.proofs.stage.Stage.restart.Goals as goal
 
 pub enter-requires : goal.enter-requires
 enter-requires c =
-    let mid : Stage = record {
-      set = c.restart.new.self;
-      book = c.args.self.now.book;
-      entries = c.args.self.now.entries;
-      sends = c.args.self.now.sends;
-      handed = c.args.self.now.handed;
-      zeros = c.args.self.now.zeros;
-      prints = c.args.self.now.prints;
-    } in
+    let mid : Stage = record c.args.self.now { set = c.restart.new.self } in
     let entry : Entry = record { replica = c.args.replica; moment = c.moment_of-moment.result; act = act.Restart } in
     record {
       made = is_made_quiet c.args.self.now c.requires.keeps c.args.replica c.requires.replica c.restart.new.self c.restart.ensures.setup (λ part. act.Restart) c.in-Ok.ensures.goes_on entry
@@ -25,15 +17,7 @@ enter-requires c =
 
 pub returns-clause-enters : goal.returns-clause-enters
 returns-clause-enters c =
-    let mid : Stage = record {
-      set = c.restart.new.self;
-      book = c.args.self.now.book;
-      entries = c.args.self.now.entries;
-      sends = c.args.self.now.sends;
-      handed = c.args.self.now.handed;
-      zeros = c.args.self.now.zeros;
-      prints = c.args.self.now.prints;
-    } in
+    let mid : Stage = record c.args.self.now { set = c.restart.new.self } in
     let entry : Entry = record { replica = c.args.replica; moment = c.moment_of-moment.result; act = act.Restart } in
     on_ok_weaker c.enter.result (λ entered. enters_quiet c.args.self.now mid c.enter.new.self c.requires.keeps entry c.args.out.now c.enter.new.out c.args.replica (λ part moment. act.Restart)
     c.restart.ensures.setup refl refl refl refl refl refl (ap (λ (moment : ℕ). let e : Entry = record { replica = c.args.replica; moment = moment; act = act.Restart } in e) c.moment_of-moment.ensures)

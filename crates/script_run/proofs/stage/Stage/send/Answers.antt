@@ -13,15 +13,7 @@ use Rattle.script_run.proofs.stage.Stage.send.Goals as goal
 
 pub enter-requires : goal.enter-requires
 enter-requires c =
-    let mid : Stage = record {
-      set = c.send.new.self;
-      book = c.args.self.now.book;
-      entries = c.args.self.now.entries;
-      sends = c.keep_place.new.sends;
-      handed = c.args.self.now.handed;
-      zeros = c.args.self.now.zeros;
-      prints = c.args.self.now.prints;
-    } in
+    let mid : Stage = record c.args.self.now { set = c.send.new.self; sends = c.keep_place.new.sends } in
     let entry : Entry = record { replica = c.args.from; moment = c.moment_of-moment.result; act = act.Send c.in-Ok.message } in
     record {
       made = is_made_quiet c.args.self.now c.requires.keeps c.args.from c.requires.from c.send.new.self c.send.ensures.setup (λ part. act.Send c.in-Ok.message) c.in-Ok.ensures.goes_on entry
@@ -33,15 +25,7 @@ returns-clause-enters c =
     let old = c.args.self.now in
     let setup = old.set.setup in
     let from = c.args.from in
-    let mid : Stage = record {
-      set = c.send.new.self;
-      book = c.args.self.now.book;
-      entries = c.args.self.now.entries;
-      sends = c.keep_place.new.sends;
-      handed = c.args.self.now.handed;
-      zeros = c.args.self.now.zeros;
-      prints = c.args.self.now.prints;
-    } in
+    let mid : Stage = record c.args.self.now { set = c.send.new.self; sends = c.keep_place.new.sends } in
     let entry : Entry = record { replica = c.args.from; moment = c.moment_of-moment.result; act = act.Send c.in-Ok.message } in
     let keeps = c.requires.keeps in
     let message = c.in-Ok.message in

@@ -38,15 +38,7 @@ enter-requires c =
     let message = c.in_ok-message.message in
     let same : c.requires.message.0 ≡ message = same_Some c.requires.message.0 message (sym c.requires.message.1.found ∙ c.in_ok-message.ensures) in
     let named : IsNamed setup old.entries replica c.args.from c.args.number message = subst (IsNamed setup old.entries replica c.args.from c.args.number) same c.requires.message.1 in
-    let mid : Stage = record {
-      set = c.take.new.self;
-      book = c.args.self.now.book;
-      entries = c.args.self.now.entries;
-      sends = c.args.self.now.sends;
-      handed = c.args.self.now.handed;
-      zeros = c.args.self.now.zeros;
-      prints = c.args.self.now.prints;
-    } in
+    let mid : Stage = record c.args.self.now { set = c.take.new.self } in
     let entry : Entry = record { replica = c.args.replica; moment = c.moment_of-moment.result; act = act.Take c.in_ok-message.message } in
     record {
       made = is_made_quiet old keeps replica c.requires.replica c.take.new.self c.take.ensures.setup (λ part. act.Take message)
@@ -64,15 +56,7 @@ returns-clause-enters c =
     let message = c.in_ok-message.message in
     let same : c.requires.message.0 ≡ message = same_Some c.requires.message.0 message (sym c.requires.message.1.found ∙ c.in_ok-message.ensures) in
     let named : IsNamed setup old.entries replica c.args.from c.args.number message = subst (IsNamed setup old.entries replica c.args.from c.args.number) same c.requires.message.1 in
-    let mid : Stage = record {
-      set = c.take.new.self;
-      book = c.args.self.now.book;
-      entries = c.args.self.now.entries;
-      sends = c.args.self.now.sends;
-      handed = c.args.self.now.handed;
-      zeros = c.args.self.now.zeros;
-      prints = c.args.self.now.prints;
-    } in
+    let mid : Stage = record c.args.self.now { set = c.take.new.self } in
     let entry : Entry = record { replica = c.args.replica; moment = c.moment_of-moment.result; act = act.Take c.in_ok-message.message } in
     on_ok_weaker c.enter.result
     (λ entered. subst (λ found. Enters old c.enter.new.self (takes_one (played_in old) replica found) c.args.out.now c.enter.new.out) (sym named.found)
