@@ -3,7 +3,7 @@ use Rattle.std.proofs.Common.{◌≡◌, ℕ, ◌+◌, Bool, false, cond, List, 
 use Rattle.std.proofs.lemmas.List.{append-nil, same_from_push}
 use Rattle.std.proofs.lemmas.List.Elements.{filter-append}
 use Rattle.tact_base.specs.Setup.{Setup, IsSetup}
-use Rattle.run_model.specs.Histories.{part_of, calls_in, is_call_of, moment_at}
+use Rattle.run_model.specs.Histories.{part_of, calls_in, calls_of, is_call_of, moment_at}
 use Rattle.run_model.specs.Runs.{IsRun, IsLawful}
 use Rattle.run_model.specs.declared.entry.Act.{Act}
 use Rattle.run_model.specs.declared.entry.Entry.{Entry}
@@ -11,7 +11,7 @@ use Rattle.run_model.proofs.PartLemmas.{part_of-push_same}
 use Rattle.run_model.proofs.PrefixLemmas.{EachAfter-last}
 use Rattle.run_promises.proofs.Kept.{IsKept-run}
 use Rattle.replica_lock.specs.Locks.{HasEntered, LockedView, entry_in, part_in}
-use Rattle.replica_lock.specs.Sessions.{SessionView, HasMade, calls_of, entry_after}
+use Rattle.replica_lock.specs.Sessions.{SessionView, HasMade, entry_after}
 use Rattle.replica_lock.proofs.Seeing.{calls_of-same}
 
 -- with one more entry that is no call of the client

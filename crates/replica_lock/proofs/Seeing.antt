@@ -7,7 +7,7 @@ use Rattle.std.proofs.lemmas.List.Elements.{filter-append}
 use Rattle.tact_base.specs.Setup.{Setup, IsSetup}
 use Rattle.tact_base.proofs.SetupLemmas.{HasCounts-from_IsSetup}
 use Rattle.tact_base.specs.declared.limits.TheConstants.{HISTORY_MAX}
-use Rattle.run_model.specs.Histories.{part_of, calls_in, is_call_of, moment_at, IsPrefix}
+use Rattle.run_model.specs.Histories.{part_of, calls_in, calls_of, is_call_of, moment_at, IsPrefix}
 use Rattle.run_model.specs.Runs.{IsRun, IsLawful}
 use Rattle.run_model.specs.Taking.{clock}
 use Rattle.run_model.specs.declared.call.Reply.{Reply}
@@ -21,7 +21,7 @@ use Rattle.run_history.proofs.RunLemmas.{parts_are_short, run_is_short}
 use Rattle.replica_core.specs.States.{Core, is_full}
 use Rattle.replica_lock.specs.Faults.{IsNodeFaultOf}
 use Rattle.replica_lock.specs.Locks.{HasEntered, IsLocked, LockedView, part_in}
-use Rattle.replica_lock.specs.Sessions.{SessionView, HasCalled, HasHeard, IsFaultSeen, call_after, calls_of}
+use Rattle.replica_lock.specs.Sessions.{SessionView, HasCalled, HasHeard, IsFaultSeen, call_after}
 use Rattle.replica_lock.specs.declared.fault.NodeFault.{NodeFault}
 use Rattle.replica_lock.specs.declared.fault.NodeFault.TheVariants as fault
 use Rattle.replica_lock.proofs.Entering.{call_entry}

@@ -1,9 +1,9 @@
 -- What contracts see of nodes, of turns and of sessions, and what a session has seen after a call.
-use Rattle.std.specs.Prelude.{◌≡◌, ◌≢◌, ℕ, ◌+◌, ◌<◌, ◌≤◌, List, [], ◌∷◌, ◌++◌, filter, length, slice_index}
+use Rattle.std.specs.Prelude.{◌≡◌, ◌≢◌, ℕ, ◌+◌, ◌<◌, ◌≤◌, List, [], ◌∷◌, ◌++◌, length, slice_index}
 use Rattle.atomic_table.specs.Seated.{TableId}
 use Rattle.tact_base.specs.Setup.{Setup}
 use Rattle.tact_base.specs.declared.limits.TheConstants.{CLIENTS, CONITS_MAX, HISTORY_MAX}
-use Rattle.run_model.specs.Histories.{part_of, calls_in, is_call_of, moment_at, IsPrefix}
+use Rattle.run_model.specs.Histories.{part_of, calls_in, calls_of, moment_at, IsPrefix}
 use Rattle.run_model.specs.Promises.{IsKept}
 use Rattle.run_model.specs.Replies.{reply_of}
 use Rattle.run_model.specs.Runs.{IsDue, IsRun}
@@ -50,10 +50,6 @@ pub record IsSessionOf (node : NodeView) (session : SessionView) : Type 0 where
   pub desk : session.desk ≡ node.desk.table
   pub conits : session.conits ≡ node.desk.setup.conits
   pub replica : session.replica ≡ node.replica
-
--- the calls of a client that a history has at a replica
-abbrev pub calls_of : List Entry → ℕ → ℕ → List Entry
-calls_of history replica client = filter (λ entry. is_call_of client entry.act) (part_of history replica)
 
 -- the calls of a session's client that it has seen
 abbrev pub own_calls : SessionView → List Entry

@@ -46,15 +46,6 @@ after_op-unnamed image (Shift from to amount) key other =
       | false ↦ refl
     ]
 
--- and so do operations in order
-pub image_from-unnamed : (image : Image) (ops : List Op) (key : ℕ)
-    → All (λ op. names op key ≡ false) ops
-    → image_from image ops key ≡ image key
-image_from-unnamed image [] key none = refl
-image_from-unnamed image (op ∷ ops) key none =
-    image_from-unnamed (after_op image op) ops key (All-tail (λ op. names op key ≡ false) op ops none)
-    ∙ after_op-unnamed image op key (All-head (λ op. names op key ≡ false) op ops none)
-
 -- an image with the values that another one has at the keys of an operation is that one, where both agree elsewhere
 pub with_key_values-other : (old new : Image) (op : Op)
     → ((key : ℕ) → names op key ≡ false → old key ≡ new key)

@@ -44,6 +44,10 @@ abbrev pub is_call_of : ℕ → Act → Bool
 is_call_of client (Call caller number request reply) = caller == client
 is_call_of client other = false
 
+-- the calls of a client that a history has at a replica
+abbrev pub calls_of : List Entry → ℕ → ℕ → List Entry
+calls_of history replica client = filter (λ entry. is_call_of client entry.act) (part_of history replica)
+
 -- how many calls of a client a part has
 abbrev pub calls_in : List Entry → ℕ → ℕ
 calls_in part client = length (filter (λ entry. is_call_of client entry.act) part)

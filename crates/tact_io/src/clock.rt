@@ -9,7 +9,8 @@ pub trait Clock {
     fn now(&self) -> u64;
 }
 
-/// A clock that goes on by a step whenever it is asked, so that what was done by it can be done again.
+/// A clock that goes on by a step whenever it is asked. What one thread does by it can be done again with the same
+/// moments; of threads that share it, the order in which they ask decides who is told which.
 #[derive(Debug, Drop)]
 pub struct StepClock {
     next: AtomicU64,
