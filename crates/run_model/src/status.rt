@@ -7,14 +7,27 @@ pub enum Status {
     Done,
     /// A record was read whose entry of this number, counted from 0, is its first unlawful one. All output was
     /// written.
-    Bad { entry: u64, cause: Cause },
+    Bad {
+        entry: u64,
+        cause: Cause,
+    },
     /// The words after the program's name are no command. Nothing was read.
     Usage(UsageKind),
     /// The input isn't in its grammar. Its first fault is at `place`: a line of a text, counted from 1, or a byte,
     /// counted from 0. Nothing was written.
-    BadInput { place: u64, kind: InputKind },
+    BadInput {
+        place: u64,
+        kind: InputKind,
+    },
     /// The source gave more bytes than an input may have.
     TooLong,
+    /// Of the run of a workload this replica has as many entries as it may, `count`, and its clock stands at `clock`.
+    /// The record of the run up to there was written.
+    Full {
+        replica: u32,
+        count: u64,
+        clock: u64,
+    },
     /// A read failed. Nothing was written.
     ReadFault,
     /// A write failed. What was written by then is the beginning of the output.
@@ -36,6 +49,8 @@ pub enum UsageKind {
     MissingNumber,
     /// The word in the number's place isn't a number below 2^64.
     BadNumber,
+    /// The words of a run of a workload are refused.
+    RunWords,
 }
 
 /// Why an input isn't in its grammar.
@@ -45,6 +60,8 @@ pub enum InputKind {
     Line(LineKind),
     /// A byte of a record in bytes is at fault.
     Bytes(ByteKind),
+    /// A workload is at fault. The place is 0 outside its clients, and in a client its number, counted from 1.
+    Load(LoadKind),
 }
 
 /// The fault of a line of a script or of a record in text. They are tried in this order, those from
