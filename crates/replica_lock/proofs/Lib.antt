@@ -1,5 +1,6 @@
 mod Totals
 mod Entering
+mod Finishing
 mod Seeing
 mod Turning
 mod Opening

@@ -27,6 +27,13 @@ impl Stored {
     {
         self.pairs.items()
     }
+
+    /// The list of them.
+    pub fn into_pairs(self) -> RoomyList<(u64, Entry)>
+        ensures { result.items ≡ self }
+    {
+        self.pairs
+    }
 }
 
 /// What a node leaves: the clerk, with its part of the history, and the entries that it stored.

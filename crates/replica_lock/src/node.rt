@@ -1,13 +1,15 @@
 //! Nodes, which their clients share.
-ghost use Rattle.std.specs.Prelude.{◌≡◌, ◌<◌, ◌≤◌, [], ◌∷◌, ◌++◌, Contains, IfOk, IfErr, OnErr, OnOk};
+ghost use Rattle.std.specs.Prelude.{◌≡◌, ◌≢◌, ◌<◌, ◌≤◌, ℕ, [], ◌∷◌, ◌++◌, All, AllPairs, Contains, IfOk, IfErr, OnErr, OnOk, length, map, slice_index};
 ghost use Rattle.tact_base.specs.declared.limits.TheConstants.{CLIENTS, MOMENT_MAX};
 ghost use Rattle.run_model.specs.Histories.{IsPrefix};
 ghost use Rattle.run_model.specs.Ranges.{IsRequestInRange};
-ghost use Rattle.replica_lock.specs.Locks.{IsLocked, IsWriteOrRead};
-ghost use Rattle.replica_lock.specs.Rosters.{IsRosterOf, IsSessionFaultOf};
-ghost use Rattle.replica_lock.specs.Sessions.{HasCalled, HasHeard, IsFaultSeen, IsSessionOf};
+ghost use Rattle.run_history.specs.Ticks.{entries_of};
+ghost use Rattle.replica_lock.specs.Locks.{IsLocked, IsWriteOrRead, made_place, turns_place};
+ghost use Rattle.replica_lock.specs.Rosters.{AreAllSessions, HasCounts, HasPlacesOf, IsRosterOf, IsSessionFaultOf};
+ghost use Rattle.replica_lock.specs.Sessions.{HasCalled, HasHeard, IsFaultSeen, IsSessionOf, own_calls};
 
 use crate::ended::{Ended, Stored};
+use crate::label::Label;
 use crate::locked::Locked;
 use crate::locked_box::{LockedBox, stand};
 use crate::roster::Roster;
@@ -21,10 +23,11 @@ use std::marker::Model;
 use std::sync::Wait;
 use tact_base::{CLIENTS, Items};
 use tact_io::Gate;
-use weight_ledger::{Cell, CellFault};
+use weight_ledger::{Cell, CellFault, Tally};
 
 /// A replica that its clients share under a lock, with its part of the history. Its calls wait for the lock, and
 /// promise what they say where they return.
+#[derive(Drop)]
 pub struct Node<'d, G: Gate> {
     pub(crate) desk: &'d Desk,
     pub(crate) cell: Cell<LockedBox>,
@@ -91,7 +94,7 @@ impl<'d, G: Gate> Node<'d, G> {
         requires roster { IsRosterOf self.now roster.old }
         requires client { client < CLIENTS }
         ensures of { IfOk result (IsSessionOf self.now) }
-        ensures fresh { IfOk result (λ session. (session.client ≡ client) × (session.calls ≡ 0) × (session.made ≡ 0)) }
+        ensures fresh { IfOk result (λ session. (session.client ≡ client) × (session.calls ≡ 0) × (session.made ≡ 0) × (own_calls session ≡ [])) }
         ensures clients { OnOk result (roster.new ≡ record roster.old { clients = roster.old.clients ++ client ∷ [] }) }
         ensures free { OnOk result (Contains roster.old.clients client → ⊥) }
         ensures fault { IfErr result (IsSessionFaultOf roster.old.clients client) }
@@ -151,8 +154,9 @@ impl<'d, G: Gate> Node<'d, G> {
         turn.end();
     }
 
-    /// Ends the node, and gives its clerk and the entries that it stored, which are what the clerk drew.
-    pub fn finish<R: Wait>(self, rt: &R, roster: Roster) -> Ended
+    /// Ends the node where sessions of it may be gone. It gives the node's clerk and the entries that it stored, which
+    /// are what the clerk drew. Where all sessions are at hand, `finish` says more.
+    pub fn end<R: Wait>(self, rt: &R, roster: Roster) -> Ended
         requires roster { IsRosterOf self roster }
         ensures clerk { (result.clerk.table ≡ self.entry.desk.table) × (result.clerk.replica ≡ self.entry.replica) }
         ensures stored { result.stored ≡ result.clerk.pairs }
@@ -163,11 +167,27 @@ impl<'d, G: Gate> Node<'d, G> {
             gate: _,
         } = self;
         let Roster { tally, .. } = roster;
-        let (clerk, pairs) = cell.end(rt, tally).into_locked().into_parts();
-        Ended {
-            clerk,
-            stored: Stored { pairs },
-        }
+        ended(cell.end(rt, tally))
+    }
+
+    /// Ends the node, with the sessions of all clients that have one, in the order in which they came. It gives the
+    /// node's clerk and the entries that it stored, which are what the clerk drew. Of each session's client these have
+    /// as many calls as the session has seen, and no calls of others.
+    pub fn finish<R: Wait>(self, rt: &R, roster: Roster, sessions: Vec<Session>) -> Ended
+        requires roster { IsRosterOf self roster }
+        requires sessions { All (IsSessionOf self) sessions.items }
+        requires whole { map (λ session. session.client) sessions.items ≡ roster.clients }
+        ensures clerk { (result.clerk.table ≡ self.entry.desk.table) × (result.clerk.replica ≡ self.entry.replica) }
+        ensures stored { result.stored ≡ result.clerk.pairs }
+        ensures sessions { AreAllSessions roster.clients sessions.items (entries_of result.stored) }
+    {
+        let Node {
+            desk: _,
+            cell,
+            gate: _,
+        } = self;
+        let tally = gathered(&cell, roster, sessions);
+        ended(cell.end(rt, tally))
     }
 
     /// Answers a call that writes or reads, in a turn of its own.
@@ -191,4 +211,53 @@ impl<'d, G: Gate> Node<'d, G> {
         turn.end();
         answer
     }
+}
+
+// What the value behind a node's lock leaves.
+fn ended(locked: LockedBox) -> Ended
+    ensures clerk { result.clerk ≡ locked.clerk }
+    ensures stored { result.stored ≡ locked.stored }
+    ensures kept { IsLocked locked }
+{
+    let (clerk, pairs) = locked.into_locked().into_parts();
+    Ended {
+        clerk,
+        stored: Stored { pairs },
+    }
+}
+
+// A tally with the places of all clients: of the sessions' clients with what is there, of the others with nothing.
+fn gathered(cell: &Cell<LockedBox>, roster: Roster, sessions: Vec<Session>) -> Tally<Label>
+    requires cell { roster.cell ≡ cell.now.id }
+    requires sessions { All (λ session. (session.cell ≡ cell.now.id) × (session.conits ≡ roster.conits)) sessions.items }
+    requires whole { map (λ session. session.client) sessions.items ≡ roster.clients }
+    ensures cell { result.id ≡ cell.now.id }
+    ensures sessions { All (λ session. HasPlacesOf roster.conits session.client (length (own_calls session)) session.made result) sessions.items }
+    ensures among { All (λ client. client < CLIENTS) roster.clients }
+    ensures apart { AllPairs (λ one other. one ≢ other) roster.clients }
+    ensures others { (client : ℕ) → client < CLIENTS → (Contains roster.clients client → ⊥) → HasPlacesOf roster.conits client 0 0 result }
+{
+    let Roster { mut tally, .. } = roster;
+    for session in sessions {
+        give_places(cell, &mut tally, session);
+    }
+    tally
+}
+
+// Gives the places of a session's client to a tally that has nothing of it.
+fn give_places(cell: &Cell<LockedBox>, tally: &mut Tally<Label>, mut session: Session)
+    requires cell { (tally.old.id ≡ cell.now.id) × (session.cell ≡ cell.now.id) }
+    requires nothing { session.client < CLIENTS → HasCounts session.conits session.client 0 0 tally.old }
+    ensures cell { tally.new.id ≡ cell.now.id }
+    ensures among { session.client < CLIENTS }
+    ensures places { HasPlacesOf session.conits session.client (length (own_calls session)) session.made tally.new }
+    ensures others { (place : ℕ) → place ≢ turns_place session.conits session.client → place ≢ made_place session.conits session.client
+        → (slice_index tally.new.amounts place ≡ slice_index tally.old.amounts place) × (slice_index tally.old.owns place ≢ 0 → slice_index tally.new.owns place ≢ 0) }
+{
+    let places = [
+        session.conits + session.client,
+        session.conits + CLIENTS + session.client,
+    ];
+    let own = cell.split_own(&mut session.tally, &places);
+    cell.join(tally, own);
 }

@@ -11,6 +11,7 @@ use std::marker::Model;
 use std::snapshot::Snapshot;
 
 /// A lock whose value has a label that stays, and totals that tallies add up. It waits only in `lock` and `end`.
+#[derive(Drop)]
 pub struct Cell<T: Counted> {
     pub(crate) table: Table<Option<T>, View<T::Label>, Terms<T>, Law<T>, Global>,
 }

@@ -1,9 +1,10 @@
-use Rattle.std.proofs.Common.{sym, ap, ◌∙◌}
+use Rattle.std.proofs.Common.{◌≢◌, ℕ, AllPairs, sym, ap, ◌∙◌, subst}
+use Rattle.tact_base.proofs.ElementLemmas.{AllPairs-nil}
 use Rattle.run_history.specs.Seats.{ClerkView}
 use Rattle.run_history.specs.Ticks.{entries_of}
 use Rattle.run_model.specs.Histories.{part_of}
 use Rattle.weight_ledger.specs.Seen.{TallyView}
-use Rattle.replica_lock.proofs.Opening.{places-first}
+use Rattle.replica_lock.proofs.Opening.{counts-first, places-first}
 use Rattle.replica_lock.proofs.node.Node.new.Goals as goal
 
 pub invariant_of-roster : goal.invariant_of-roster
@@ -14,5 +15,7 @@ invariant_of-roster g c = record {
       ∙ ap (part_of c.note-note.new.self.seen) c.replica-replica.ensures.replica ∙ c.replica-replica.ensures.own
       ∙ ap (λ (k : ClerkView). entries_of k.pairs) c.note-note.ensures.kept ∙ ap entries_of c.learn.ensures.drawn
       ∙ ap (λ (k : ClerkView). entries_of k.pairs) c.note-seen.ensures.kept ∙ ap entries_of c.requires.drawn;
+  apart = subst (AllPairs (λ (one other : ℕ). one ≢ other)) (sym c.new-in-Ok.ensures) (AllPairs-nil (λ (one other : ℕ). one ≢ other));
+  nothing = λ client among. counts-first _ client _ (ap (λ (t : TallyView). t.amounts) c.in-Ok.ensures.tally);
   free = λ client among free. places-first _ client _ among (ap (λ (t : TallyView). t.amounts) c.in-Ok.ensures.tally) (ap (λ (t : TallyView). t.owns) c.in-Ok.ensures.tally);
 }
