@@ -14,11 +14,11 @@ use Rattle.run_record.specs.declared.fault.RecordFault.TheVariants as fault
 -- the first fault of an input that is no record's text, and of one that is no record's bytes
 abbrev pub IsTextFault : List ℕ → ℕ → InputKind → Type 0
 IsTextFault text place (input.Line kind) = record_of text ≡ Err (place, kind)
-IsTextFault text place (input.Bytes kind) = ⊥
+IsTextFault text place other = ⊥
 
 abbrev pub IsByteFault : List ℕ → ℕ → InputKind → Type 0
-IsByteFault bytes place (input.Line kind) = ⊥
 IsByteFault bytes place (input.Bytes kind) = record_at bytes ≡ Err (fault.Bytes place kind)
+IsByteFault bytes place other = ⊥
 
 -- an input that begins with the letter T can be a record in bytes alone; any other, in text alone
 abbrev pub is_in_bytes : List ℕ → Bool

@@ -14,4 +14,4 @@ IsPlayed script answer text = (answer ≡ status.Done) × IsPlayOf script text
 -- the first fault of an input that is no script
 abbrev pub IsScriptFault : List ℕ → ℕ → InputKind → Type 0
 IsScriptFault text place (input.Line kind) = script_of text ≡ Err (place, kind)
-IsScriptFault text place (input.Bytes kind) = ⊥
+IsScriptFault text place other = ⊥
