@@ -152,7 +152,7 @@ fn an_allowance_is_spent(rt: HostRuntime) -> Result<(), Fail> {
     assert_eq!(rt; (left, released, allowance.amount()), (2, 2, 0));
     join_across(&rt, &node, &mut one, &mut allowance);
     let counts = (one.calls(), one.made());
-    let ended = node.finish(&rt, roster);
+    let ended = node.end(&rt, roster);
     assert_eq!(rt; counts, (3, 3));
     assert_eq!(rt; ended.stored.pairs().len(), 3);
     Ok(())

@@ -1,8 +1,8 @@
 //! A postbox for each of four replicas.
 ghost use Rattle.std.specs.Prelude.{◌≡◌, ◌<◌};
 
-use crate::postbox::{Key, Postbox};
 use link_faults::{Counts, LinkPlan};
+use postbox::{Key, Postbox};
 use run_history::{Desk, Note};
 use std::alloc::Global;
 use std::marker::Model;
@@ -19,7 +19,7 @@ pub struct Boxes {
 
 impl Model for Boxes {
     ghost use Rattle.std.specs.Prelude.{◌≡◌};
-    ghost use Rattle.lock_tests.specs.Posts.{BoxesView};
+    ghost use Rattle.lock_tests.specs.Boxes.{BoxesView};
 
     ghost Value = { BoxesView };
 
@@ -44,7 +44,7 @@ pub struct Keys {
 }
 
 impl Model for Keys {
-    ghost use Rattle.lock_tests.specs.Posts.{BoxCells};
+    ghost use Rattle.lock_tests.specs.Boxes.{BoxCells};
 
     ghost Value = { BoxCells };
 
@@ -64,10 +64,19 @@ impl Boxes {
         ensures desk { result.0.desk ≡ desk.now.table }
         ensures keys { result.1 ≡ result.0.cells }
     {
-        let (first, first_key) = Postbox::new(rt, alloc, plan, note.twin(desk), 0);
-        let (second, second_key) = Postbox::new(rt, alloc, plan, note.twin(desk), 1);
-        let (third, third_key) = Postbox::new(rt, alloc, plan, note.twin(desk), 2);
-        let (fourth, fourth_key) = Postbox::new(rt, alloc, plan, note, 3);
+        let (first, first_key) = Postbox::new(alloc, plan, note.twin(desk), 0).expect(
+            rt,
+            "a postbox",
+        );
+        let (second, second_key) = Postbox::new(alloc, plan, note.twin(desk), 1).expect(
+            rt,
+            "a postbox",
+        );
+        let (third, third_key) = Postbox::new(alloc, plan, note.twin(desk), 2).expect(
+            rt,
+            "a postbox",
+        );
+        let (fourth, fourth_key) = Postbox::new(alloc, plan, note, 3).expect(rt, "a postbox");
         let boxes = Boxes {
             first,
             second,
@@ -108,10 +117,10 @@ impl Boxes {
             fourth,
         } = self;
         [
-            first.end(rt, keys.first),
-            second.end(rt, keys.second),
-            third.end(rt, keys.third),
-            fourth.end(rt, keys.fourth),
+            first.end(rt, keys.first).counts(),
+            second.end(rt, keys.second).counts(),
+            third.end(rt, keys.third).counts(),
+            fourth.end(rt, keys.fourth).counts(),
         ]
     }
 }

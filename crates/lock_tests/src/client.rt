@@ -6,7 +6,7 @@ ghost use Rattle.replica_lock.specs.Allowances.{IsAllowanceOf};
 ghost use Rattle.replica_lock.specs.Locks.{IsWriteOrRead};
 ghost use Rattle.replica_lock.specs.Rosters.{IsRosterOf};
 ghost use Rattle.replica_lock.specs.Sessions.{IsSessionOf};
-ghost use Rattle.lock_tests.specs.Posts.{IsFor};
+ghost use Rattle.postbox.specs.Posts.{IsFor};
 
 use crate::opened::{plain_read, plain_write};
 use replica_lock::{Allowance, Node, Parcel, Reserving, Roster, Session};

@@ -108,7 +108,7 @@ fn step<R: Wait + Abort>(
     assert!(rt; mine < CLIENTS);
     client.ask(rt, number, request(rt, mine, number));
     let parcel = client.send(rt, to);
-    boxes.of(to).put(rt, desk, parcel);
+    boxes.of(to).put(rt, desk, parcel).expect(rt, "a put");
     if let Some(parcel) = boxes.of(replica).next(rt) {
         client.take(rt, parcel);
     }
@@ -315,10 +315,10 @@ fn four_nodes_with_eight_clients_each(rt: HostRuntime) -> Result<(), Fail> {
     work_all(&rt, &desk, &boxes, clients);
     let counts = boxes.end(&rt, keys);
     let ended = Ended {
-        first: one.finish(&rt, one_roster).stored,
-        second: two.finish(&rt, two_roster).stored,
-        third: three.finish(&rt, three_roster).stored,
-        fourth: four.finish(&rt, four_roster).stored,
+        first: one.end(&rt, one_roster).stored,
+        second: two.end(&rt, two_roster).stored,
+        third: three.end(&rt, three_roster).stored,
+        fourth: four.end(&rt, four_roster).stored,
     };
     let mut calls: u64 = 0;
     for stored in [&ended.first, &ended.second, &ended.third, &ended.fourth] {

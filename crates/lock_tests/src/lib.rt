@@ -14,10 +14,6 @@ mod opened;
 #[cfg(test)]
 mod parcels;
 #[cfg(test)]
-mod post;
-#[cfg(test)]
-mod postbox;
-#[cfg(test)]
 mod records;
 #[cfg(test)]
 mod turns;

@@ -1,6 +1,6 @@
 //! Parcels between two nodes, in one thread.
 ghost use Rattle.std.specs.Prelude.{◌≡◌};
-ghost use Rattle.lock_tests.specs.Posts.{IsFor};
+ghost use Rattle.postbox.specs.Posts.{IsFor};
 
 use crate::client::Client;
 use crate::opened::{Opened, closed, node_of, open_two};
@@ -132,8 +132,8 @@ fn parcels_are_taken_twice_and_late(rt: HostRuntime) -> Result<(), Fail> {
     let sender = Client::new(&rt, &one, &mut roster, 0);
     let taker = Client::new(&rt, &other, &mut other_roster, 0);
     exchange(&rt, &desk, sender, taker);
-    let one = one.finish(&rt, roster);
-    let other = other.finish(&rt, other_roster);
+    let one = one.end(&rt, roster);
+    let other = other.end(&rt, other_roster);
     let mut marks = [b'.'; 15];
     mark(&rt, &one, &mut marks);
     mark(&rt, &other, &mut marks);

@@ -71,7 +71,7 @@ fn a_note_and_a_turn(rt: HostRuntime) -> Result<(), Fail> {
     let value = read(&rt, &node, &mut other);
     let second = write_in_turn(&rt, &node, &mut one);
     let counts = [one.calls(), one.made(), other.calls(), other.made()];
-    let ended = node.finish(&rt, roster);
+    let ended = node.end(&rt, roster);
     assert_eq!(rt; (first, value, second), (0, 1, 1));
     assert_eq!(rt; counts, [2, 2, 1, 1]);
     assert_eq!(rt; ended.stored.pairs().len(), 3);

@@ -1,14 +1,15 @@
 //! The library example of the README: two nodes on threads.
 ghost use Rattle.std.specs.Prelude.{◌≡◌};
 ghost use Rattle.replica_lock.specs.Sessions.{IsSessionOf};
-ghost use Rattle.lock_tests.specs.Posts.{IsBoxOf, IsBoxOfAnother};
+ghost use Rattle.postbox.specs.Posts.{IsFor};
+ghost use Rattle.lock_tests.specs.Boxes.{IsBoxOf, IsBoxOfAnother};
 
 use crate::opened::{Opened, node_of, open_two, plain_read, plain_write};
-use crate::postbox::Postbox;
 use crate::records::said_of;
 use crate::writers::session;
 use link_faults::LinkPlan;
-use replica_lock::{Node, Session};
+use postbox::Postbox;
+use replica_lock::{Node, Parcel, Session};
 use run_history::Desk;
 use run_model::Reply;
 use std::process::Abort;
@@ -18,6 +19,19 @@ use std::thread;
 use tact_io::FreeGate;
 
 const SAID: &[u8] = b"run 8 calls 4 writes 2 waits 0 sends 2 takes 2 lends 0 backs 0 restarts 0\n";
+
+// Waits until a parcel is there, and takes it.
+fn wait<R: Wait>(rt: &R, inbox: &Postbox) -> Parcel
+    ensures { IsFor inbox.now.desk inbox.now.to result }
+{
+    for _ in rt.forever() {
+        if let Some(parcel) = inbox.next(rt) {
+            return parcel;
+        }
+        thread::yield_now();
+    }
+    unreachable!()
+}
 
 // A client of one of two replicas: adds 1 to a key, tells the other replica, takes what comes from there, and reads.
 fn visit<R: Wait + Abort>(
@@ -38,8 +52,8 @@ fn visit<R: Wait + Abort>(
     let parcel = node
         .send(rt, &mut session, 0, there.to())
         .expect(rt, "a parcel");
-    there.put(rt, desk, parcel);
-    let Ok(()) = node.take(rt, &mut session, 0, here.wait(rt)) else {
+    there.put(rt, desk, parcel).expect(rt, "a put");
+    let Ok(()) = node.take(rt, &mut session, 0, wait(rt, here)) else {
         panic!(rt; "it wasn't taken")
     };
     match node.call(rt, &mut session, 0, plain_read(rt)) {
@@ -61,8 +75,14 @@ fn two_nodes_on_threads(rt: HostRuntime) -> Result<(), Fail> {
     let mut ann = session(&rt, &north, &mut north_roster, 0);
     let mut bob = session(&rt, &south, &mut south_roster, 0);
     let plan = LinkPlan::default();
-    let (to_north, north_key) = Postbox::new(&rt, rt.alloc(), plan, north.note(&mut ann), 0);
-    let (to_south, south_key) = Postbox::new(&rt, rt.alloc(), plan, south.note(&mut bob), 1);
+    let (to_north, north_key) = Postbox::new(rt.alloc(), plan, north.note(&mut ann), 0).expect(
+        &rt,
+        "a postbox",
+    );
+    let (to_south, south_key) = Postbox::new(rt.alloc(), plan, south.note(&mut bob), 1).expect(
+        &rt,
+        "a postbox",
+    );
     let values = thread::join(
         &rt,
         || visit(&rt, &desk, &north, ann, &to_north, &to_south),
@@ -70,8 +90,8 @@ fn two_nodes_on_threads(rt: HostRuntime) -> Result<(), Fail> {
     );
     to_north.end(&rt, north_key);
     to_south.end(&rt, south_key);
-    let north = north.finish(&rt, north_roster).stored;
-    let south = south.finish(&rt, south_roster).stored;
+    let north = north.end(&rt, north_roster).stored;
+    let south = south.end(&rt, south_roster).stored;
     let said = said_of(rt.alloc(), &config, &[&north, &south])?;
     assert_eq!(rt; values, (2, 2));
     assert_eq!(rt; said.items(), SAID);

@@ -89,7 +89,7 @@ fn two_threads_write_at_a_node(rt: HostRuntime) -> Result<(), Fail> {
             requires { IsSessionOf node other }
         { write_often(&rt, &node, other) },
     );
-    let ended = node.finish(&rt, roster);
+    let ended = node.end(&rt, roster);
     stand_once(&rt, &one, &other);
     assert_eq!(rt; ended.stored.pairs().len(), 2 * WRITES);
     Ok(())

@@ -1,0 +1,7 @@
+//! Inboxes for one replica, which threads share.
+#![tactic(auto)]
+
+mod post;
+mod postbox;
+
+pub use postbox::{Key, Postbox};

@@ -1,0 +1,171 @@
+-- What nodes leave when they end.
+use Rattle.std.proofs.Common.{◌≡◌, ℕ, ◌+◌, ◌<◌, ◌⊎◌, inl, inr, List, [], ◌∷◌, ◌++◌, All, Contains, drop, length, get_or, map, refl, sym, ap, ◌∙◌, subst, ⊎_elim, arith}
+use Rattle.std.specs.List.{list_any}
+use Rattle.std.proofs.lemmas.Bool.{cases_eq, cases_lt, false_from_ne_true}
+use Rattle.std.proofs.lemmas.List.{append-nil, drop-drop, get_or-drop, get_or_append_left, get_or_at, get_or_push, length-append, length_push, nil_from_length}
+use Rattle.std.proofs.lemmas.List.Elements.{All-head, All-tail}
+use Rattle.tact_base.proofs.ElementLemmas.{Contains-cases, Contains-first, Contains-later, Contains-none}
+use Rattle.tact_base.specs.declared.limits.TheConstants.{CLIENTS}
+use Rattle.run_model.specs.Histories.{calls_in}
+use Rattle.run_model.specs.declared.entry.Entry.{Entry}
+use Rattle.run_history.specs.Seats.{ClerkView, DeskView, NoteView}
+use Rattle.run_history.specs.Ticks.{entries_of}
+use Rattle.replica_lock.specs.Rosters.{AreAllSessions}
+use Rattle.replica_lock.specs.Sessions.{NodeView, SessionView, own_calls}
+use Rattle.work_load.specs.Clients.{is_of}
+use Rattle.work_load.specs.declared.plan.Client.{Client}
+use Rattle.run_work.specs.Ends.{AreWhole, IsDrawn, IsWhole, noted_calls}
+use Rattle.run_work.specs.Sites.{IsNodeAt}
+use Rattle.run_work.specs.declared.seat.End.{End}
+use Rattle.run_work.proofs.Noted.{among-is_of, noted_calls-none}
+
+-- the clerk that a node left, and of which calls its part is
+pub record IsLeft (node : NodeView) (end : End) (clerk : ClerkView) : Type 0 where
+  pub table : clerk.table ≡ node.desk.table
+  pub replica : clerk.replica ≡ node.replica
+  pub sessions : AreAllSessions end.roster.clients end.sessions.items (entries_of clerk.pairs)
+
+-- one of each of the first nodes
+abbrev pub AreLeft : List NodeView → List End → List ClerkView → Type 0
+AreLeft nodes ends clerks = (replica : ℕ) (no_node : NodeView) (no_end : End) (none : ClerkView) → replica < length clerks
+    → IsLeft (get_or nodes replica no_node) (get_or ends replica no_end) (get_or clerks replica none)
+
+-- an element after some others, and those behind it
+pub stands_at : {A : Type 0} (before : List A) (one : A) (after all : List A) (d : A)
+    → before ++ one ∷ after ≡ all
+    → get_or all (length before) d ≡ one
+stands_at before one after all d whole = ap (λ (xs : List _). get_or xs (length before) d) (sym whole) ∙ get_or_at before one after d (length before) refl
+
+pub count_at : {A : Type 0} (before : List A) (one : A) (after all : List A)
+    → before ++ one ∷ after ≡ all
+    → length before < length all
+count_at before one after all whole = omega (arith, ap length whole, length-append before (one ∷ after))
+
+-- all were there when none is left
+pub all_there : {A : Type 0} (before rest all : List A)
+    → before ++ rest ≡ all
+    → length rest ≡ 0
+    → before ≡ all
+all_there before rest all whole none =
+    sym (append-nil before) ∙ ap (λ (items : List _). before ++ items) (sym (nil_from_length rest none)) ∙ whole
+
+-- the first that are left behind some, and the others
+pub first_dropped : {A : Type 0} (all : List A) (at : ℕ) (one : A) (rest : List A) (d : A)
+    → one ∷ rest ≡ drop at all
+    → get_or all at d ≡ one
+first_dropped all at one rest d is =
+    let here : at ≡ at + 0 = omega arith in
+    ap (λ (k : ℕ). get_or all k d) here ∙ sym (get_or-drop at all 0 d) ∙ ap (λ (xs : List _). get_or xs 0 d) (sym is)
+
+pub rest_dropped : {A : Type 0} (all : List A) (at : ℕ) (one : A) (rest : List A)
+    → one ∷ rest ≡ drop at all
+    → rest ≡ drop (at + 1) all
+rest_dropped all at one rest is = ap (drop 1) is ∙ drop-drop 1 at all
+
+-- what holds of each element of a list and of one more holds of each of the longer list
+pub at_push : {A : Type 0} (P : ℕ → A → Type 0) (xs : List A) (x : A)
+    → ((k : ℕ) (d : A) → k < length xs → P k (get_or xs k d))
+    → P (length xs) x
+    → (k : ℕ) (d : A) → k < length (xs ++ x ∷ []) → P k (get_or (xs ++ x ∷ []) k d)
+at_push P xs x each last k d within =
+    ⊎_elim
+    (λ (below : k < length xs). subst (P k) (sym (get_or_append_left xs (x ∷ []) d k below)) (each k d below))
+    (λ above.
+    let here : k ≡ length xs = omega (arith, length_push xs x, within, above) in
+    subst (λ (at : ℕ). P at (get_or (xs ++ x ∷ []) at d)) (sym here) (subst (P (length xs)) (sym (get_or_push xs x d (length xs) refl)) last))
+    (cases_lt k (length xs))
+
+-- one more node has left its clerk
+pub AreLeft-more : (nodes : List NodeView) (ends : List End) (clerks : List ClerkView) (node : NodeView) (end : End) (clerk : ClerkView)
+    → length clerks ≡ length nodes
+    → ((d : End) → get_or ends (length nodes) d ≡ end)
+    → IsLeft node end clerk
+    → AreLeft nodes ends clerks
+    → AreLeft (nodes ++ node ∷ []) ends (clerks ++ clerk ∷ [])
+AreLeft-more nodes ends clerks node end clerk size stands one are =
+    λ replica no_node no_end none within.
+    ⊎_elim
+    (λ (below : replica < length clerks).
+    let inside : replica < length nodes = omega (arith, size, below) in
+    subst (λ (n : NodeView). IsLeft n (get_or ends replica no_end) (get_or (clerks ++ clerk ∷ []) replica none)) (sym (get_or_append_left nodes (node ∷ []) no_node replica inside))
+    (subst (IsLeft (get_or nodes replica no_node) (get_or ends replica no_end)) (sym (get_or_append_left clerks (clerk ∷ []) none replica below))
+    (are replica no_node no_end none below)))
+    (λ above.
+    let here : replica ≡ length nodes = omega (arith, size, length_push clerks clerk, within, above) in
+    let same : replica ≡ length clerks = here ∙ sym size in
+    subst (λ (n : NodeView). IsLeft n (get_or ends replica no_end) (get_or (clerks ++ clerk ∷ []) replica none)) (sym (get_or_push nodes node no_node replica (sym here)))
+    (subst (λ (e : End). IsLeft node e (get_or (clerks ++ clerk ∷ []) replica none)) (sym (ap (λ (k : ℕ). get_or ends k no_end) here ∙ stands no_end))
+    (subst (IsLeft node end) (sym (get_or_push clerks clerk none replica (sym same))) one)))
+    (cases_lt replica (length clerks))
+
+-- a number is among others or not
+found : (numbers : List ℕ) (number : ℕ) → Contains numbers number ⊎ (Contains numbers number → ⊥)
+found [] number = inr (Contains-none number)
+found (first ∷ numbers) number =
+    ⊎_elim
+    (λ (same : first ≡ number). inl (Contains-first first number numbers same))
+    (λ (other : first ≡ number → ⊥).
+    ⊎_elim
+    (λ (behind : Contains numbers number). inl (Contains-later first number numbers behind))
+    (λ (none : Contains numbers number → ⊥). inr (λ within. ⊎_elim other none (Contains-cases first number numbers within)))
+    (found numbers number))
+    (cases_eq first number)
+
+-- what holds of each session holds of one that has a number
+of_number : (P : SessionView → Type 0) (sessions : List SessionView) (number : ℕ)
+    → All P sessions
+    → Contains (map (λ (session : SessionView). session.client) sessions) number
+    → (session : SessionView) × (session.client ≡ number) × P session
+of_number P [] number all within = absurd (Contains-none number within)
+of_number P (first ∷ sessions) number all within =
+    ⊎_elim
+    (λ (same : first.client ≡ number). (first, same, All-head P first sessions all))
+    (λ (behind : Contains (map (λ (session : SessionView). session.client) sessions) number). of_number P sessions number (All-tail P first sessions all) behind)
+    (Contains-cases first.client number (map (λ (session : SessionView). session.client) sessions) within)
+
+-- of each client the part has the calls that the client's note has seen
+calls_drawn : (clients : List Client) (notes : List NoteView) (replica : ℕ) (node : NodeView) (end : End) (part : List Entry)
+    → IsWhole clients notes replica node end
+    → AreAllSessions end.roster.clients end.sessions.items part
+    → (number : ℕ) → number < CLIENTS
+    → calls_in part number ≡ length (noted_calls clients notes replica number)
+calls_drawn clients notes replica node end part whole are number below =
+    let HasCalls : SessionView → Type 0 = λ session.
+    (calls_in part session.client ≡ length (own_calls session)) × (own_calls session ≡ noted_calls clients notes replica session.client) in
+    ⊎_elim
+    (λ (within : Contains end.roster.clients number).
+    let one = of_number HasCalls end.sessions.items number (λ k d inside. (are.calls k d inside, whole.calls k d inside))
+    (subst (λ (numbers : List ℕ). Contains numbers number) (sym whole.whole) within) in
+    subst (λ (n : ℕ). calls_in part n ≡ length (noted_calls clients notes replica n)) one.1 (one.2.0 ∙ ap length one.2.1))
+    (λ (none : Contains end.roster.clients number → ⊥).
+    are.others number below none
+    ∙ sym (ap length (noted_calls-none clients notes replica number
+    (false_from_ne_true (list_any (is_of replica number) clients) (λ any. none (whole.among number (among-is_of clients replica number any)))))))
+    (found end.roster.clients number)
+
+-- so a clerk that a node left is drawn
+pub IsDrawn-left : (clients : List Client) (notes : List NoteView) (desk : DeskView) (replica : ℕ) (node : NodeView) (end : End) (clerk : ClerkView)
+    → IsNodeAt desk replica node
+    → IsWhole clients notes replica node end
+    → IsLeft node end clerk
+    → IsDrawn clients notes desk replica clerk
+IsDrawn-left clients notes desk replica node end clerk at whole left = record {
+  table = left.table ∙ ap (λ (d : DeskView). d.table) at.0;
+  replica_is = left.replica ∙ at.1;
+  calls = calls_drawn clients notes replica node end (entries_of clerk.pairs) whole left.sessions;
+}
+
+pub drawn_each : (clients : List Client) (notes : List NoteView) (desk : DeskView) (nodes : List NodeView) (ends : List End) (clerks : List ClerkView)
+    → length clerks ≡ length nodes
+    → ((replica : ℕ) (none : NodeView) → replica < length nodes → IsNodeAt desk replica (get_or nodes replica none))
+    → AreWhole clients notes nodes ends
+    → AreLeft nodes ends clerks
+    → (replica : ℕ) (none : ClerkView) → replica < length clerks
+    → IsDrawn clients notes desk replica (get_or clerks replica none)
+drawn_each clients notes desk [] ends clerks size at whole left replica none within = absurd (omega (arith, size, within))
+drawn_each clients notes desk (node ∷ nodes) [] clerks size at whole left replica none within = absurd (omega (arith, whole.count))
+drawn_each clients notes desk (node ∷ nodes) (end ∷ ends) clerks size at whole left replica none within =
+    let inside : replica < length (node ∷ nodes) = omega (arith, size, within) in
+    let there : replica < length (end ∷ ends) = omega (arith, inside, whole.count) in
+    IsDrawn-left clients notes desk replica (get_or (node ∷ nodes) replica node) (get_or (end ∷ ends) replica end) (get_or clerks replica none)
+    (at replica node inside) (whole.each replica node end there) (left replica node end none within)

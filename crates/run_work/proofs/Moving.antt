@@ -1,0 +1,57 @@
+-- What a client holds after a call that moves some of it.
+use Rattle.std.proofs.Common.{◌≡◌, ℕ, ◌+◌, ◌-◌, ◌<◌, ◌≤◌, List, get_or, set, sym, ap, ◌∙◌, subst, refl, arith}
+use Rattle.std.specs.Prelude.{unsigned_abs}
+use Rattle.tact_base.specs.Setup.{Setup}
+use Rattle.tact_base.specs.declared.conit_list.Weight.{Weight}
+use Rattle.tact_base.specs.declared.write.Op.{Op}
+use Rattle.run_model.specs.Missing.{reserved}
+use Rattle.run_model.specs.declared.call.Reply.TheVariants as reply
+use Rattle.run_model.specs.declared.call.Request.TheVariants as request
+use Rattle.run_model.specs.declared.entry.Entry.{Entry}
+use Rattle.replica_lock.specs.Allowances.{AllowanceView, allowance_of}
+use Rattle.replica_lock.specs.Sessions.{HasCalled, NodeView, SessionView, call_after, own_calls}
+use Rattle.run_work.specs.Holding.{Holds}
+use Rattle.run_work.proofs.HoldingLemmas.{Holds-moved, Moves-held, Moves-held_elsewhere, Moves-released, Moves-released_elsewhere}
+
+-- the allowance on a conit is what is reserved there
+pub allowance-at : (node : NodeView) (calls : List Entry) (allowances : List AllowanceView) (conit : ℕ) (one : AllowanceView)
+    → Holds node calls allowances
+    → conit < node.desk.setup.conits
+    → one ≡ get_or allowances conit one
+    → one ≡ allowance_of node conit (reserved calls conit)
+allowance-at node calls allowances conit one holds within is = is ∙ holds.amounts conit one (omega (arith, holds.conits, within))
+
+module _ (setup : Setup) (node : NodeView) (before after : SessionView) (allowances : List AllowanceView) (holds : Holds node (own_calls before) allowances)
+    (moment conit : ℕ) (within : conit < node.desk.setup.conits) where
+  abbrev held : ℕ
+  held = reserved (own_calls before) conit
+
+  -- a release takes all of it
+  pub Holds-released : HasCalled setup before after moment (request.Release conit held) reply.Released
+      → Holds node (own_calls after) (set allowances conit (allowance_of node conit 0))
+  Holds-released called =
+      let call : Entry = call_after before called.front moment (request.Release conit held) reply.Released in
+      let nothing : 0 ≡ held + 0 - held = omega arith in
+      subst (λ (calls : List Entry). Holds node calls (set allowances conit (allowance_of node conit 0))) (sym called.calls)
+      (Holds-moved node (own_calls before) call allowances conit 0 held (allowance_of node conit 0)
+      (Moves-released call before.client before.calls conit held refl)
+      (λ other apart. Moves-released_elsewhere call before.client before.calls conit held other apart refl)
+      (omega (arith, holds.conits, within)) (omega arith) (ap (allowance_of node conit) nothing) holds)
+
+-- a held write its weight's size
+pub Holds-held : (setup : Setup) (node : NodeView) (before after : SessionView) (allowances : List AllowanceView) (moment : ℕ) (weight : Weight) (op : Op) (index stamp : ℕ)
+    → Holds node (own_calls before) allowances
+    → weight.conit < node.desk.setup.conits
+    → unsigned_abs weight.nweight ≤ reserved (own_calls before) weight.conit
+    → HasCalled setup before after moment (request.Held weight op) (reply.Done index stamp)
+    → Holds node (own_calls after) (set allowances weight.conit (allowance_of node weight.conit (reserved (own_calls before) weight.conit - unsigned_abs weight.nweight)))
+Holds-held setup node before after allowances moment weight op index stamp holds within enough called =
+    let call : Entry = call_after before called.front moment (request.Held weight op) (reply.Done index stamp) in
+    let left = allowance_of node weight.conit (reserved (own_calls before) weight.conit - unsigned_abs weight.nweight) in
+    let less : reserved (own_calls before) weight.conit - unsigned_abs weight.nweight
+    ≡ reserved (own_calls before) weight.conit + 0 - unsigned_abs weight.nweight = omega arith in
+    subst (λ (calls : List Entry). Holds node calls (set allowances weight.conit left)) (sym called.calls)
+    (Holds-moved node (own_calls before) call allowances weight.conit 0 (unsigned_abs weight.nweight) left
+    (Moves-held call before.client before.calls weight op index stamp refl)
+    (λ other apart. Moves-held_elsewhere call before.client before.calls weight op index stamp refl other apart)
+    (omega (arith, holds.conits, within)) (omega (arith, enough)) (ap (allowance_of node weight.conit) less) holds)

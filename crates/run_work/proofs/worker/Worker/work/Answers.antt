@@ -1,0 +1,30 @@
+use Rattle.std.proofs.Common.{◌≡◌, ◌<◌, List, Some, length, get_or, sym, ap, ◌∙◌, subst}
+use Rattle.work_load.specs.declared.plan.Item.{Item}
+use Rattle.replica_lock.specs.Sessions.{own_calls}
+use Rattle.run_work.specs.Trying.{HasBegun, HasDone}
+use Rattle.run_work.specs.Working.{HasWorked, WorkerView}
+use Rattle.run_work.proofs.WorkingLoop.{HasWorked-fault, IsWorking-more}
+use Rattle.run_work.proofs.worker.Worker.work.Goals as goal
+
+pub returns-in-Err-clause-worked : goal.returns-in-Err-clause-worked
+returns-in-Err-clause-worked g c sites fresh =
+    let items : c.items-item-items.result.now ≡ c.args.self.now.client.items =
+    c.items-item-items.ensures ∙ ap (λ (w : WorkerView). w.client.items) c.self.view_is in
+    let among = subst (λ (xs : List Item). c.loop-item.item-index < length xs) items c.loop-item-test.true in
+    let is : c.item-item.result ≡ get_or c.args.self.now.client.items c.loop-item.item-index c.item-item.result =
+    c.item-item.is ∙ ap (λ (xs : List Item). get_or xs c.loop-item.item-index c.item-item.result) items in
+    let begun = subst (λ (i : Item). HasBegun c.args.tries i (own_calls c.loop-item.self.session) (own_calls c.do_item.new.self.session)) is c.in-Err.ensures.begun in
+    subst (λ (w : WorkerView). HasWorked sites c.args.tries (record w { end = Some c.in-Err.fault })) (sym c.self-in-loop-item.view_is)
+    (HasWorked-fault c.args.tries c.args.self.now c.loop-item.item-index c.loop-item.self c.loop-item.invariant c.item-item.result among c.do_item.new.self
+    (record { is = c.do_item.ensures.same }) _ c.do_item.ensures.later c.do_item.ensures.busy c.in-Err.fault c.requires.tries begun c.in-Err.ensures.fault sites fresh)
+
+pub loop-item-preserved : goal.loop-item-preserved
+loop-item-preserved g c =
+    let items : c.items-item-items.result.now ≡ c.args.self.now.client.items =
+    c.items-item-items.ensures ∙ ap (λ (w : WorkerView). w.client.items) c.self.view_is in
+    let among = subst (λ (xs : List Item). c.loop-item.item-index < length xs) items c.loop-item-test.true in
+    let is : c.item-item.result ≡ get_or c.args.self.now.client.items c.loop-item.item-index c.item-item.result =
+    c.item-item.is ∙ ap (λ (xs : List Item). get_or xs c.loop-item.item-index c.item-item.result) items in
+    let done = subst (λ (i : Item). HasDone c.args.tries i (own_calls c.loop-item.self.session) (own_calls c.do_item.new.self.session)) is c.in_default.ensures.done in
+    IsWorking-more c.args.tries c.args.self.now c.loop-item.item-index c.loop-item.self c.loop-item.invariant c.item-item.result among c.do_item.new.self
+    (record { is = c.do_item.ensures.same }) _ c.do_item.ensures.later c.do_item.ensures.busy done

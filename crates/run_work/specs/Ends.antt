@@ -1,0 +1,135 @@
+-- What ends the nodes of a run, and what the sessions of its clients had seen when these came back.
+use Rattle.std.specs.Prelude.{◌≡◌, ◌≢◌, ◌⊎◌, ℕ, ◌<◌, ◌==◌, ◌&&◌, ◌||◌, Bool, nat_lt, List, [], ◌∷◌, ◌++◌, All, Contains, filter, fold, length, map, get_or, if◌then◌else◌, Option, Some, None}
+use Rattle.std.specs.List.{AllZip}
+use Rattle.tact_base.specs.declared.limits.TheConstants.{CLIENTS, HISTORY_MAX}
+use Rattle.run_model.specs.Histories.{calls_in, calls_of, part_of}
+use Rattle.run_model.specs.Taking.{clock}
+use Rattle.run_model.specs.declared.entry.Entry.{Entry}
+use Rattle.run_history.specs.Seats.{ClerkView, DeskView, NoteView}
+use Rattle.run_history.specs.Ticks.{entries_of}
+use Rattle.replica_lock.specs.Rosters.{IsRosterOf}
+use Rattle.replica_lock.specs.Sessions.{IsSessionOf, NodeView, SessionView, own_calls}
+use Rattle.replica_lock.specs.declared.fault.NodeFault.{NodeFault}
+use Rattle.replica_lock.specs.declared.fault.NodeFault.TheVariants as fault
+use Rattle.work_load.specs.Attempts.{Attempts, Begun}
+use Rattle.work_load.specs.Clients.{is_of}
+use Rattle.work_load.specs.declared.plan.Client.{Client}
+use Rattle.postbox.specs.Posts.{PostboxView}
+use Rattle.atomic_table.specs.Seated.{TableId}
+use Rattle.run_work.specs.Sites.{SitesView}
+use Rattle.run_work.specs.Working.{WorkerView}
+use Rattle.run_work.specs.declared.closing.Drawn.{Drawn}
+use Rattle.run_work.specs.declared.leaving.Stop.{Stop}
+use Rattle.run_work.specs.declared.seat.End.{End}
+
+-- the numbers of the clients of a replica, in order
+abbrev pub clients_at : List Client → ℕ → List ℕ
+clients_at clients replica = map (λ client. client.client) (filter (λ client. client.replica == replica) clients)
+
+-- The calls of a client of a replica that the client's note has seen, of notes by client; none where there is no such
+-- client.
+abbrev pub noted_calls : List Client → List NoteView → ℕ → ℕ → List Entry
+noted_calls (client ∷ clients) (note ∷ notes) replica number =
+    if is_of replica number client then calls_of note.seen replica number else noted_calls clients notes replica number
+noted_calls [] notes replica number = []
+noted_calls (client ∷ clients) [] replica number = []
+
+-- What ends a node: its roster, in which the seated clients of the replica are, and the sessions of those that came back,
+-- which have seen the calls that the clients' notes have.
+pub record IsEnd (seated back : List Client) (notes : List NoteView) (replica : ℕ) (node : NodeView) (end : End) : Type 0 where
+  pub roster : IsRosterOf node end.roster
+  pub seated_are : end.roster.clients ≡ clients_at seated replica
+  pub sessions : All (IsSessionOf node) end.sessions.items
+  pub back_are : map (λ (session : SessionView). session.client) end.sessions.items ≡ clients_at back replica
+  pub calls : All (λ (session : SessionView). own_calls session ≡ noted_calls back notes replica session.client) end.sessions.items
+
+-- there is such an end of each node
+pub record AreEnds (seated back : List Client) (notes : List NoteView) (sites : SitesView) (ends : List End) : Type 0 where
+  pub count : length ends ≡ length sites.nodes
+  pub each : (replica : ℕ) (no_node : NodeView) (no_end : End) → replica < length ends
+      → IsEnd seated back notes replica (get_or sites.nodes replica no_node) (get_or ends replica no_end)
+
+-- a session came back to the end of a node
+pub record HasCome (session : SessionView) (at : ℕ) (before after : List End) : Type 0 where
+  pub count : length after ≡ length before
+  pub others : (replica : ℕ) (none : End) → replica ≢ at → get_or after replica none ≡ get_or before replica none
+  pub roster : (none : End) → (get_or after at none).roster ≡ (get_or before at none).roster
+  pub sessions : (none : End) → (get_or after at none).sessions.items ≡ (get_or before at none).sessions.items ++ session ∷ []
+
+-- What ends a node when all sessions are back: those of all clients of its roster, among which are the clients of the
+-- replica. They have seen the calls that the clients' notes have.
+pub record IsWhole (clients : List Client) (notes : List NoteView) (replica : ℕ) (node : NodeView) (end : End) : Type 0 where
+  pub roster : IsRosterOf node end.roster
+  pub sessions : All (IsSessionOf node) end.sessions.items
+  pub whole : map (λ (session : SessionView). session.client) end.sessions.items ≡ end.roster.clients
+  pub among : (number : ℕ) → Contains (clients_at clients replica) number → Contains end.roster.clients number
+  pub calls : All (λ (session : SessionView). own_calls session ≡ noted_calls clients notes replica session.client) end.sessions.items
+
+pub record AreWhole (clients : List Client) (notes : List NoteView) (nodes : List NodeView) (ends : List End) : Type 0 where
+  pub count : length ends ≡ length nodes
+  pub each : (replica : ℕ) (no_node : NodeView) (no_end : End) → replica < length ends
+      → IsWhole clients notes replica (get_or nodes replica no_node) (get_or ends replica no_end)
+
+-- the key of each inbox
+abbrev pub AreKeys : List PostboxView → List TableId → Type 0
+AreKeys inboxes keys = keys ≡ map (λ (inbox : PostboxView). inbox.cell) inboxes
+
+-- what a stop tells of what the session had seen: full, where the replica made as many entries as it may, with both numbers
+abbrev pub IsStopBy : NodeFault → List Entry → Type 0
+IsStopBy (fault.Full count stamp) part = (length part ≡ HISTORY_MAX) × (count ≡ HISTORY_MAX) × (stamp ≡ clock part)
+IsStopBy fault.NoMemory part = Unit {0}
+
+abbrev pub IsStop : DeskView → Stop → Type 0
+IsStop desk stop = (stop.note.table ≡ desk.table) × IsStopBy stop.fault (part_of stop.note.seen stop.replica)
+
+-- what a worker's session has seen, and where its worker stopped
+abbrev pub note_of : WorkerView → NoteView
+note_of worker = record { table = worker.node.desk.table; seen = worker.session.seen }
+
+abbrev pub stop_of : WorkerView → NodeFault → Stop
+stop_of worker fault = record { replica = worker.client.replica; client = worker.client.client; fault = fault; note = note_of worker }
+
+-- of a stop that there was and another it is one
+abbrev pub IsOneOf : Option Stop → Stop → Option Stop → Type 0
+IsOneOf before other after = (stop : Stop) × (after ≡ Some stop) × ((before ≡ Some stop) ⊎ (stop ≡ other))
+
+-- which of two stops comes first, by replica and then by client: the other, where they are of one client
+abbrev pub is_before : Stop → Stop → Bool
+is_before one other = nat_lt one.replica other.replica || (one.replica == other.replica && nat_lt one.client other.client)
+
+abbrev pub first_of : Option Stop → Stop → Stop
+first_of None other = other
+first_of (Some one) other = if is_before one other then one else other
+
+-- where a run stops first once one more worker has ended, and once all have
+abbrev pub stop_with : WorkerView → Option NodeFault → Option Stop → Option Stop
+stop_with worker None before = before
+stop_with worker (Some fault) before = Some (first_of before (stop_of worker fault))
+
+abbrev pub first_stop : List WorkerView → Option Stop
+first_stop workers = fold (λ before (worker : WorkerView). stop_with worker worker.end before) None workers
+
+-- a worker that ended with a fault stopped, and no other
+abbrev pub HasStopped : WorkerView → Option NodeFault → Option Stop → Option Stop → Type 0
+HasStopped worker None before after = after ≡ before
+HasStopped worker (Some fault) before after = IsOneOf before (stop_of worker fault) after
+
+-- what clients' notes have seen of their calls, if no worker stopped and if one did: all items done, or begun
+abbrev pub HasNoted : (List Entry → Type 0) → Client → NoteView → Type 0
+HasNoted Made client note = Made (calls_of note.seen client.replica client.client)
+
+abbrev pub HaveEnded : ℕ → List Client → List NoteView → Option Stop → Type 0
+HaveEnded tries clients notes None = AllZip (λ (client : Client). HasNoted (Attempts tries client.items) client) clients notes
+HaveEnded tries clients notes (Some stop) = AllZip (λ (client : Client). HasNoted (Begun tries client.items) client) clients notes
+
+-- What a node leaves: its clerk, and what this drew. Of each client that has the calls that the client's note has seen.
+pub record IsDrawn (clients : List Client) (notes : List NoteView) (desk : DeskView) (replica : ℕ) (clerk : ClerkView) : Type 0 where
+  pub table : clerk.table ≡ desk.table
+  pub replica_is : clerk.replica ≡ replica
+  pub calls : (number : ℕ) → number < CLIENTS
+      → calls_in (entries_of clerk.pairs) number ≡ length (noted_calls clients notes replica number)
+
+pub record AreDrawn (clients : List Client) (notes : List NoteView) (desk : DeskView) (drawn : Drawn) : Type 0 where
+  pub count : length drawn.clerks.items ≡ desk.setup.replicas
+  pub each : (replica : ℕ) (none : ClerkView) → replica < length drawn.clerks.items → IsDrawn clients notes desk replica (get_or drawn.clerks.items replica none)
+  pub parts : map (λ part. part.items) drawn.parts.items ≡ map (λ (clerk : ClerkView). clerk.pairs) drawn.clerks.items

@@ -1,0 +1,9 @@
+pub mod Holding
+pub mod Trying
+pub mod Sites
+pub mod Working
+pub mod Placing
+pub mod Ends
+pub mod Runs
+pub mod Settling
+pub mod Finished

@@ -1,0 +1,41 @@
+-- What the run of a workload is.
+use Rattle.std.specs.Prelude.{◌≡◌, ℕ, false, List, [], All, length}
+use Rattle.std.specs.List.{list_any}
+use Rattle.tact_base.specs.declared.limits.TheConstants.{HISTORY_MAX}
+use Rattle.run_model.specs.Histories.{calls_of, part_of}
+use Rattle.run_model.specs.Promises.{IsKept}
+use Rattle.run_model.specs.Runs.{IsRun}
+use Rattle.run_model.specs.Taking.{clock}
+use Rattle.run_model.specs.declared.entry.Entry.{Entry}
+use Rattle.work_load.specs.Attempts.{Attempts, Begun}
+use Rattle.work_load.specs.Clients.{is_of}
+use Rattle.work_load.specs.Workloads.{Workload}
+use Rattle.work_load.specs.declared.plan.Client.{Client}
+use Rattle.work_load.specs.declared.plan.Item.{Item}
+use Rattle.run_work.specs.declared.run.RunFault.{RunFault}
+use Rattle.run_work.specs.declared.run.RunFault.TheVariants as fault
+
+-- A history is a run that keeps its promises, with the calls that each client of a plan may have made for its items, and
+-- no calls of others.
+pub record IsRunOf (Made : List Item → List Entry → Type 0) (plan : Workload) (history : List Entry) : Type 0 where
+  pub run : IsRun plan.setup history
+  pub promised : IsKept plan.setup history
+  pub clients : All (λ (client : Client). Made client.items (calls_of history client.replica client.client)) plan.clients
+  pub others : (replica number : ℕ) → list_any (is_of replica number) plan.clients ≡ false → calls_of history replica number ≡ []
+
+-- all items are done
+abbrev pub IsDoneRun : Workload → ℕ → List Entry → Type 0
+IsDoneRun plan tries history = IsRunOf (Attempts tries) plan history
+
+-- Some first items of each client are done and the next may be begun, and a replica has as many entries as it may; with
+-- this number and the replica's clock.
+pub record IsFullRun (plan : Workload) (tries replica count stamp : ℕ) (history : List Entry) : Type 0 where
+  pub run : IsRunOf (Begun tries) plan history
+  pub full : length (part_of history replica) ≡ HISTORY_MAX
+  pub count_is : count ≡ HISTORY_MAX
+  pub clock_is : stamp ≡ clock (part_of history replica)
+
+-- why a run isn't done: a replica is full, with the run up to there, or there was no memory
+abbrev pub IsStoppedRun : Workload → ℕ → RunFault → Type 0
+IsStoppedRun plan tries (fault.Full replica count clock run) = IsFullRun plan tries replica count clock run
+IsStoppedRun plan tries fault.NoMemory = Unit {0}

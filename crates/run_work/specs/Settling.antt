@@ -1,0 +1,83 @@
+-- The replicas of a run while it is settled.
+use Rattle.std.specs.Prelude.{◌≡◌, ◌≢◌, ◌⊎◌, ℕ, ◌<◌, List, [], ◌∷◌, ◌++◌, All, length, get_or}
+use Rattle.std.specs.List.{AllZip}
+use Rattle.tact_base.specs.Setup.{IsSetup}
+use Rattle.run_history.specs.Seats.{DeskView, NoteView}
+use Rattle.link_faults.specs.Inboxes.{InboxState}
+use Rattle.replica_lock.specs.Parcels.{ParcelView}
+use Rattle.replica_lock.specs.Rosters.{IsRosterOf}
+use Rattle.replica_lock.specs.Sessions.{IsSessionOf, NodeView, SessionView, own_calls}
+use Rattle.work_load.specs.declared.plan.Client.{Client}
+use Rattle.run_work.specs.Ends.{AreWhole}
+use Rattle.run_work.specs.Sites.{AreInboxes, IsNodeAt}
+use Rattle.run_work.specs.declared.seat.End.{End}
+
+-- the desk of a run, and by number the nodes of its replicas, what ends these, and the inboxes
+pub record SettlingView : Type 0 where
+  pub desk : DeskView
+  pub nodes : List NodeView
+  pub ends : List End
+  pub inboxes : List (InboxState ParcelView)
+
+-- what ends a node, with sessions of it
+pub record IsEndOf (node : NodeView) (end : End) : Type 0 where
+  pub roster : IsRosterOf node end.roster
+  pub sessions : All (IsSessionOf node) end.sessions.items
+
+-- a session of client 0 without a call, where there was none
+pub record HasOneNew (node : NodeView) (before after : End) : Type 0 where
+  pub none : before.sessions.items ≡ []
+  pub session : SessionView
+  pub one : after.sessions.items ≡ session ∷ []
+  pub of : IsSessionOf node session
+  pub client : session.client ≡ 0
+  pub calls : own_calls session ≡ []
+  pub roster : after.roster ≡ record before.roster { clients = before.roster.clients ++ 0 ∷ [] }
+
+abbrev pub HasSeated : NodeView → End → End → Type 0
+HasSeated node before after = ((after ≡ before) × (0 < length before.sessions.items)) ⊎ HasOneNew node before after
+
+-- there is all of it for each replica
+pub record IsSettling (settling : SettlingView) : Type 0 where
+  pub sound : IsSetup settling.desk.setup
+  pub nodes_are : length settling.nodes ≡ settling.desk.setup.replicas
+  pub ends_are : length settling.ends ≡ length settling.nodes
+  pub inboxes_are : length settling.inboxes ≡ length settling.nodes
+  pub node : (replica : ℕ) (none : NodeView) → replica < length settling.nodes → IsNodeAt settling.desk replica (get_or settling.nodes replica none)
+  pub end : (replica : ℕ) (no_node : NodeView) (no_end : End) → replica < length settling.nodes
+      → IsEndOf (get_or settling.nodes replica no_node) (get_or settling.ends replica no_end)
+  pub inbox : AreInboxes settling.desk settling.inboxes
+
+-- each replica has a session
+abbrev pub AreReady : SettlingView → Type 0
+AreReady settling = (replica : ℕ) (none : End) → replica < length settling.nodes → 0 < length (get_or settling.ends replica none).sessions.items
+
+-- a replica has a session, where it had none one of client 0
+pub record IsSeatedAt (replica : ℕ) (before after : SettlingView) : Type 0 where
+  pub desk : after.desk ≡ before.desk
+  pub nodes : after.nodes ≡ before.nodes
+  pub count : length after.ends ≡ length before.ends
+  pub others : (other : ℕ) (none : End) → other ≢ replica → get_or after.ends other none ≡ get_or before.ends other none
+  pub seated : (no_node : NodeView) (none : End) → HasSeated (get_or before.nodes replica no_node) (get_or before.ends replica none) (get_or after.ends replica none)
+
+-- a session has gone on without a call
+pub record HasStayed (before after : SessionView) : Type 0 where
+  pub value : after ≡ record before { made = after.made; seen = after.seen }
+  pub calls : own_calls after ≡ own_calls before
+
+-- so have all sessions of a replica
+pub record HasGoneOn (before after : End) : Type 0 where
+  pub roster : after.roster ≡ before.roster
+  pub sessions : AllZip HasStayed before.sessions.items after.sessions.items
+
+-- and of all replicas
+pub record HaveGoneOn (before after : SettlingView) : Type 0 where
+  pub desk : after.desk ≡ before.desk
+  pub nodes : after.nodes ≡ before.nodes
+  pub ends : AllZip HasGoneOn before.ends after.ends
+
+-- the replicas are settled: what their sessions have seen of their clients' calls is what it was
+pub record AreSettled (before after : SettlingView) : Type 0 where
+  pub desk : after.desk ≡ before.desk
+  pub nodes : after.nodes ≡ before.nodes
+  pub ends : (clients : List Client) (notes : List NoteView) → AreWhole clients notes before.nodes before.ends → AreWhole clients notes after.nodes after.ends

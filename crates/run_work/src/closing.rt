@@ -1,0 +1,78 @@
+//! How a run ends: its inboxes, its nodes, and the history of all that was drawn.
+ghost use Rattle.std.specs.Prelude.{◌≡◌, ◌<◌, IfOk, List, ℕ, get_or, length};
+ghost use Rattle.run_history.specs.Seats.{DeskView, NoteView};
+ghost use Rattle.replica_lock.specs.Sessions.{NodeView};
+ghost use Rattle.postbox.specs.Posts.{PostboxView};
+ghost use Rattle.work_load.specs.declared.plan.Client.{Client};
+ghost use Rattle.run_work.specs.Ends.{AreDrawn, AreKeys, AreWhole};
+ghost use Rattle.run_work.specs.Sites.{AreInboxes, IsInboxAt, IsNodeAt};
+
+use crate::seat::End;
+use link_faults::Inbox;
+use postbox::{Key, Postbox};
+use replica_lock::{Ended, Node, Parcel};
+use run_history::Clerk;
+use run_model::Entry;
+use std::alloc::Global;
+use std::sync::Wait;
+use tact_base::{NoMemory, RoomyList};
+use tact_io::Gate;
+
+/// By replica, the clerks of a run and the entries that they drew, with their ticks.
+#[derive(Drop)]
+pub(crate) struct Drawn {
+    pub(crate) clerks: Vec<Clerk>,
+    pub(crate) parts: Vec<RoomyList<(u64, Entry)>>,
+}
+
+/// Ends the inboxes, each with its key. `NoMemory` is the only error.
+pub(crate) fn end_inboxes<R: Wait>(
+    rt: &R,
+    alloc: Global,
+    inboxes: Vec<Postbox>,
+    keys: Vec<Key>,
+) -> Result<Vec<Inbox<Parcel>>, NoMemory>
+    requires keys { AreKeys inboxes.items keys.items }
+    ensures { (desk : DeskView) → ((replica : ℕ) (none : PostboxView) → replica < length inboxes.items → IsInboxAt desk replica (get_or inboxes.items replica none))
+        → IfOk result (λ ended. (length ended.items ≡ length inboxes.items) × AreInboxes desk ended.items) }
+{
+    let mut ended = Vec::new(alloc);
+    let mut keys = keys.into_iter();
+    for inbox in inboxes {
+        let Some(key) = keys.next() else {
+            unreachable!()
+        };
+        ended.push(inbox.end(rt, key))?;
+    }
+    Ok(ended)
+}
+
+/// Ends the nodes, each with its roster and the sessions of its clients. `NoMemory` is the only error.
+pub(crate) fn finish_all<R: Wait, G: Gate>(
+    rt: &R,
+    alloc: Global,
+    nodes: Vec<Node<'_, G>>,
+    ends: Vec<End>,
+) -> Result<Drawn, NoMemory>
+    requires ends { (clients : List Client) × (notes : List NoteView) × AreWhole clients notes nodes.items ends.items }
+    ensures { (desk : DeskView) (clients : List Client) (notes : List NoteView)
+        → (length nodes.entry.items ≡ desk.setup.replicas)
+        → ((replica : ℕ) (none : NodeView) → replica < length nodes.entry.items → IsNodeAt desk replica (get_or nodes.entry.items replica none))
+        → AreWhole clients notes nodes.entry.items ends.items
+        → IfOk result (AreDrawn clients notes desk) }
+{
+    let mut drawn = Drawn {
+        clerks: Vec::new(alloc),
+        parts: Vec::new(alloc),
+    };
+    let mut ends = ends.into_iter();
+    for node in nodes {
+        let Some(End { roster, sessions }) = ends.next() else {
+            unreachable!()
+        };
+        let Ended { clerk, stored } = node.finish(rt, roster, sessions);
+        drawn.clerks.push(clerk)?;
+        drawn.parts.push(stored.into_pairs())?;
+    }
+    Ok(drawn)
+}

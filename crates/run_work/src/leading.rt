@@ -1,0 +1,129 @@
+//! What a replica does on behalf of its least client, when its workers have ended.
+ghost use Rattle.std.specs.Prelude.{◌≡◌, ◌≢◌, ◌<◌, IfErr, IfOk, OnOk, length, map};
+ghost use Rattle.replica_lock.specs.Sessions.{IsFaultSeen, IsSessionOf};
+ghost use Rattle.postbox.specs.Posts.{IsFor};
+ghost use Rattle.run_work.specs.Ends.{IsStop};
+ghost use Rattle.run_work.specs.Settling.{HasGoneOn, HasSeated, IsEndOf};
+
+use crate::leaving::Stop;
+use crate::seat::{End, session_of};
+use crate::worker::moment;
+use replica_lock::{Node, NodeFault, Parcel, Session, TakeFault};
+use run_history::Note;
+use std::sync::Wait;
+use tact_base::NoMemory;
+use tact_io::{Clock, Gate};
+
+impl End {
+    /// A session of client 0 where there is none. `NoMemory` is the only error.
+    pub(crate) fn seat<G: Gate>(&mut self, node: &Node<'_, G>) -> Result<(), NoMemory>
+        requires end { IsEndOf node.now self.old }
+        requires whole { map (λ session. session.client) self.old.sessions.items ≡ self.old.roster.clients }
+        ensures end { IsEndOf node.now self.new }
+        ensures seated { OnOk result (HasSeated node.now self.old self.new) }
+    {
+        if self.sessions.is_empty() {
+            let session = session_of(node, &mut self.roster, 0)?;
+            self.sessions.push(session)?;
+        }
+        Ok(())
+    }
+
+    // The place of the session of the least client.
+    fn lead(&self) -> usize
+        requires { 0 < length self.now.sessions.items }
+        ensures { result < length self.now.sessions.items }
+    {
+        let mut least = 0;
+        for place in 1..self.sessions.len() {
+            if self.sessions[place].client() < self.sessions[least].client() {
+                least = place;
+            }
+        }
+        least
+    }
+
+    /// Sends to another replica.
+    pub(crate) fn send<R: Wait, C: Clock, G: Gate>(
+        &mut self,
+        rt: &R,
+        clock: &C,
+        node: &Node<'_, G>,
+        to: u32,
+    ) -> Result<Parcel, Stop>
+        requires end { IsEndOf node.now self.old }
+        requires ready { 0 < length self.old.sessions.items }
+        requires to { to < node.now.desk.setup.replicas }
+        requires other { to ≢ node.now.replica }
+        ensures on { HasGoneOn self.old self.new }
+        ensures parcel { IfOk result (IsFor node.now.desk.table to) }
+        ensures stop { IfErr result (IsStop node.now.desk) }
+    {
+        let lead = self.lead();
+        let session = &mut self.sessions[lead];
+        match node.send(rt, session, moment(clock), to) {
+            Ok(parcel) => Ok(parcel),
+            Err(fault) => Err(stop(node, session, fault)),
+        }
+    }
+
+    /// Takes a parcel.
+    pub(crate) fn take<R: Wait, C: Clock, G: Gate>(
+        &mut self,
+        rt: &R,
+        clock: &C,
+        node: &Node<'_, G>,
+        parcel: Parcel,
+    ) -> Result<(), Stop>
+        requires end { IsEndOf node.now self.old }
+        requires ready { 0 < length self.old.sessions.items }
+        requires parcel { IsFor node.now.desk.table node.now.replica parcel }
+        ensures on { HasGoneOn self.old self.new }
+        ensures stop { IfErr result (IsStop node.now.desk) }
+    {
+        let lead = self.lead();
+        let session = &mut self.sessions[lead];
+        let Err(refused) = node.take(rt, session, moment(clock), parcel) else {
+            return Ok(());
+        };
+        let TakeFault { fault, parcel: _ } = refused;
+        Err(stop(node, session, fault))
+    }
+
+    /// Hears what a note has seen.
+    pub(crate) fn hear<R: Wait, G: Gate>(&mut self, rt: &R, node: &Node<'_, G>, note: Note)
+        requires end { IsEndOf node.now self.old }
+        requires ready { 0 < length self.old.sessions.items }
+        requires note { note.table ≡ node.now.desk.table }
+        ensures on { HasGoneOn self.old self.new }
+    {
+        let lead = self.lead();
+        node.hear(rt, &mut self.sessions[lead], note);
+    }
+
+    /// That there was no memory for the replica.
+    pub(crate) fn no_memory<G: Gate>(&mut self, node: &Node<'_, G>) -> Stop
+        requires end { IsEndOf node.now self.old }
+        requires ready { 0 < length self.old.sessions.items }
+        ensures on { HasGoneOn self.old self.new }
+        ensures stop { IsStop node.now.desk result }
+    {
+        let lead = self.lead();
+        stop(node, &mut self.sessions[lead], NodeFault::NoMemory)
+    }
+}
+
+// Where a session's replica stopped, and what the session has seen.
+fn stop<G: Gate>(node: &Node<'_, G>, session: &mut Session, fault: NodeFault) -> Stop
+    requires session { IsSessionOf node.now session.old }
+    requires fault { IsFaultSeen session.old fault }
+    ensures session { session.new ≡ session.old }
+    ensures stop { IsStop node.now.desk result }
+{
+    Stop {
+        replica: session.replica(),
+        client: session.client(),
+        fault,
+        note: node.note(session),
+    }
+}

@@ -1,0 +1,104 @@
+//! What the workers leave when all have ended.
+ghost use Rattle.std.specs.Prelude.{◌≡◌, ◌<◌, ◌++◌, ◌∷◌, [], All, IfOk, IfSome, OnOk, length, map, Some};
+ghost use Rattle.run_work.specs.Ends.{AreEnds, HasCome, HasStopped, HaveEnded, IsOneOf, IsStop, first_of, first_stop, note_of, stop_with};
+ghost use Rattle.run_work.specs.Working.{HasWorked};
+ghost use Rattle.work_load.specs.Entries.{EachAfter};
+ghost use Rattle.work_load.specs.Ranges.{IsClientAfter};
+
+use crate::seat::{End, stand};
+use crate::site::Sites;
+use crate::worker::Worker;
+use replica_lock::NodeFault;
+use run_history::Note;
+use std::alloc::Global;
+use tact_base::NoMemory;
+use tact_io::Gate;
+
+/// Where a run stopped: the replica and the client for which no entry was made, why, and what the session had seen.
+#[derive(Drop)]
+pub(crate) struct Stop {
+    pub(crate) replica: u32,
+    pub(crate) client: u32,
+    pub(crate) fault: NodeFault,
+    pub(crate) note: Note,
+}
+
+/// What the workers leave: by client, what its session had seen; and where the run stopped first, by replica and then
+/// by client.
+#[derive(Drop)]
+pub(crate) struct Left {
+    pub(crate) notes: Vec<Note>,
+    pub(crate) stop: Option<Stop>,
+}
+
+/// Gives the sessions of workers back, each to its replica. `NoMemory` is the only error.
+pub(crate) fn leave_all<G: Gate>(
+    alloc: Global,
+    sites: &Sites<'_, '_, G>,
+    tries: u64,
+    workers: Vec<Worker<'_, '_, '_, G>>,
+    ends: &mut [End],
+) -> Result<Left, NoMemory>
+    requires workers { All (HasWorked sites.now tries) workers.items }
+    requires ends { AreEnds (map (λ worker. worker.client) workers.items) [] [] sites.now ends.old }
+    requires clients { EachAfter (IsClientAfter sites.now.desk.setup.replicas sites.now.desk.setup.conits) [] (map (λ worker. worker.client) workers.items) }
+    ensures ends { IfOk result (λ left. AreEnds (map (λ worker. worker.client) workers.entry.items) (map (λ worker. worker.client) workers.entry.items) left.notes.items sites.now ends.new) }
+    ensures ended { IfOk result (λ left. HaveEnded tries (map (λ worker. worker.client) workers.entry.items) left.notes.items left.stop) }
+    ensures notes { IfOk result (λ left. All (λ note. note.table ≡ sites.now.desk.table) left.notes.items) }
+    ensures stop { IfOk result (λ left. IfSome left.stop (IsStop sites.now.desk)) }
+    ensures first { IfOk result (λ left. left.stop ≡ first_stop workers.entry.items) }
+{
+    stand(sites);
+    let mut left = Left {
+        notes: Vec::new(alloc),
+        stop: None,
+    };
+    for worker in workers {
+        leave(worker, ends, &mut left)?;
+    }
+    Ok(left)
+}
+
+// Gives the session of a worker back.
+fn leave<G: Gate>(
+    worker: Worker<'_, '_, '_, G>,
+    ends: &mut [End],
+    left: &mut Left,
+) -> Result<(), NoMemory>
+    requires replica { worker.client.replica < length ends.old }
+    ensures note { OnOk result (left.new.notes.items ≡ left.old.notes.items ++ note_of worker.entry ∷ []) }
+    ensures stop { OnOk result (HasStopped worker.entry worker.entry.end left.old.stop left.new.stop) }
+    ensures first { OnOk result (left.new.stop ≡ stop_with worker.entry worker.entry.end left.old.stop) }
+    ensures end { OnOk result (HasCome worker.entry.session worker.entry.client.replica ends.old ends.new) }
+{
+    let Worker {
+        node,
+        client,
+        mut session,
+        end,
+        ..
+    } = worker;
+    left.notes.push(node.note(&mut session))?;
+    if let Some(fault) = end {
+        let stop = Stop {
+            replica: client.replica,
+            client: client.client,
+            fault,
+            note: node.note(&mut session),
+        };
+        left.stop = earlier(left.stop.take(), stop);
+    }
+    ends[client.replica as usize].sessions.push(session)?;
+    Ok(())
+}
+
+// Of two stops the first by replica and then by client.
+fn earlier(one: Option<Stop>, other: Stop) -> Option<Stop>
+    ensures one_of { IsOneOf one other result }
+    ensures first { result ≡ Some (first_of one other) }
+{
+    match one {
+        Some(one) if (one.replica, one.client) < (other.replica, other.client) => Some(one),
+        _ => Some(other),
+    }
+}

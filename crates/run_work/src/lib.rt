@@ -1,0 +1,17 @@
+//! Workloads on threads: a worker for each client, over links that lose, double and turn what is sent.
+#![tactic(auto)]
+
+mod closing;
+mod leading;
+mod leaving;
+mod merge;
+mod run;
+mod seat;
+mod settling;
+mod site;
+mod tending;
+mod trying;
+mod worker;
+mod working;
+
+pub use run::{Run, RunFault, run_plan};

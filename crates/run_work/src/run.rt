@@ -1,0 +1,301 @@
+//! The run of a plan.
+ghost use Rattle.std.specs.Prelude.{◌≡◌, ◌<◌, [], All, IfErr, IfOk, IfSome, List, None, OnOk, ℕ, length, map};
+ghost use Rattle.run_model.specs.Histories.{IsPrefix};
+ghost use Rattle.run_history.specs.Seats.{fresh_clerks, NoteView};
+ghost use Rattle.work_load.specs.Workloads.{IsWorkload};
+ghost use Rattle.work_load.specs.declared.plan.Client.{Client};
+ghost use Rattle.run_work.specs.Ends.{AreEnds, AreWhole, HaveEnded, IsStop};
+ghost use Rattle.run_work.specs.Finished.{HasFinished, IsFaultOf};
+ghost use Rattle.run_work.specs.Runs.{IsDoneRun, IsStoppedRun};
+ghost use Rattle.run_work.specs.Settling.{AreSettled};
+ghost use Rattle.run_work.specs.Working.{HasWorked, IsFresh};
+
+use crate::closing::{Drawn, end_inboxes, finish_all};
+use crate::leaving::{Left, Stop, leave_all};
+use crate::merge::in_order;
+use crate::seat::{End, Opened, open, seat_all, stand};
+use crate::settling::Settling;
+use crate::site::Sites;
+use crate::worker::Worker;
+use replica_lock::NodeFault;
+use run_history::{Clerk, Desk, History, Note};
+use run_model::Entry;
+use std::alloc::Global;
+use std::marker::Model;
+use std::sync::Wait;
+use std::thread;
+use std::thread::Threads;
+use tact_base::NoMemory;
+use tact_io::{Clock, Gate};
+use work_load::Plan;
+
+/// A run that has ended: its history, and the entries of this in order of ticks.
+#[derive(Drop)]
+pub struct Run {
+    history: History,
+    entries: Vec<Entry>,
+}
+
+impl Model for Run {
+    ghost use Rattle.std.specs.Prelude.{◌≡◌, List};
+    ghost use Rattle.run_model.specs.declared.entry.Entry.{Entry};
+
+    ghost Value = { List Entry };
+
+    ghost view = { λ r. r.entries.items };
+
+    ghost invariant = { λ r. r.entries.items ≡ r.history };
+}
+
+impl Run {
+    ghost use Rattle.std.specs.Prelude.{◌≡◌};
+
+    /// The entries, in the order in which they were drawn.
+    pub fn entries(&self) -> &[Entry]
+        ensures { result.now ≡ self.now }
+    {
+        self.entries.as_slice()
+    }
+}
+
+/// Why a plan wasn't run to its end.
+#[derive(Drop)]
+pub enum RunFault {
+    /// This replica has as many entries as it may, `count`, and its clock stands at `clock`; with the run up to there.
+    Full {
+        replica: u32,
+        count: u64,
+        clock: u64,
+        run: Run,
+    },
+    /// An allocation was refused.
+    NoMemory,
+}
+
+impl From<NoMemory> for RunFault {
+    ghost use Rattle.std.specs.Prelude.{◌≡◌};
+    ghost use Rattle.run_work.specs.declared.run.RunFault.TheVariants as fault;
+
+    ghost from_gives = { λ _ made. made ≡ fault.NoMemory };
+
+    fn from(_fault: NoMemory) -> Self {
+        RunFault::NoMemory
+    }
+}
+
+// What is left of a run when its nodes have ended.
+#[derive(Drop)]
+struct Finished {
+    drawn: Drawn,
+    stop: Option<Stop>,
+}
+
+/// Runs a plan: a worker for each client does its items in order, each tried until its reply is final, at most `tries`
+/// times. When all have ended without a refusal, the plan's rounds settle the replicas. A run that a refusal stopped
+/// comes back in the fault, as far as it went.
+pub fn run_plan<R: Threads + Wait + Sync, C: Clock + Sync, G: Gate + Sync>(
+    rt: &R,
+    alloc: Global,
+    plan: &Plan,
+    tries: u64,
+    clock: &C,
+    gate: &G,
+) -> Result<Run, RunFault>
+    requires tries { 0 < tries }
+    ensures done { IfOk result (IsDoneRun plan.now tries) }
+    ensures full { IfErr result (IsStoppedRun plan.now tries) }
+{
+    let (desk, clerks) = Desk::new(alloc, plan.config())?;
+    let Finished { drawn, stop } = run_on(rt, alloc, &desk, plan, clerks, tries, clock, gate)?;
+    let history = desk.close(drawn.clerks);
+    let entries = in_order(alloc, &history, drawn.parts)?;
+    end_run(Run { history, entries }, stop)
+}
+
+// A run, or why it stopped.
+fn end_run(run: Run, stop: Option<Stop>) -> Result<Run, RunFault>
+    ensures done { IfOk result (λ ended. (ended ≡ run) × (stop ≡ None)) }
+    ensures stopped { IfErr result (IsFaultOf run stop) }
+{
+    match stop {
+        None => Ok(run),
+        Some(
+            Stop {
+                replica,
+                fault: NodeFault::Full { count, clock },
+                ..
+            },
+        ) => Err(RunFault::Full {
+            replica,
+            count,
+            clock,
+            run,
+        }),
+        Some(_) => Err(RunFault::NoMemory),
+    }
+}
+
+// Runs a plan on a desk whose clerks drew nothing.
+fn run_on<R: Threads + Wait + Sync, C: Clock + Sync, G: Gate + Sync>(
+    rt: &R,
+    alloc: Global,
+    desk: &Desk,
+    plan: &Plan,
+    clerks: Vec<Clerk>,
+    tries: u64,
+    clock: &C,
+    gate: &G,
+) -> Result<Finished, NoMemory>
+    requires tries { 0 < tries }
+    requires plan { IsWorkload plan.now }
+    requires setup { desk.now.setup ≡ plan.now.setup }
+    requires clerks { clerks.items ≡ fresh_clerks desk.now }
+    ensures { IfOk result (HasFinished plan.now tries desk.now) }
+{
+    let Opened {
+        sites,
+        mut ends,
+        keys,
+    } = open(alloc, desk, plan, clerks, gate)?;
+    let Left { notes, stop } = work_all(
+        rt,
+        alloc,
+        &sites,
+        ends.as_mut_slice(),
+        plan,
+        tries,
+        clock,
+    )?;
+    let mut note = join_all(desk, notes);
+    stand(&sites);
+    let Sites { nodes, inboxes, .. } = sites;
+    let inboxes = end_inboxes(rt, alloc, inboxes, keys)?;
+    let mut settling = Settling {
+        desk,
+        nodes,
+        ends,
+        inboxes,
+    };
+    let mut stop = settle_after(rt, clock, &mut settling, plan.settle(), &mut note, stop)?;
+    let Settling { nodes, ends, .. } = settling;
+    let mut drawn = finish_all(rt, alloc, nodes, ends)?;
+    learn_first(&mut drawn.clerks[0], desk, note, &mut stop);
+    Ok(Finished { drawn, stop })
+}
+
+// Settles the replicas by so many rounds, where the workers did not stop.
+#[tactic(auto, using(crate::proofs::Settled::are_settled_same))]
+fn settle_after<R: Wait, C: Clock, G: Gate>(
+    rt: &R,
+    clock: &C,
+    settling: &mut Settling<'_, '_, G>,
+    rounds: u64,
+    note: &mut Note,
+    stop: Option<Stop>,
+) -> Result<Option<Stop>, NoMemory>
+    requires whole { (clients : List Client) × (noted : List NoteView) × AreWhole clients noted settling.old.nodes settling.old.ends }
+    requires note { note.old.table ≡ settling.old.desk.table }
+    requires stop { IfSome stop (IsStop settling.old.desk) }
+    ensures note { note.new ≡ note.old }
+    ensures settled { OnOk result (AreSettled settling.old settling.new) }
+    ensures stop { IfOk result (λ after. IfSome after (IsStop settling.old.desk)) }
+    ensures ended { (tries : ℕ) (clients : List Client) (noted : List NoteView)
+        → HaveEnded tries clients noted stop → IfOk result (HaveEnded tries clients noted) }
+{
+    if let Some(stop) = stop {
+        return Ok(Some(stop));
+    }
+    if rounds == 0 {
+        return Ok(None);
+    }
+    settling.settle(rt, clock, rounds, note)
+}
+
+// A note of what all notes have seen, of which there is one at least.
+fn join_all(desk: &Desk, mut notes: Vec<Note>) -> Note
+    requires some { 0 < length notes.items }
+    requires notes { All (λ note. note.table ≡ desk.now.table) notes.items }
+    ensures table { result.table ≡ desk.now.table }
+    ensures notes { All (λ note. IsPrefix note.seen result.seen) notes.items }
+{
+    let Some(mut joined) = notes.pop() else {
+        unreachable!()
+    };
+    meet_all(&mut joined, desk, notes);
+    joined
+}
+
+// Lets a note take in what others have seen.
+fn meet_all(note: &mut Note, desk: &Desk, others: Vec<Note>)
+    requires note { note.old.table ≡ desk.now.table }
+    requires others { All (λ other. other.table ≡ desk.now.table) others.items }
+    ensures table { note.new.table ≡ note.old.table }
+    ensures mine { IsPrefix note.old.seen note.new.seen }
+    ensures others { All (λ other. IsPrefix other.seen note.new.seen) others.items }
+{
+    for other in others {
+        note.meet(desk, other);
+    }
+}
+
+// Lets a clerk learn what a note has seen, and that of a stop, so that the history begins with it.
+fn learn_first(clerk: &mut Clerk, desk: &Desk, note: Note, stop: &mut Option<Stop>)
+    requires clerk { clerk.old.table ≡ desk.now.table }
+    requires note { note.table ≡ desk.now.table }
+    requires stop { IfSome stop.old (IsStop desk.now) }
+    ensures clerk { clerk.new ≡ record clerk.old { seen = clerk.new.seen } }
+    ensures note { IsPrefix note.seen clerk.new.seen }
+    ensures stop { stop.new ≡ stop.old }
+    ensures heard { IfSome stop.old (λ stop. IsPrefix stop.note.seen clerk.new.seen) }
+{
+    clerk.learn(desk, note);
+    if let Some(stop) = stop {
+        clerk.learn(desk, stop.note.twin(desk));
+    }
+}
+
+// Each client's worker does its items, in a thread of its own, and gives its session back.
+fn work_all<R: Threads + Wait + Sync, C: Clock + Sync, G: Gate + Sync>(
+    rt: &R,
+    alloc: Global,
+    sites: &Sites<'_, '_, G>,
+    ends: &mut [End],
+    plan: &Plan,
+    tries: u64,
+    clock: &C,
+) -> Result<Left, NoMemory>
+    requires tries { 0 < tries }
+    requires setup { sites.now.desk.setup ≡ plan.now.setup }
+    requires ends { AreEnds [] [] [] sites.now ends.old }
+    ensures ends { IfOk result (λ left. AreEnds plan.now.clients plan.now.clients left.notes.items sites.now ends.new) }
+    ensures ended { IfOk result (λ left. HaveEnded tries plan.now.clients left.notes.items left.stop) }
+    ensures notes { IfOk result (λ left. All (λ note. note.table ≡ sites.now.desk.table) left.notes.items) }
+    ensures stop { IfOk result (λ left. IfSome left.stop (IsStop sites.now.desk)) }
+{
+    let mut workers = seat_all(alloc, sites, ends, plan.clients())?;
+    work_each(rt, sites, tries, clock, workers.as_mut_slice());
+    leave_all(alloc, sites, tries, workers, ends)
+}
+
+// Each worker does its items, in a thread of its own.
+fn work_each<R: Threads + Wait + Sync, C: Clock + Sync, G: Gate + Sync>(
+    rt: &R,
+    sites: &Sites<'_, '_, G>,
+    tries: u64,
+    clock: &C,
+    workers: &mut [Worker<'_, '_, '_, G>],
+)
+    requires tries { 0 < tries }
+    requires some { 0 < length workers.old }
+    requires fresh { All (IsFresh sites.now) workers.old }
+    ensures worked { All (HasWorked sites.now tries) workers.new }
+    ensures clients { map (λ worker. worker.client) workers.new ≡ map (λ worker. worker.client) workers.old }
+{
+    let threads = workers.len();
+    thread::for_each_mut(
+        rt,
+        workers,
+        threads,
+        &|_, worker| { worker.work(rt, clock, tries) },
+    );
+}
