@@ -1,4 +1,5 @@
 //! Workers side by side: a gate holds a call of the one until one of the other has come.
+ghost use Rattle.std.specs.Prelude.{◌<◌};
 
 use run_model::{Act, Entry};
 use run_work::run_plan;
