@@ -4,6 +4,6 @@
 #[cfg(test)]
 mod gates;
 #[cfg(test)]
-mod judging;
+mod kinds;
 #[cfg(test)]
 mod runs;

@@ -1,7 +1,6 @@
 //! Runs to their end, and a run in which a replica becomes full.
 
-use crate::judging::judged;
-use run_check::Verdict;
+use crate::kinds::kinds_of;
 use run_model::Act;
 use run_work::{RunFault, run_plan};
 use std::test::Fail;
@@ -18,22 +17,20 @@ const WORKED: &[u8] = br#"{"replicas":3,"conits":1,
   [2,0,[["lend",0,0,10],["back",1,0,10],["read",9,[]]]]]}"#;
 
 #[test]
-fn the_worked_workload_is_a_lawful_run(rt: HostRuntime) -> Result<(), Fail> {
+fn the_worked_workload_runs_to_its_end(rt: HostRuntime) -> Result<(), Fail> {
     let plan = parse_plan(rt.alloc(), WORKED)?;
     let clock = StepClock::new(1, 1);
     let Ok(run) = run_plan(&rt, rt.alloc(), &plan, 50, &clock, &FreeGate::new()) else {
         panic!(rt; "it runs to its end")
     };
-    let Verdict::Run(summary) = judged(rt.alloc(), plan.config(), &run)? else {
-        panic!(rt; "it isn't the record of a run")
-    };
-    assert!(rt; 0 < summary.sends && 0 < summary.takes);
+    let kinds = kinds_of(run.entries());
+    assert!(rt; 0 < kinds.sends && 0 < kinds.takes);
     assert_eq!(rt;
         (
-            summary.calls,
-            summary.lends,
-            summary.backs,
-            summary.restarts
+            kinds.calls,
+            kinds.lends,
+            kinds.backs,
+            kinds.restarts
         ),
         (6, 1, 1, 0)
     );
@@ -75,10 +72,7 @@ fn a_replica_becomes_full_at_the_moments_of_the_clock(rt: HostRuntime) -> Result
     for entry in run.entries() {
         assert_eq!(rt; entry.moment, 7);
     }
-    let Verdict::Run(summary) = judged(rt.alloc(), plan.config(), &run)? else {
-        panic!(rt; "it isn't the record of a run")
-    };
-    assert_eq!(rt; summary.entries, 20_000);
+    assert_eq!(rt; run.entries().len(), 20_000);
     Ok(())
 }
 
@@ -98,11 +92,9 @@ fn sessions_of_replicas_without_clients_settle_a_run(rt: HostRuntime) -> Result<
             calls = calls.saturating_add(1);
         }
     }
-    let Verdict::Run(summary) = judged(rt.alloc(), plan.config(), &run)? else {
-        panic!(rt; "it isn't the record of a run")
-    };
+    let kinds = kinds_of(run.entries());
     assert_eq!(rt;
-        (calls, summary.calls, summary.sends, summary.takes),
+        (calls, kinds.calls, kinds.sends, kinds.takes),
         (1, 1, 14, 14)
     );
     Ok(())
