@@ -26,12 +26,7 @@ fn the_worked_workload_runs_to_its_end(rt: HostRuntime) -> Result<(), Fail> {
     let kinds = kinds_of(run.entries());
     assert!(rt; 0 < kinds.sends && 0 < kinds.takes);
     assert_eq!(rt;
-        (
-            kinds.calls,
-            kinds.lends,
-            kinds.backs,
-            kinds.restarts
-        ),
+        (kinds.calls, kinds.lends, kinds.backs, kinds.restarts),
         (6, 1, 1, 0)
     );
     Ok(())
