@@ -1,12 +1,12 @@
 -- What a closed history is of a plan: by what its clerks drew and what its clients' notes have seen.
-use Rattle.std.proofs.Common.{◌≡◌, ℕ, ◌<◌, zero, suc, false, List, [], ◌∷◌, All, IfSome, Option, Some, None, filter, get_or, length, map, take, refl, sym, ap, ◌∙◌, subst, ⊎_elim, arith}
+use Rattle.std.proofs.Common.{◌≡◌, ℕ, ◌<◌, ◌≤◌, zero, suc, false, List, [], ◌∷◌, All, IfSome, Option, Some, None, filter, get_or, length, map, take, refl, sym, ap, ◌∙◌, subst, ⊎_elim, arith}
 use Rattle.std.specs.Prelude.{IfErr, IfOk, Result, Ok, Err}
 use Rattle.std.specs.List.{AllZip, list_any}
 use Rattle.std.proofs.lemmas.Bool.{cases_lt, cond-true, cond-false, or_parts}
 use Rattle.std.proofs.lemmas.List.{nil_from_length}
 use Rattle.std.proofs.lemmas.List.Elements.{All-weaker}
 use Rattle.tact_base.specs.Setup.{Setup}
-use Rattle.tact_base.specs.declared.limits.TheConstants.{CLIENTS}
+use Rattle.tact_base.specs.declared.limits.TheConstants.{CLIENTS, HISTORY_MAX}
 use Rattle.run_model.specs.Histories.{IsPrefix, calls_in, calls_of, is_call_of, part_of}
 use Rattle.run_model.specs.Promises.{IsKept}
 use Rattle.run_model.specs.Runs.{IsRun}
@@ -18,7 +18,7 @@ use Rattle.run_history.specs.Closing.{AreAllThere}
 use Rattle.run_history.specs.Ticks.{drawn_by, entries_of}
 use Rattle.replica_lock.specs.declared.fault.NodeFault.{NodeFault}
 use Rattle.replica_lock.specs.declared.fault.NodeFault.TheVariants as node
-use Rattle.work_load.specs.Attempts.{Attempts, Begun}
+use Rattle.work_load.specs.Attempts.{Attempts, Begun, reach}
 use Rattle.work_load.specs.Clients.{is_of}
 use Rattle.work_load.specs.Entries.{EachAfter}
 use Rattle.work_load.specs.Ranges.{IsClientAfter}
@@ -35,18 +35,10 @@ use Rattle.run_work.specs.declared.run.RunFault.{RunFault}
 use Rattle.run_work.proofs.Closed.{calls_of-none, calls_of-stored, entries_of-drawn, part_of-full, part_of-none}
 use Rattle.run_work.proofs.Ending.{each_at}
 use Rattle.run_work.proofs.Noted.{is_of-itself, noted_calls-none}
-
--- of two lists joined pair by pair, a pair
-pub AllZip-at : {A B : Type 0} (R : A → B → Type 0) (xs : List A) (ys : List B) (at : ℕ) (d : A) (e : B)
-    → AllZip R xs ys
-    → at < length xs
-    → (at < length ys) × R (get_or xs at d) (get_or ys at e)
-AllZip-at R [] ys at d e all within = absurd (omega (arith, within))
-AllZip-at R (x ∷ xs) [] at d e all within = absurd all
-AllZip-at R (x ∷ xs) (y ∷ ys) zero d e all within = (omega arith, all.0)
-AllZip-at R (x ∷ xs) (y ∷ ys) (suc at) d e all within =
-    let rest = AllZip-at R xs ys at d e all.1 (omega (arith, within)) in
-    (omega (arith, rest.0), rest.1)
+use Rattle.run_work.proofs.ServedLemmas.{IsServed-noted}
+use Rattle.run_work.proofs.Zips.{AllZip-at}
+use Rattle.run_work.specs.Serving.{IsClientServed}
+use Rattle.run_work.proofs.Reach.{reached_by}
 
 -- the calls that are noted of a client that none before it is are those that its note has seen
 pub noted_calls-at : (clients : List Client) (notes : List NoteView) (at : ℕ) (client no_client : Client) (none : NoteView)
@@ -104,7 +96,7 @@ module _ (clients : List Client) (notes : List NoteView) (desk : DeskView) (draw
       (calls_at replica number below few ∙ ap length noted)
 
   -- and none of a client that isn't there
-  no_calls : (replica number : ℕ)
+  pub no_calls : (replica number : ℕ)
       → list_any (is_of replica number) clients ≡ false
       → calls_of history replica number ≡ []
   no_calls replica number other =
@@ -120,7 +112,19 @@ module _ (clients : List Client) (notes : List NoteView) (desk : DeskView) (draw
       (λ past. calls_of-none desk.setup history replica number is.run past)
       (cases_lt number CLIENTS)
 
-  -- so the calls of each client are those that are noted
+  -- so the calls of each client are those that its note has seen
+  pub calls_noted : EachAfter (IsClientAfter desk.setup.replicas desk.setup.conits) [] clients
+      → All (λ (note : NoteView). IsPrefix note.seen history) notes
+      → (at : ℕ) (no_client : Client) (none : NoteView)
+      → at < length clients
+      → at < length notes
+      → (let client = get_or clients at no_client in calls_of history client.replica client.client ≡ calls_of (get_or notes at none).seen client.replica client.client)
+  calls_noted each heard at no_client none within noted =
+      let client : Client = get_or clients at no_client in
+      let after = each_at (IsClientAfter desk.setup.replicas desk.setup.conits) [] clients at no_client each within in
+      calls_seen (get_or notes at none) client.replica client.client after.replica after.number (heard at none noted)
+      (noted_calls-at clients notes at client no_client none after.other refl within noted)
+
   pub clients_made : (Made : List Item → List Entry → Type 0)
       → EachAfter (IsClientAfter desk.setup.replicas desk.setup.conits) [] clients
       → AllZip (λ (client : Client). HasNoted (Made client.items) client) clients notes
@@ -130,11 +134,7 @@ module _ (clients : List Client) (notes : List NoteView) (desk : DeskView) (draw
       let none : NoteView = record { table = desk.table; seen = [] } in
       let client : Client = get_or clients at no_client in
       let noted = AllZip-at (λ (one : Client). HasNoted (Made one.items) one) clients notes at no_client none zip within in
-      let after = each_at (IsClientAfter desk.setup.replicas desk.setup.conits) [] clients at no_client each within in
-      subst (Made client.items)
-      (sym (calls_seen (get_or notes at none) client.replica client.client after.replica after.number (heard at none noted.0)
-      (noted_calls-at clients notes at client no_client none after.other refl within noted.0)))
-      noted.1
+      subst (Made client.items) (sym (calls_noted each heard at no_client none within noted.0)) noted.1
 
 -- the history is a run of the plan
 IsRunOf-closed : (Made : List Item → List Entry → Type 0) (plan : Workload) (notes : List NoteView) (desk : DeskView) (drawn : Drawn) (history : List Entry)
@@ -174,11 +174,38 @@ module _ (plan : Workload) (tries : ℕ) (desk : DeskView) (finished : Finished)
       All-weaker (IsHeard finished.drawn.clerks.items) (λ (note : NoteView). IsPrefix note.seen history)
       (λ note. heard_in desk.setup finished.drawn.clerks.items history note some is) has.notes has.heard
 
+  heard_seen : (seen : List Entry) → ((none : ClerkView) → IsPrefix seen (get_or finished.drawn.clerks.items 0 none).seen) → IsPrefix seen history
+  heard_seen seen heard =
+      let none : ClerkView = fresh_clerk desk.table 0 in
+      IsPrefix-trans seen (get_or finished.drawn.clerks.items 0 none).seen history (heard none) (is.seen 0 none some)
+
   -- a run that did not stop is done
   pub IsDoneRun-closed : finished.stop ≡ None → IsDoneRun plan tries history
   IsDoneRun-closed none =
-      IsRunOf-closed (Attempts tries) plan has.notes desk finished.drawn history setup each has.drawn is
-      (subst (HaveEnded tries plan.clients has.notes) none has.ended) heard_all
+      let at_desk = subst (λ (s : Setup). EachAfter (IsClientAfter s.replicas s.conits) [] plan.clients) (sym setup) each in
+      record {
+        run = IsRunOf-closed (Attempts tries) plan has.notes desk finished.drawn history setup each has.drawn is
+            (subst (HaveEnded tries plan.clients has.notes) none has.ended) heard_all;
+        served = IsServed-noted plan history has.notes (record { table = desk.table; seen = [] })
+            (λ at no_client no_note within noted. calls_noted plan.clients has.notes desk finished.drawn history has.drawn is at_desk heard_all at no_client no_note within noted)
+            (no_calls plan.clients has.notes desk finished.drawn history has.drawn is)
+            heard_all
+            (subst (λ (s : Setup). AllZip (λ (client : Client) (note : NoteView). IsClientServed s client note.seen) plan.clients has.notes) setup (has.served none))
+            (λ some.
+            let all = has.met none some in
+            (all.front, all.history, all.noted, heard_seen all.history all.heard, all.met));
+      }
+
+  -- a full replica could reach as many entries
+  reached_at : (replica : ℕ) → length (part_of history replica) ≡ HISTORY_MAX → HISTORY_MAX ≤ reach plan history replica
+  reached_at replica full =
+      ⊎_elim
+      (λ (below : replica < desk.setup.replicas).
+      reached_by plan history (entries_of (pairs_at plan.clients has.notes desk finished.drawn history has.drawn is replica)) replica
+      (stored_at plan.clients has.notes desk finished.drawn history has.drawn is replica below) full
+      (has.few replica (fresh_clerk desk.table 0) (omega (arith, below, has.drawn.count))))
+      (λ past. absurd (omega (arith, full, ap length (part_of-none desk.setup history replica is.run past))))
+      (cases_lt replica desk.setup.replicas)
 
   -- and one that stopped is full, if it is not for memory
   full_run : (stop : Stop) (count stamp : ℕ)
@@ -194,6 +221,7 @@ module _ (plan : Workload) (tries : ℕ) (desk : DeskView) (finished : Finished)
         full = ap length part ∙ told.0;
         count_is = told.1;
         clock_is = told.2 ∙ ap clock (sym part);
+        reached = reached_at stop.replica (ap length part ∙ told.0);
       }
 
   pub IsStoppedRun-closed : (told : RunFault) → IsFaultOf history finished.stop told → IsStoppedRun plan tries told

@@ -1,6 +1,6 @@
 -- Sessions that go on without a call, and what ends nodes with them.
-use Rattle.std.proofs.Common.{◌≡◌, ◌≢◌, ⊎_elim, get_or-set_same, get_or-set_other, ℕ, zero, suc, ◌<◌, List, [], ◌∷◌, ◌++◌, inl, inr, All, Contains, IfSome, Option, Some, None, get_or, length, map, set, refl, sym, ap, ◌∙◌, subst, arith}
-use Rattle.std.specs.List.{AllZip, list_any}
+use Rattle.std.proofs.Common.{◌≡◌, ◌≢◌, ⊎_elim, get_or-set_same, get_or-set_other, ℕ, ◌<◌, List, [], ◌∷◌, ◌++◌, inl, inr, All, Contains, IfSome, Option, Some, None, get_or, length, map, set, refl, sym, ap, ◌∙◌, subst, arith}
+use Rattle.std.specs.List.{list_any}
 use Rattle.std.specs.Option.{option_to_list}
 use Rattle.std.specs.Vec.{with_item}
 use Rattle.std.proofs.lemmas.List.{get_or_default, length-set}
@@ -8,93 +8,36 @@ use Rattle.std.proofs.lemmas.Bool.{cases_eq, false_from_ne_true}
 use Rattle.link_faults.specs.Inboxes.{InboxState}
 use Rattle.replica_lock.specs.Parcels.{ParcelView}
 use Rattle.postbox.specs.Posts.{AreFor}
-use Rattle.std.proofs.lemmas.List.Elements.{All-head, All-tail, All-cons, All-nil}
+use Rattle.std.proofs.lemmas.List.Elements.{All-head, All-cons, All-nil}
 use Rattle.tact_base.specs.Setup.{Setup}
+use Rattle.std.proofs.Math.Seq.{map-set_same}
 use Rattle.run_model.specs.declared.entry.Act.{Act}
+use Rattle.run_model.proofs.PrefixLemmas.{IsPrefix-refl, IsPrefix-trans}
 use Rattle.run_history.specs.Seats.{NoteView}
-use Rattle.replica_lock.specs.Sessions.{HasHeard, HasMade, IsSessionOf, NodeView, SessionView, own_calls}
+use Rattle.replica_lock.specs.Sessions.{HasHeard, HasMade, IsSessionOf, NodeView, SessionView, entry_after, own_calls}
 use Rattle.work_load.specs.declared.plan.Client.{Client}
 use Rattle.replica_lock.specs.Rosters.{RosterView}
 use Rattle.tact_base.proofs.ElementLemmas.{Contains-none}
-use Rattle.run_work.specs.Ends.{IsWhole, clients_at, noted_calls}
+use Rattle.run_work.specs.Ends.{IsWhole, clients_at, clients_by, noted_calls}
 use Rattle.work_load.specs.Clients.{is_of}
 use Rattle.run_work.proofs.Noted.{among-is_of, noted_calls-none}
-use Rattle.run_work.specs.Settling.{AreReady, AreSettled, HasGoneOn, HasStayed, HasOneNew, HasSeated, HaveGoneOn, IsSeatedAt, IsEndOf, IsSettling, SettlingView}
+use Rattle.run_work.specs.Settling.{AreReady, AreSettled, HasGoneOn, HasStayed, HasOneNew, HasSameClients, HasSeated, HaveGoneOn, IsEndOf, IsSettling, SettlingView}
 use Rattle.run_work.specs.declared.seat.End.{End}
+use Rattle.run_work.proofs.Zips.{All-zip, AllZip-at, AllZip-refl, AllZip-set, AllZip-size, AllZip-trans, map-zip}
 
--- A relation of each two elements of two lists.
-module _ {X : Type 0} (R : X → X → Type 0) where
-  pub AllZip-refl : ((x : X) → R x x) → (xs : List X) → AllZip R xs xs
-  AllZip-refl same [] = tt
-  AllZip-refl same (x ∷ xs) = (same x, AllZip-refl same xs)
-
-  pub AllZip-trans : ((x y z : X) → R x y → R y z → R x z)
-      → (xs ys zs : List X)
-      → AllZip R xs ys
-      → AllZip R ys zs
-      → AllZip R xs zs
-  AllZip-trans then [] [] [] one other = tt
-  AllZip-trans then [] [] (z ∷ zs) one other = absurd other
-  AllZip-trans then [] (y ∷ ys) zs one other = absurd one
-  AllZip-trans then (x ∷ xs) [] zs one other = absurd one
-  AllZip-trans then (x ∷ xs) (y ∷ ys) [] one other = absurd other
-  AllZip-trans then (x ∷ xs) (y ∷ ys) (z ∷ zs) one other = (then x y z one.0 other.0, AllZip-trans then xs ys zs one.1 other.1)
-
-  pub AllZip-set : ((x : X) → R x x)
-      → (xs : List X) (place : ℕ) (y : X)
-      → place < length xs
-      → R (get_or xs place y) y
-      → AllZip R xs (set xs place y)
-  AllZip-set same [] place y within there = absurd (omega (arith, within))
-  AllZip-set same (x ∷ xs) zero y within there = (there, AllZip-refl same xs)
-  AllZip-set same (x ∷ xs) (suc place) y within there = (same x, AllZip-set same xs place y (omega (arith, within)) there)
-
-  -- what it keeps of each element
-  pub All-zip : (P : X → Type 0)
-      → ((x y : X) → R x y → P x → P y)
-      → (xs ys : List X)
-      → AllZip R xs ys
-      → All P xs
-      → All P ys
-  All-zip P keeps [] [] zip all = All-nil P
-  All-zip P keeps [] (y ∷ ys) zip all = absurd zip
-  All-zip P keeps (x ∷ xs) [] zip all = absurd zip
-  All-zip P keeps (x ∷ xs) (y ∷ ys) zip all =
-      All-cons P y ys (keeps x y zip.0 (All-head P x xs all)) (All-zip P keeps xs ys zip.1 (All-tail P x xs all))
-
-  pub map-zip : {Y : Type 0} (f : X → Y)
-      → ((x y : X) → R x y → f y ≡ f x)
-      → (xs ys : List X)
-      → AllZip R xs ys
-      → map f ys ≡ map f xs
-  map-zip f keeps [] [] zip = refl
-  map-zip f keeps [] (y ∷ ys) zip = absurd zip
-  map-zip f keeps (x ∷ xs) [] zip = absurd zip
-  map-zip f keeps (x ∷ xs) (y ∷ ys) zip = rw (keeps x y zip.0, map-zip f keeps xs ys zip.1) refl
-
-  pub length-zip : (xs ys : List X) → AllZip R xs ys → length ys ≡ length xs
-  length-zip [] [] zip = refl
-  length-zip [] (y ∷ ys) zip = absurd zip
-  length-zip (x ∷ xs) [] zip = absurd zip
-  length-zip (x ∷ xs) (y ∷ ys) zip = ap suc (length-zip xs ys zip.1)
-
-  pub get_or-zip : (xs ys : List X) (place : ℕ) (d : X)
-      → AllZip R xs ys
-      → place < length xs
-      → R (get_or xs place d) (get_or ys place d)
-  get_or-zip [] [] place d zip within = absurd (omega (arith, within))
-  get_or-zip [] (y ∷ ys) place d zip within = absurd zip
-  get_or-zip (x ∷ xs) [] place d zip within = absurd zip
-  get_or-zip (x ∷ xs) (y ∷ ys) zero d zip within = zip.0
-  get_or-zip (x ∷ xs) (y ∷ ys) (suc place) d zip within = get_or-zip xs ys place d zip.1 (omega (arith, within))
+-- a list with a place has an element
+pub some_element : {X : Type 0} (xs : List X) (place : ℕ) → place < length xs → X
+some_element [] place within = absurd (omega (arith, within))
+some_element (x ∷ xs) place within = x
 
 -- A session stays.
 pub HasStayed-refl : (session : SessionView) → HasStayed session session
-HasStayed-refl session = record { value = refl; calls = refl }
+HasStayed-refl session = record { value = refl; told = IsPrefix-refl session.seen; calls = refl }
 
 pub HasStayed-trans : (one two three : SessionView) → HasStayed one two → HasStayed two three → HasStayed one three
 HasStayed-trans one two three first second = record {
   value = second.value ∙ ap (λ (s : SessionView). record s { made = three.made; seen = three.seen }) first.value;
+  told = IsPrefix-trans one.seen two.seen three.seen first.told second.told;
   calls = second.calls ∙ first.calls;
 }
 
@@ -103,6 +46,7 @@ pub HasStayed-made : (setup : Setup) (before after : SessionView) (moment : ℕ)
     → HasStayed before after
 HasStayed-made setup before after moment done made = record {
   value = made.counts ∙ ap (λ n. record before { made = n; seen = after.seen }) (sym (ap (λ (s : SessionView). s.made) made.counts));
+  told = IsPrefix-trans before.seen made.front after.seen made.told (entry_after before made.front moment done ∷ [], made.seen);
   calls = made.calls;
 }
 
@@ -111,6 +55,7 @@ pub HasStayed-heard : (setup : Setup) (before after : SessionView)
     → HasStayed before after
 HasStayed-heard setup before after heard = record {
   value = heard.value ∙ ap (λ n. record before { made = n; seen = after.seen }) (sym (ap (λ (s : SessionView). s.made) heard.value));
+  told = heard.told;
   calls = heard.calls;
 }
 
@@ -171,12 +116,13 @@ IsWhole-on clients notes replica node before after on is = record {
 
 -- The replicas go on.
 pub have_gone_on_same : (settling : SettlingView) → HaveGoneOn settling settling
-have_gone_on_same settling = record { desk = refl; nodes = refl; ends = AllZip-refl HasGoneOn HasGoneOn-refl settling.ends }
+have_gone_on_same settling = record { desk = refl; nodes = refl; plans = refl; ends = AllZip-refl HasGoneOn HasGoneOn-refl settling.ends }
 
 pub have_gone_on_then : (one two three : SettlingView) → HaveGoneOn one two → HaveGoneOn two three → HaveGoneOn one three
 have_gone_on_then one two three first second = record {
   desk = second.desk ∙ first.desk;
   nodes = second.nodes ∙ first.nodes;
+  plans = second.plans ∙ first.plans;
   ends = AllZip-trans HasGoneOn HasGoneOn-trans one.ends two.ends three.ends first.ends second.ends;
 }
 
@@ -187,68 +133,101 @@ pub AreReady-on : (before after : SettlingView)
     → AreReady after
 AreReady-on before after on count ready = λ replica none within.
     let here : replica < length before.nodes = subst (λ nodes. replica < length nodes) on.nodes within in
-    let gone = get_or-zip HasGoneOn before.ends after.ends replica none on.ends (omega (arith, here, count)) in
-    omega (arith, ready replica none here, length-zip HasStayed (get_or before.ends replica none).sessions.items (get_or after.ends replica none).sessions.items gone.sessions)
+    let gone = (AllZip-at HasGoneOn before.ends after.ends replica none none on.ends (omega (arith, here, count))).1 in
+    omega (arith, ready replica none here, AllZip-size HasStayed (get_or before.ends replica none).sessions.items (get_or after.ends replica none).sessions.items gone.sessions)
 
 pub AreSettled-on : (before after : SettlingView) → HaveGoneOn before after → AreSettled before after
 AreSettled-on before after on = record {
   desk = on.desk;
   nodes = on.nodes;
   ends = λ clients notes whole. record {
-    count = length-zip HasGoneOn before.ends after.ends on.ends ∙ whole.count ∙ sym (ap length on.nodes);
+    count = AllZip-size HasGoneOn before.ends after.ends on.ends ∙ whole.count ∙ sym (ap length on.nodes);
     each = λ replica no_node no_end within.
-        let here : replica < length before.ends = omega (arith, within, length-zip HasGoneOn before.ends after.ends on.ends) in
+        let here : replica < length before.ends = omega (arith, within, AllZip-size HasGoneOn before.ends after.ends on.ends) in
         subst (λ nodes. IsWhole clients notes replica (get_or nodes replica no_node) (get_or after.ends replica no_end)) (sym on.nodes)
         (IsWhole-on clients notes replica (get_or before.nodes replica no_node) (get_or before.ends replica no_end) (get_or after.ends replica no_end)
-        (get_or-zip HasGoneOn before.ends after.ends replica no_end on.ends here) (whole.each replica no_node no_end here));
+        (AllZip-at HasGoneOn before.ends after.ends replica no_end no_end on.ends here).1 (whole.each replica no_node no_end here));
   };
+  count = AllZip-size HasGoneOn before.ends after.ends on.ends;
+  clients = λ replica none within.
+      let gone = (AllZip-at HasGoneOn before.ends after.ends replica none none on.ends within).1 in
+      inl (map-zip HasStayed (λ (s : SessionView). s.client) (λ one other stayed. ap (λ (s : SessionView). s.client) stayed.value)
+      (get_or before.ends replica none).sessions.items (get_or after.ends replica none).sessions.items gone.sessions);
 }
+
+-- clients stay those of before
+HasSameClients-trans : (one two three : End) → HasSameClients one two → HasSameClients two three → HasSameClients one three
+HasSameClients-trans one two three (inl first) (inl second) = inl (second ∙ first)
+HasSameClients-trans one two three (inl first) (inr second) = inr (sym first ∙ second.0, second.1)
+HasSameClients-trans one two three (inr first) (inl second) = inr (first.0, second ∙ first.1)
+HasSameClients-trans one two three (inr first) (inr second) = absurd (omega (arith, ap length (sym first.1 ∙ second.0)))
+
+HasSameClients-seated : (node : NodeView) (before after : End) → HasSeated node before after → HasSameClients before after
+HasSameClients-seated node before after (inl same) = inl (ap clients_by same.0)
+HasSameClients-seated node before after (inr new) =
+    inr (
+      ap (map (λ (s : SessionView). s.client)) new.none,
+      ap (map (λ (s : SessionView). s.client)) new.one ∙ ap (λ (n : ℕ). n ∷ []) new.client,
+    )
 
 pub AreSettled-trans : (one two three : SettlingView) → AreSettled one two → AreSettled two three → AreSettled one three
 AreSettled-trans one two three first second = record {
   desk = second.desk ∙ first.desk;
   nodes = second.nodes ∙ first.nodes;
   ends = λ clients notes whole. second.ends clients notes (first.ends clients notes whole);
+  count = second.count ∙ first.count;
+  clients = λ replica none within.
+      HasSameClients-trans (get_or one.ends replica none) (get_or two.ends replica none) (get_or three.ends replica none)
+      (first.clients replica none within) (second.clients replica none (omega (arith, first.count, within)));
 }
 
+-- What a step of one replica keeps of them all.
+pub record HasStepped (now new : SettlingView) : Type 0 where
+  pub settling : IsSettling new
+  pub on : HaveGoneOn now new
+  pub ready : AreReady now → AreReady new
+
 -- One replica's end goes on, in place of the one before.
-module _ (settling : SettlingView) (replica : ℕ) (before after : End) (sound : IsSettling settling) (within : replica < length settling.nodes)
+module _ {settling now : SettlingView} {replica : ℕ} {before after : End} (is : settling ≡ now) (sound : IsSettling settling) (within : replica < length now.nodes)
     (there : before ≡ get_or settling.ends replica before) (on : HasGoneOn before after) where
+  abbrev gone_on : SettlingView
+  gone_on = record settling { ends = set settling.ends replica after }
+
   at_ends : replica < length settling.ends
-  at_ends = omega (arith, within, sound.ends_are)
+  at_ends = omega (arith, within, ap (λ (s : SettlingView). length s.nodes) is, sound.ends_are)
 
-  here : (none : End) → before ≡ get_or settling.ends replica none
-  here none = there ∙ get_or_default settling.ends replica before none at_ends
-
-  pub IsEndOf-there : (none : NodeView) → IsEndOf (get_or settling.nodes replica none) before
-  IsEndOf-there none = subst (IsEndOf (get_or settling.nodes replica none)) (sym there) (sound.end replica none before within)
-
-  pub HaveGoneOn-set : HaveGoneOn settling (record settling { ends = set settling.ends replica after })
+  HaveGoneOn-set : HaveGoneOn settling gone_on
   HaveGoneOn-set = record {
     desk = refl;
     nodes = refl;
-    ends = AllZip-set HasGoneOn HasGoneOn-refl settling.ends replica after at_ends (subst (λ e. HasGoneOn e after) (here after) on);
+    plans = refl;
+    ends = AllZip-set HasGoneOn HasGoneOn-refl settling.ends replica after at_ends
+        (subst (λ e. HasGoneOn e after) (there ∙ get_or_default settling.ends replica before after at_ends) on);
   }
 
-  pub IsSettling-set : IsSettling (record settling { ends = set settling.ends replica after })
-  IsSettling-set = record {
-    sound = sound.sound;
-    nodes_are = sound.nodes_are;
-    ends_are = length-set settling.ends replica after ∙ sound.ends_are;
-    inboxes_are = sound.inboxes_are;
-    node = sound.node;
-    end = λ place no_node no_end at.
-        let gone = get_or-zip HasGoneOn settling.ends (set settling.ends replica after) place no_end HaveGoneOn-set.ends (omega (arith, at, sound.ends_are)) in
-        IsEndOf-on (get_or settling.nodes place no_node) (get_or settling.ends place no_end) (get_or (set settling.ends replica after) place no_end) gone (sound.end place no_node no_end at);
-    inbox = sound.inbox;
+  pub HasStepped-set : HasStepped now gone_on
+  HasStepped-set = record {
+    settling = record {
+      sound = sound.sound;
+      nodes_are = sound.nodes_are;
+      ends_are = length-set settling.ends replica after ∙ sound.ends_are;
+      inboxes_are = sound.inboxes_are;
+      node = sound.node;
+      end = λ place no_node no_end at.
+          let gone = (AllZip-at HasGoneOn settling.ends gone_on.ends place no_end no_end HaveGoneOn-set.ends (omega (arith, at, sound.ends_are))).1 in
+          IsEndOf-on (get_or settling.nodes place no_node) (get_or settling.ends place no_end) (get_or gone_on.ends place no_end) gone (sound.end place no_node no_end at);
+      inbox = sound.inbox;
+    };
+    on = subst (λ s. HaveGoneOn s gone_on) is HaveGoneOn-set;
+    ready = λ ready. AreReady-on settling gone_on HaveGoneOn-set sound.ends_are (subst AreReady (sym is) ready);
   }
 
 -- One replica's inbox is changed, in which what waits is still for it.
-pub IsSettling-inbox : (settling : SettlingView) (replica : ℕ) (inbox : InboxState ParcelView)
+pub IsSettling-inbox : {settling : SettlingView} {replica : ℕ} (inbox : InboxState ParcelView)
     → IsSettling settling
     → AreFor settling.desk.table replica inbox.waiting
     → IsSettling (record settling { inboxes = set settling.inboxes replica inbox })
-IsSettling-inbox settling replica inbox sound parcels = record {
+IsSettling-inbox {settling = settling} {replica = replica} inbox sound parcels = record {
   sound = sound.sound;
   nodes_are = sound.nodes_are;
   ends_are = sound.ends_are;
@@ -268,20 +247,30 @@ IsSettling-inbox settling replica inbox sound parcels = record {
   };
 }
 
--- other inboxes change nothing of the replicas' sessions
-pub HaveGoneOn-inboxes : (settling : SettlingView) (inboxes : List (InboxState ParcelView))
-    → HaveGoneOn settling (record settling { inboxes = inboxes })
-HaveGoneOn-inboxes settling inboxes = record { desk = refl; nodes = refl; ends = AllZip-refl HasGoneOn HasGoneOn-refl settling.ends }
+-- another inbox of the same plan changes nothing of the replicas' sessions
+pub HaveGoneOn-inbox : {settling now : SettlingView} (replica : ℕ) {before : InboxState ParcelView} (after : InboxState ParcelView)
+    → settling ≡ now
+    → before ≡ get_or settling.inboxes replica before
+    → after.plan ≡ before.plan
+    → HaveGoneOn now (record settling { inboxes = set settling.inboxes replica after })
+HaveGoneOn-inbox {settling = settling} replica {before = before} after is there same =
+    subst (λ s. HaveGoneOn s (record settling { inboxes = set settling.inboxes replica after })) is (record {
+      desk = refl;
+      nodes = refl;
+      plans = map-set_same (λ (inbox : InboxState ParcelView). inbox.plan) settling.inboxes replica after before (same ∙ ap (λ (inbox : InboxState ParcelView). inbox.plan) there);
+      ends = AllZip-refl HasGoneOn HasGoneOn-refl settling.ends;
+    })
 
 -- what waits for a replica is of its desk and for it
-pub waiting-are_for : (settling : SettlingView) (replica : ℕ) (inbox : InboxState ParcelView)
+pub waiting-are_for : {settling now : SettlingView} {replica : ℕ} {inbox : InboxState ParcelView}
+    → settling ≡ now
     → IsSettling settling
-    → replica < length settling.nodes
+    → replica < length now.nodes
     → inbox ≡ get_or settling.inboxes replica inbox
     → AreFor settling.desk.table replica inbox.waiting
-waiting-are_for settling replica inbox sound within there =
+waiting-are_for {settling = settling} {replica = replica} {inbox = inbox} is sound within there =
     subst (λ (i : InboxState ParcelView). AreFor settling.desk.table replica i.waiting) (sym there)
-    (sound.inbox.parcels replica inbox (omega (arith, within, sound.inboxes_are)))
+    (sound.inbox.parcels replica inbox (omega (arith, within, ap (λ (s : SettlingView). length s.nodes) is, sound.inboxes_are)))
 
 -- what holds of all that waits holds of the first
 pub first-holds : {X : Type 0} (P : X → Type 0) (first : Option X) (before after : List X)
@@ -322,50 +311,6 @@ pub ready-seated : (node : NodeView) (before after : End) → HasSeated node bef
 ready-seated node before after (inl same) = subst (λ (e : End). 0 < length e.sessions.items) (sym same.0) same.1
 ready-seated node before after (inr new) = subst (λ (ss : List SessionView). 0 < length ss) (sym new.one) (omega arith)
 
--- One replica's end is another.
-pub IsSettling-end : (settling : SettlingView) (replica : ℕ) (node : NodeView) (after : End)
-    → IsSettling settling
-    → replica < length settling.nodes
-    → node ≡ get_or settling.nodes replica node
-    → IsEndOf node after
-    → IsSettling (record settling { ends = set settling.ends replica after })
-IsSettling-end settling replica node after sound within there is = record {
-  sound = sound.sound;
-  nodes_are = sound.nodes_are;
-  ends_are = length-set settling.ends replica after ∙ sound.ends_are;
-  inboxes_are = sound.inboxes_are;
-  node = sound.node;
-  end = λ place no_node no_end at.
-      ⊎_elim (λ (same : place ≡ replica).
-      subst (IsEndOf (get_or settling.nodes place no_node))
-      (sym (ap (λ p. get_or (set settling.ends replica after) p no_end) same ∙ get_or-set_same settling.ends replica after no_end (omega (arith, within, sound.ends_are))))
-      (subst (λ n. IsEndOf n after) (there ∙ get_or_default settling.nodes replica node no_node within ∙ ap (λ p. get_or settling.nodes p no_node) (sym same)) is))
-      (λ (other : place ≢ replica).
-      subst (IsEndOf (get_or settling.nodes place no_node)) (sym (get_or-set_other settling.ends replica place after no_end other)) (sound.end place no_node no_end at))
-      (cases_eq place replica);
-  inbox = sound.inbox;
-}
-
-pub IsSeatedAt-set : (settling : SettlingView) (replica : ℕ) (node : NodeView) (before after : End)
-    → IsSettling settling
-    → replica < length settling.nodes
-    → node ≡ get_or settling.nodes replica node
-    → before ≡ get_or settling.ends replica before
-    → HasSeated node before after
-    → IsSeatedAt replica settling (record settling { ends = set settling.ends replica after })
-IsSeatedAt-set settling replica node before after sound within node_there there seated =
-    let at : replica < length settling.ends = omega (arith, within, sound.ends_are) in
-    record {
-      desk = refl;
-      nodes = refl;
-      count = length-set settling.ends replica after;
-      others = λ other none apart. get_or-set_other settling.ends replica other after none apart;
-      seated = λ no_node none.
-          subst (HasSeated (get_or settling.nodes replica no_node) (get_or settling.ends replica none)) (sym (get_or-set_same settling.ends replica after none at))
-          (subst (λ e. HasSeated (get_or settling.nodes replica no_node) e after) (there ∙ get_or_default settling.ends replica before none at)
-          (subst (λ n. HasSeated n before after) (node_there ∙ get_or_default settling.nodes replica node no_node within) seated));
-    }
-
 -- All replicas are seated.
 module _ (before after : SettlingView) (desk : after.desk ≡ before.desk) (nodes : after.nodes ≡ before.nodes) (count : length after.ends ≡ length before.ends)
     (ends_are : length before.ends ≡ length before.nodes)
@@ -382,6 +327,11 @@ module _ (before after : SettlingView) (desk : after.desk ≡ before.desk) (node
           (IsWhole-seated clients notes replica (get_or before.nodes replica no_node) (get_or before.ends replica no_end) (get_or after.ends replica no_end)
           (whole.each replica no_node no_end (omega (arith, here, ends_are))) (seated replica no_node no_end here));
     };
+    count = count;
+    clients = λ replica none within.
+        let here : replica < length before.nodes = omega (arith, within, ends_are) in
+        let node : NodeView = some_element before.nodes replica here in
+        HasSameClients-seated (get_or before.nodes replica node) (get_or before.ends replica none) (get_or after.ends replica none) (seated replica node none here);
   }
 
   pub AreReady-seated : (no_node : NodeView) → AreReady after

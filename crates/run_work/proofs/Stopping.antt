@@ -1,41 +1,21 @@
 -- What the workers' clients have noted as the workers leave one by one, and where a run stopped.
-use Rattle.std.proofs.Common.{◌≡◌, ℕ, List, [], ◌∷◌, ◌++◌, IfOk, IfSome, Option, Some, None, Result, Ok, Err, length, refl, sym, ap, ◌∙◌, subst, ⊎_elim, arith}
+use Rattle.std.proofs.Common.{◌≡◌, ℕ, List, [], ◌∷◌, ◌++◌, IfOk, IfSome, Option, Some, None, Result, Ok, Err, length, refl, sym, ap, ◌∙◌, subst, ⊎_elim}
 use Rattle.std.specs.List.{AllZip}
 use Rattle.run_model.specs.Histories.{calls_of, part_of}
+use Rattle.tact_base.specs.Setup.{Setup}
 use Rattle.run_history.specs.Seats.{DeskView, NoteView}
 use Rattle.replica_lock.specs.Sessions.{IsFaultSeen, NodeView, SessionView, own_calls}
 use Rattle.replica_lock.specs.declared.fault.NodeFault.{NodeFault}
 use Rattle.replica_lock.specs.declared.fault.NodeFault.TheVariants as fault
 use Rattle.work_load.specs.Attempts.{Attempts, Begun}
 use Rattle.work_load.proofs.AttemptLemmas.{Begun-from_Attempts}
+use Rattle.run_work.proofs.Zips.{AllZip-join, AllZip-less, AllZip-size}
 use Rattle.work_load.specs.declared.plan.Client.{Client}
-use Rattle.run_work.specs.Ends.{HasNoted, HasStopped, HaveEnded, IsStop, IsStopBy, note_of, stop_of}
+use Rattle.run_work.specs.Ends.{HasNoted, HasStopped, HaveEnded, HaveServed, IsStop, IsStopBy, note_of, stop_of}
+use Rattle.run_work.specs.Serving.{IsClientServed}
 use Rattle.run_work.specs.Sites.{AreSites, SitesView}
 use Rattle.run_work.specs.Working.{HasEnded, HasWorked, WorkerView}
 use Rattle.run_work.specs.declared.leaving.Stop.{Stop}
-
--- two lists joined pair by pair
-module _ {A B : Type 0} (R : A → B → Type 0) where
-  AllZip-join : (xs : List A) (ys : List B) (x : A) (y : B) → AllZip R xs ys → R x y → AllZip R (xs ++ x ∷ []) (ys ++ y ∷ [])
-  AllZip-join [] [] x y all one = (one, tt)
-  AllZip-join [] (b ∷ ys) x y all one = absurd all
-  AllZip-join (a ∷ xs) [] x y all one = absurd all
-  AllZip-join (a ∷ xs) (b ∷ ys) x y all one = (all.0, AllZip-join xs ys x y all.1 one)
-
-  AllZip-size : (xs : List A) (ys : List B) → AllZip R xs ys → length ys ≡ length xs
-  AllZip-size [] [] all = refl
-  AllZip-size [] (b ∷ ys) all = absurd all
-  AllZip-size (a ∷ xs) [] all = absurd all
-  AllZip-size (a ∷ xs) (b ∷ ys) all = let rest = AllZip-size xs ys all.1 in omega (arith, rest)
-
-AllZip-less : {A B : Type 0} (R S : A → B → Type 0) (xs : List A) (ys : List B)
-    → ((x : A) (y : B) → R x y → S x y)
-    → AllZip R xs ys
-    → AllZip S xs ys
-AllZip-less R S [] [] less all = tt
-AllZip-less R S [] (b ∷ ys) less all = absurd all
-AllZip-less R S (a ∷ xs) [] less all = absurd all
-AllZip-less R S (a ∷ xs) (b ∷ ys) less all = (less a b all.0, AllZip-less R S xs ys less all.1)
 
 -- the client's calls that are noted: all items done, and begun
 abbrev IsDone : ℕ → Client → NoteView → Type 0
@@ -97,6 +77,26 @@ HaveEnded-more tries clients notes worker before after at number has stopped end
         subst (HaveEnded tries (clients ++ worker.client ∷ []) (notes ++ note_of worker ∷ [])) (sym stopped.1)
         (AllZip-join (IsBegun tries) clients notes worker.client (note_of worker) (have_begun tries clients notes before ended)
         (subst (Begun tries worker.client.items) (noted_own worker at number) has.0))
+
+-- and each client of a worker that did not stop was served
+pub HaveServed-more : (setup : Setup) (clients : List Client) (notes : List NoteView) (worker : WorkerView) (before after : Option Stop)
+    → worker.node.desk.setup ≡ setup
+    → (worker.end ≡ None → IsClientServed worker.node.desk.setup worker.client worker.session.seen)
+    → HasStopped worker worker.end before after
+    → HaveServed setup clients notes before
+    → HaveServed setup (clients ++ worker.client ∷ []) (notes ++ note_of worker ∷ []) after
+HaveServed-more setup clients notes worker before after is has stopped served none = go worker.end refl stopped
+  where
+    go : (end : Option NodeFault)
+        → worker.end ≡ end
+        → HasStopped worker end before after
+        → AllZip (λ (client : Client) (note : NoteView). IsClientServed setup client note.seen) (clients ++ worker.client ∷ []) (notes ++ note_of worker ∷ [])
+    go None done same =
+        AllZip-join (λ (client : Client) (note : NoteView). IsClientServed setup client note.seen) clients notes worker.client (note_of worker) (served (sym same ∙ none))
+        (subst (λ (s : Setup). IsClientServed s worker.client worker.session.seen) is (has done))
+    go (Some told) done (stop, is_stop, one) =
+        let never : None ≡ Some stop = sym none ∙ is_stop in
+        absurd cc
 
 -- where a worker ended with a fault, it stopped
 stops_by : (told : NodeFault) (session : SessionView) (replica : ℕ)

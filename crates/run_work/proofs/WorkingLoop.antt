@@ -7,10 +7,14 @@ use Rattle.work_load.specs.declared.plan.Item.{Item}
 use Rattle.replica_lock.specs.Sessions.{IsFaultSeen, IsSessionOf, NodeView, SessionView, own_calls}
 use Rattle.replica_lock.specs.declared.fault.NodeFault.{NodeFault}
 use Rattle.run_work.specs.Holding.{IsLater}
+use Rattle.run_work.specs.Served.{AreLent}
+use Rattle.run_work.specs.Serving.{AreHeededBut, HasLent, IsClientServed, IsHeededBut}
 use Rattle.run_work.specs.Sites.{SitesView}
 use Rattle.run_work.specs.Trying.{HasBegun, HasDone}
 use Rattle.run_work.specs.Working.{HasEnded, HasWorked, IsBusyFor, IsFresh, IsWorker, WorkerView}
-use Rattle.run_work.proofs.GoingOn.{IsSessionOf-later, client-later}
+use Rattle.run_work.proofs.GoingOn.{IsSessionOf-later, client-later, replica-later}
+use Rattle.run_work.proofs.Heeding.{AreHeeded-none}
+use Rattle.run_work.proofs.Lending.{AreLent-all, AreLent-item, AreLent-none}
 use Rattle.run_work.proofs.TryingLoop.{IsSameBut, IsSameBut-trans}
 use Rattle.run_work.proofs.WorkingLemmas.{Attempts-all, Attempts-item, Begun-item}
 
@@ -21,6 +25,9 @@ pub record IsWorking (tries : ℕ) (before : WorkerView) (place : ℕ) (now : Wo
   pub number : now.session.client ≡ before.client.client
   pub done : Attempts tries (take place before.client.items) (own_calls now.session)
   pub busy : IsBusyFor place now.session
+  pub replica : now.session.replica ≡ before.client.replica
+  pub heeded : IsHeededBut None now.session
+  pub lent : AreLent before.node.desk.setup now.session.replica (take place before.client.items) now.session.seen
 
 pub IsWorking-start : (tries : ℕ) (desk : DeskView) (before : WorkerView)
     → IsWorker desk before
@@ -33,6 +40,9 @@ IsWorking-start tries desk before kept none made = record {
   number = kept.number;
   done = none;
   busy = omega (arith, made);
+  replica = kept.session.replica ∙ kept.replica;
+  heeded = AreHeeded-none None before.session.replica before.session.client before.session.seen none;
+  lent = AreLent-none before.node.desk.setup before.session.replica before.session.seen;
 }
 
 -- as busy for more items
@@ -43,6 +53,15 @@ IsBusyFor-most few most session less busy = go (length (own_calls session)) busy
     go calls busy = omega (arith, less, busy)
 
 module _ (tries : ℕ) (before : WorkerView) (place : ℕ) (now : WorkerView) (working : IsWorking tries before place now) where
+  -- so the client was served
+  all_served : length before.client.items ≤ place → IsClientServed before.node.desk.setup before.client now.session.seen
+  all_served past = record {
+    heeded = subst (λ (r : ℕ). AreHeededBut None r before.client.client now.session.seen) working.replica
+        (subst (λ (k : ℕ). AreHeededBut None now.session.replica k now.session.seen) working.number working.heeded);
+    lent = subst (λ (r : ℕ). AreLent before.node.desk.setup r before.client.items now.session.seen) working.replica
+        (AreLent-all before.node.desk.setup now.session.replica before.client.items place now.session.seen past working.lent);
+  }
+
   -- all are done
   pub HasWorked-all : length before.client.items ≤ place
       → place ≤ length before.client.items
@@ -64,6 +83,9 @@ module _ (tries : ℕ) (before : WorkerView) (place : ℕ) (now : WorkerView) (w
             (Attempts-all tries before.client.items place (own_calls now.session) past working.done));
         busy = subst (λ (c : Client). IsBusyFor (length c.items) now.session) (sym client)
             (IsBusyFor-most place (length before.client.items) now.session within working.busy);
+        served = λ ended.
+            subst (λ (n : NodeView). IsClientServed n.desk.setup now.client now.session.seen) (sym (ap (λ (w : WorkerView). w.node) same))
+            (subst (λ (c : Client). IsClientServed before.node.desk.setup c now.session.seen) (sym client) (all_served past));
       }
 
   -- the next item is tried
@@ -72,13 +94,20 @@ module _ (tries : ℕ) (before : WorkerView) (place : ℕ) (now : WorkerView) (w
     abbrev here : Item
     here = get_or before.client.items place none
 
-    pub IsWorking-more : HasDone tries here (own_calls now.session) (own_calls after.session) → IsWorking tries before (place + 1) after
-    IsWorking-more done = record {
+    pub IsWorking-more : HasDone tries here (own_calls now.session) (own_calls after.session)
+        → (IsHeededBut None now.session → IsHeededBut None after.session)
+        → HasLent before.node.desk.setup here now.session after.session
+        → IsWorking tries before (place + 1) after
+    IsWorking-more done heeds lent = record {
       same = IsSameBut-trans before now after working.same tried;
       session = IsSessionOf-later before.node most now.session after.session later working.session;
       number = client-later most now.session after.session later ∙ working.number;
       done = Attempts-item tries before.client.items place none within (own_calls now.session) (own_calls after.session) working.done done;
       busy = busier place working.busy;
+      replica = replica-later most now.session after.session later ∙ working.replica;
+      heeded = heeds working.heeded;
+      lent = subst (λ (r : ℕ). AreLent before.node.desk.setup r (take (place + 1) before.client.items) after.session.seen) (sym (replica-later most now.session after.session later))
+          (AreLent-item before.node.desk.setup before.client.items place none within now.session after.session later.told working.lent lent);
     }
 
     -- and ends with a fault
@@ -105,4 +134,5 @@ module _ (tries : ℕ) (before : WorkerView) (place : ℕ) (now : WorkerView) (w
           );
           busy = subst (λ (c : Client). IsBusyFor (length c.items) after.session) (sym client)
               (IsBusyFor-most (place + 1) (length before.client.items) after.session (omega (arith, within)) (busier place working.busy));
+          served = λ ended. absurd cc;
         }

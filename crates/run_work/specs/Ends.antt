@@ -1,6 +1,7 @@
 -- What ends the nodes of a run, and what the sessions of its clients had seen when these came back.
-use Rattle.std.specs.Prelude.{◌≡◌, ◌≢◌, ◌⊎◌, ℕ, ◌<◌, ◌==◌, ◌&&◌, ◌||◌, Bool, nat_lt, List, [], ◌∷◌, ◌++◌, All, Contains, filter, fold, length, map, get_or, if◌then◌else◌, Option, Some, None}
+use Rattle.std.specs.Prelude.{◌≡◌, ◌≢◌, ◌⊎◌, ℕ, ◌+◌, ◌*◌, ◌<◌, ◌≤◌, ◌==◌, ◌&&◌, ◌||◌, Bool, nat_lt, List, [], ◌∷◌, ◌++◌, All, AllPairs, Contains, filter, fold, length, map, sum_by, get_or, if◌then◌else◌, Option, Some, None}
 use Rattle.std.specs.List.{AllZip}
+use Rattle.tact_base.specs.Setup.{Setup}
 use Rattle.tact_base.specs.declared.limits.TheConstants.{CLIENTS, HISTORY_MAX}
 use Rattle.run_model.specs.Histories.{calls_in, calls_of, part_of}
 use Rattle.run_model.specs.Taking.{clock}
@@ -11,11 +12,12 @@ use Rattle.replica_lock.specs.Rosters.{IsRosterOf}
 use Rattle.replica_lock.specs.Sessions.{IsSessionOf, NodeView, SessionView, own_calls}
 use Rattle.replica_lock.specs.declared.fault.NodeFault.{NodeFault}
 use Rattle.replica_lock.specs.declared.fault.NodeFault.TheVariants as fault
-use Rattle.work_load.specs.Attempts.{Attempts, Begun}
+use Rattle.work_load.specs.Attempts.{Attempts, Begun, is_call}
 use Rattle.work_load.specs.Clients.{is_of}
 use Rattle.work_load.specs.declared.plan.Client.{Client}
 use Rattle.postbox.specs.Posts.{PostboxView}
 use Rattle.atomic_table.specs.Seated.{TableId}
+use Rattle.run_work.specs.Serving.{IsClientServed}
 use Rattle.run_work.specs.Sites.{SitesView}
 use Rattle.run_work.specs.Working.{WorkerView}
 use Rattle.run_work.specs.declared.closing.Drawn.{Drawn}
@@ -122,6 +124,10 @@ abbrev pub HaveEnded : ℕ → List Client → List NoteView → Option Stop →
 HaveEnded tries clients notes None = AllZip (λ (client : Client). HasNoted (Attempts tries client.items) client) clients notes
 HaveEnded tries clients notes (Some stop) = AllZip (λ (client : Client). HasNoted (Begun tries client.items) client) clients notes
 
+-- and of each client, by what its note has seen, that it was served, if no worker stopped
+abbrev pub HaveServed : Setup → List Client → List NoteView → Option Stop → Type 0
+HaveServed setup clients notes stop = stop ≡ None → AllZip (λ (client : Client) (note : NoteView). IsClientServed setup client note.seen) clients notes
+
 -- What a node leaves: its clerk, and what this drew. Of each client that has the calls that the client's note has seen.
 pub record IsDrawn (clients : List Client) (notes : List NoteView) (desk : DeskView) (replica : ℕ) (clerk : ClerkView) : Type 0 where
   pub table : clerk.table ≡ desk.table
@@ -133,3 +139,37 @@ pub record AreDrawn (clients : List Client) (notes : List NoteView) (desk : Desk
   pub count : length drawn.clerks.items ≡ desk.setup.replicas
   pub each : (replica : ℕ) (none : ClerkView) → replica < length drawn.clerks.items → IsDrawn clients notes desk replica (get_or drawn.clerks.items replica none)
   pub parts : map (λ part. part.items) drawn.parts.items ≡ map (λ (clerk : ClerkView). clerk.pairs) drawn.clerks.items
+
+-- the clients of an end's sessions, the entries that were made for these, and the calls of theirs that they have seen
+abbrev pub clients_by : End → List ℕ
+clients_by end = map (λ (session : SessionView). session.client) end.sessions.items
+
+abbrev pub made_by : End → ℕ
+made_by end = sum_by (λ (session : SessionView). session.made) end.sessions.items
+
+abbrev pub calls_by : End → ℕ
+calls_by end = sum_by (λ (session : SessionView). length (own_calls session)) end.sessions.items
+
+-- how many items the clients of a replica have
+abbrev pub items_of : List Client → ℕ → ℕ
+items_of clients replica = sum_by (λ (client : Client). length client.items) (filter (λ (client : Client). client.replica == replica) clients)
+
+-- for an end's sessions at most 24 entries were made of each item of the replica's clients and of each call, and so many
+-- more; and so at each replica
+abbrev pub IsBusy : ℕ → ℕ → End → Type 0
+IsBusy items extra end = made_by end ≤ 24 * (items + calls_by end) + extra
+
+abbrev pub AreBusy : List Client → ℕ → List End → Type 0
+AreBusy clients extra ends = (replica : ℕ) (none : End) → replica < length ends → IsBusy (items_of clients replica) extra (get_or ends replica none)
+
+-- no two sessions of an end are of one client
+abbrev pub AreApart : List End → Type 0
+AreApart ends = (replica : ℕ) (none : End) → replica < length ends → AllPairs (λ (one other : ℕ). one ≢ other) (clients_by (get_or ends replica none))
+
+-- so a clerk drew at most 24 entries of each item and of each call that it drew, and so many more
+abbrev pub IsFew : ℕ → ℕ → List Entry → Type 0
+IsFew items extra part = length part ≤ 24 * (items + length (filter (λ (entry : Entry). is_call entry.act) part)) + extra
+
+abbrev pub AreFew : List Client → ℕ → List ClerkView → Type 0
+AreFew clients extra clerks = (replica : ℕ) (none : ClerkView) → replica < length clerks
+    → IsFew (items_of clients replica) extra (entries_of (get_or clerks replica none).pairs)

@@ -1,12 +1,15 @@
 -- What is left of a run when its nodes have ended.
-use Rattle.std.specs.Prelude.{◌≡◌, ℕ, List, All, IfSome, Option, Some, None, get_or}
+use Rattle.std.specs.Prelude.{◌≡◌, ◌≢◌, ℕ, ◌<◌, List, All, IfSome, Option, Some, None, get_or}
+use Rattle.link_faults.specs.Plans.{no_faults}
 use Rattle.run_model.specs.Histories.{IsPrefix}
 use Rattle.run_model.specs.declared.entry.Entry.{Entry}
 use Rattle.run_history.specs.Seats.{ClerkView, DeskView, NoteView}
 use Rattle.replica_lock.specs.declared.fault.NodeFault.{NodeFault}
 use Rattle.replica_lock.specs.declared.fault.NodeFault.TheVariants as node
+use Rattle.work_load.specs.Attempts.{settling}
 use Rattle.work_load.specs.Workloads.{Workload}
-use Rattle.run_work.specs.Ends.{AreDrawn, HaveEnded, IsStop}
+use Rattle.run_work.specs.Ends.{AreDrawn, HaveEnded, HaveServed, IsStop, AreFew}
+use Rattle.run_work.specs.Settling.{HasMet}
 use Rattle.run_work.specs.declared.leaving.Stop.{Stop}
 use Rattle.run_work.specs.declared.run.Finished.{Finished}
 use Rattle.run_work.specs.declared.run.RunFault.{RunFault}
@@ -20,14 +23,27 @@ IsHeard clerks note = (none : ClerkView) → IsPrefix note.seen (get_or clerks 0
 abbrev pub IsStopHeard : DeskView → List ClerkView → Stop → Type 0
 IsStopHeard desk clerks stop = IsStop desk stop × IsHeard clerks stop.note
 
+-- After all that the notes have seen each replica has met each other, by what the first clerk has seen.
+pub record HaveAllMet (plan : Workload) (notes : List NoteView) (clerks : List ClerkView) : Type 0 where
+  pub front : List Entry
+  pub history : List Entry
+  pub noted : All (λ (note : NoteView). IsPrefix note.seen front) notes
+  pub heard : (none : ClerkView) → IsPrefix history (get_or clerks 0 none).seen
+  pub met : (from to : ℕ) → from < plan.setup.replicas → to < plan.setup.replicas → from ≢ to
+      → HasMet (get_or plan.links to no_faults).lose front history from to
+
 -- There are notes of what the plan's clients had seen when they ended, all items done or begun. The clerks of all replicas
--- drew of each client the calls that its note has, and the first has seen what each note has, and that of the stop.
+-- drew of each client the calls that its note has, and the first has seen what each note has, and that of the stop. They drew
+-- no more entries than the plan asks for.
 pub record HasFinished (plan : Workload) (tries : ℕ) (desk : DeskView) (finished : Finished) : Type 0 where
   pub notes : List NoteView
   pub drawn : AreDrawn plan.clients notes desk finished.drawn
   pub heard : All (IsHeard finished.drawn.clerks.items) notes
   pub ended : HaveEnded tries plan.clients notes finished.stop
   pub stop : IfSome finished.stop (IsStopHeard desk finished.drawn.clerks.items)
+  pub served : HaveServed desk.setup plan.clients notes finished.stop
+  pub met : finished.stop ≡ None → plan.settle ≢ 0 → HaveAllMet plan notes finished.drawn.clerks.items
+  pub few : AreFew plan.clients (settling plan.settle) finished.drawn.clerks.items
 
 -- why a run that stopped isn't done
 abbrev pub IsFaultBy : List Entry → Stop → NodeFault → RunFault → Type 0

@@ -4,6 +4,9 @@ pub mod Sites
 pub mod Working
 pub mod Placing
 pub mod Ends
+pub mod Served
+pub mod Serving
 pub mod Runs
 pub mod Settling
+pub mod Rounds
 pub mod Finished

@@ -1,5 +1,5 @@
 -- What the run of a workload is.
-use Rattle.std.specs.Prelude.{◌≡◌, ℕ, false, List, [], All, length}
+use Rattle.std.specs.Prelude.{◌≡◌, ℕ, ◌≤◌, false, List, [], All, length}
 use Rattle.std.specs.List.{list_any}
 use Rattle.tact_base.specs.declared.limits.TheConstants.{HISTORY_MAX}
 use Rattle.run_model.specs.Histories.{calls_of, part_of}
@@ -7,11 +7,12 @@ use Rattle.run_model.specs.Promises.{IsKept}
 use Rattle.run_model.specs.Runs.{IsRun}
 use Rattle.run_model.specs.Taking.{clock}
 use Rattle.run_model.specs.declared.entry.Entry.{Entry}
-use Rattle.work_load.specs.Attempts.{Attempts, Begun}
+use Rattle.work_load.specs.Attempts.{Attempts, Begun, reach}
 use Rattle.work_load.specs.Clients.{is_of}
 use Rattle.work_load.specs.Workloads.{Workload}
 use Rattle.work_load.specs.declared.plan.Client.{Client}
 use Rattle.work_load.specs.declared.plan.Item.{Item}
+use Rattle.run_work.specs.Served.{IsServed}
 use Rattle.run_work.specs.declared.run.RunFault.{RunFault}
 use Rattle.run_work.specs.declared.run.RunFault.TheVariants as fault
 
@@ -23,17 +24,19 @@ pub record IsRunOf (Made : List Item → List Entry → Type 0) (plan : Workload
   pub clients : All (λ (client : Client). Made client.items (calls_of history client.replica client.client)) plan.clients
   pub others : (replica number : ℕ) → list_any (is_of replica number) plan.clients ≡ false → calls_of history replica number ≡ []
 
--- all items are done
-abbrev pub IsDoneRun : Workload → ℕ → List Entry → Type 0
-IsDoneRun plan tries history = IsRunOf (Attempts tries) plan history
+-- All items are done, and the plan is served.
+pub record IsDoneRun (plan : Workload) (tries : ℕ) (history : List Entry) : Type 0 where
+  pub run : IsRunOf (Attempts tries) plan history
+  pub served : IsServed plan history
 
--- Some first items of each client are done and the next may be begun, and a replica has as many entries as it may; with
--- this number and the replica's clock.
+-- Some first items of each client are done and the next may be begun, and a replica has as many entries as it may, which it
+-- could reach by what the plan asks for; with this number and the replica's clock.
 pub record IsFullRun (plan : Workload) (tries replica count stamp : ℕ) (history : List Entry) : Type 0 where
   pub run : IsRunOf (Begun tries) plan history
   pub full : length (part_of history replica) ≡ HISTORY_MAX
   pub count_is : count ≡ HISTORY_MAX
   pub clock_is : stamp ≡ clock (part_of history replica)
+  pub reached : HISTORY_MAX ≤ reach plan history replica
 
 -- why a run isn't done: a replica is full, with the run up to there, or there was no memory
 abbrev pub IsStoppedRun : Workload → ℕ → RunFault → Type 0

@@ -1,14 +1,17 @@
 -- The replicas of a run while it is settled.
-use Rattle.std.specs.Prelude.{◌≡◌, ◌≢◌, ◌⊎◌, ℕ, ◌<◌, List, [], ◌∷◌, ◌++◌, All, length, get_or}
+use Rattle.std.specs.Prelude.{◌≡◌, ◌≢◌, ◌⊎◌, ℕ, ◌+◌, ◌*◌, ◌<◌, ◌≤◌, List, [], ◌∷◌, ◌++◌, All, length, map, get_or}
 use Rattle.std.specs.List.{AllZip}
 use Rattle.tact_base.specs.Setup.{IsSetup}
+use Rattle.run_model.specs.Histories.{IsPrefix}
+use Rattle.run_model.specs.declared.entry.Entry.{Entry}
 use Rattle.run_history.specs.Seats.{DeskView, NoteView}
 use Rattle.link_faults.specs.Inboxes.{InboxState}
 use Rattle.replica_lock.specs.Parcels.{ParcelView}
 use Rattle.replica_lock.specs.Rosters.{IsRosterOf}
 use Rattle.replica_lock.specs.Sessions.{IsSessionOf, NodeView, SessionView, own_calls}
 use Rattle.work_load.specs.declared.plan.Client.{Client}
-use Rattle.run_work.specs.Ends.{AreWhole}
+use Rattle.run_work.specs.Ends.{AreWhole, clients_by, made_by}
+use Rattle.run_work.specs.Served.{IsSending, IsTakenIn}
 use Rattle.run_work.specs.Sites.{AreInboxes, IsNodeAt}
 use Rattle.run_work.specs.declared.seat.End.{End}
 
@@ -31,6 +34,7 @@ pub record HasOneNew (node : NodeView) (before after : End) : Type 0 where
   pub one : after.sessions.items ≡ session ∷ []
   pub of : IsSessionOf node session
   pub client : session.client ≡ 0
+  pub made : session.made ≡ 0
   pub calls : own_calls session ≡ []
   pub roster : after.roster ≡ record before.roster { clients = before.roster.clients ++ 0 ∷ [] }
 
@@ -56,6 +60,7 @@ AreReady settling = (replica : ℕ) (none : End) → replica < length settling.n
 pub record IsSeatedAt (replica : ℕ) (before after : SettlingView) : Type 0 where
   pub desk : after.desk ≡ before.desk
   pub nodes : after.nodes ≡ before.nodes
+  pub inboxes : after.inboxes ≡ before.inboxes
   pub count : length after.ends ≡ length before.ends
   pub others : (other : ℕ) (none : End) → other ≢ replica → get_or after.ends other none ≡ get_or before.ends other none
   pub seated : (no_node : NodeView) (none : End) → HasSeated (get_or before.nodes replica no_node) (get_or before.ends replica none) (get_or after.ends replica none)
@@ -63,6 +68,7 @@ pub record IsSeatedAt (replica : ℕ) (before after : SettlingView) : Type 0 whe
 -- a session has gone on without a call
 pub record HasStayed (before after : SessionView) : Type 0 where
   pub value : after ≡ record before { made = after.made; seen = after.seen }
+  pub told : IsPrefix before.seen after.seen
   pub calls : own_calls after ≡ own_calls before
 
 -- so have all sessions of a replica
@@ -70,14 +76,40 @@ pub record HasGoneOn (before after : End) : Type 0 where
   pub roster : after.roster ≡ before.roster
   pub sessions : AllZip HasStayed before.sessions.items after.sessions.items
 
--- and of all replicas
+-- and of all replicas, whose links have the same plans
 pub record HaveGoneOn (before after : SettlingView) : Type 0 where
   pub desk : after.desk ≡ before.desk
   pub nodes : after.nodes ≡ before.nodes
+  pub plans : map (λ inbox. inbox.plan) after.inboxes ≡ map (λ inbox. inbox.plan) before.inboxes
   pub ends : AllZip HasGoneOn before.ends after.ends
+
+-- an end has the clients that it had, or client 0 where it had none
+abbrev pub HasSameClients : End → End → Type 0
+HasSameClients before after = (clients_by after ≡ clients_by before) ⊎ ((clients_by before ≡ []) × (clients_by after ≡ 0 ∷ []))
 
 -- the replicas are settled: what their sessions have seen of their clients' calls is what it was
 pub record AreSettled (before after : SettlingView) : Type 0 where
   pub desk : after.desk ≡ before.desk
   pub nodes : after.nodes ≡ before.nodes
   pub ends : (clients : List Client) (notes : List NoteView) → AreWhole clients notes before.nodes before.ends → AreWhole clients notes after.nodes after.ends
+  pub count : length after.ends ≡ length before.ends
+  pub clients : (replica : ℕ) (none : End) → replica < length before.ends → HasSameClients (get_or before.ends replica none) (get_or after.ends replica none)
+
+-- For each replica few more were made: at most 1,024 parcels waited for it, and in each round it sends to seven others at
+-- most and takes two parcels of each at most.
+abbrev pub HaveMadeFew : ℕ → SettlingView → SettlingView → Type 0
+HaveMadeFew rounds before after =
+    (replica : ℕ) (none : End) → replica < length before.ends
+    → made_by (get_or after.ends replica none) ≤ made_by (get_or before.ends replica none) + (1024 + 21 * rounds)
+
+-- after a front of a history, a replica sends to another, which takes the message where its link loses none
+pub record HasMet (lose : ℕ) (front history : List Entry) (from to : ℕ) : Type 0 where
+  pub sending : IsSending history from to
+  pub behind : IsPrefix front sending.before
+  pub taken : lose ≡ 0 → IsTakenIn sending.after to sending.message
+
+-- so has each replica with each other
+abbrev pub HaveMet : SettlingView → List Entry → List Entry → Type 0
+HaveMet settling front history =
+    (from to : ℕ) (none : InboxState ParcelView) → from < length settling.nodes → to < length settling.nodes → from ≢ to
+    → HasMet (get_or settling.inboxes to none).plan.lose front history from to

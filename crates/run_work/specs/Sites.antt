@@ -3,6 +3,8 @@ use Rattle.std.specs.Prelude.{◌≡◌, ℕ, ◌<◌, List, length, get_or}
 use Rattle.tact_base.specs.Setup.{IsSetup}
 use Rattle.run_history.specs.Seats.{DeskView}
 use Rattle.link_faults.specs.Inboxes.{InboxState}
+use Rattle.link_faults.specs.Plans.{no_faults}
+use Rattle.work_load.specs.Workloads.{Workload}
 use Rattle.replica_lock.specs.Parcels.{ParcelView}
 use Rattle.replica_lock.specs.Sessions.{NodeView}
 use Rattle.postbox.specs.Posts.{AreFor, PostboxView}
@@ -27,6 +29,10 @@ pub record AreSites (sites : SitesView) : Type 0 where
   pub inboxes_are : length sites.inboxes ≡ sites.desk.setup.replicas
   pub node : (replica : ℕ) (none : NodeView) → replica < length sites.nodes → IsNodeAt sites.desk replica (get_or sites.nodes replica none)
   pub inbox : (replica : ℕ) (none : PostboxView) → replica < length sites.inboxes → IsInboxAt sites.desk replica (get_or sites.inboxes replica none)
+
+-- each inbox has the plan of its replica's link
+abbrev pub HavePlans : Workload → List PostboxView → Type 0
+HavePlans plan inboxes = (replica : ℕ) (none : PostboxView) → replica < length inboxes → (get_or inboxes replica none).plan ≡ get_or plan.links replica no_faults
 
 -- the inboxes of the replicas of a desk, by number: all that waits is of the desk and for the replica
 pub record AreInboxes (desk : DeskView) (inboxes : List (InboxState ParcelView)) : Type 0 where

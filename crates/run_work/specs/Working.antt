@@ -1,5 +1,6 @@
 -- What a worker keeps, and what it has done.
 use Rattle.std.specs.Prelude.{◌≡◌, ℕ, ◌+◌, ◌*◌, ◌≤◌, List, All, length, get_or, [], ◌<◌, Option, Some, None}
+use Rattle.tact_base.specs.Setup.{IsSetup}
 use Rattle.run_history.specs.Seats.{DeskView}
 use Rattle.replica_lock.specs.Allowances.{AllowanceView}
 use Rattle.replica_lock.specs.Sessions.{IsFaultSeen, IsSessionOf, NodeView, SessionView, own_calls}
@@ -8,6 +9,7 @@ use Rattle.work_load.specs.Attempts.{Attempts, Begun}
 use Rattle.work_load.specs.Ranges.{IsItemOf}
 use Rattle.work_load.specs.declared.plan.Client.{Client}
 use Rattle.run_work.specs.Holding.{Holds}
+use Rattle.run_work.specs.Serving.{IsClientServed}
 use Rattle.run_work.specs.Sites.{SitesView}
 
 -- its node, its client, the session of the client and what this holds by conit, and the fault that it ended with, if any
@@ -21,6 +23,7 @@ pub record WorkerView : Type 0 where
 -- A worker's node is one of the desk's replicas, and that of its client, whose items are in range there. The session is of
 -- the node and the client, and the allowances are what the client holds after its calls.
 pub record IsWorker (desk : DeskView) (worker : WorkerView) : Type 0 where
+  pub sound : IsSetup desk.setup
   pub desk_is : worker.node.desk ≡ desk
   pub among : worker.node.replica < desk.setup.replicas
   pub replica : worker.node.replica ≡ worker.client.replica
@@ -55,3 +58,4 @@ pub record HasWorked (sites : SitesView) (tries : ℕ) (worker : WorkerView) : T
   pub number : worker.session.client ≡ worker.client.client
   pub ended : HasEnded tries worker.client worker.session worker.end
   pub busy : IsBusyFor (length worker.client.items) worker.session
+  pub served : worker.end ≡ None → IsClientServed worker.node.desk.setup worker.client worker.session.seen

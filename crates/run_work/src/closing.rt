@@ -1,10 +1,10 @@
 //! How a run ends: its inboxes, its nodes, and the history of all that was drawn.
-ghost use Rattle.std.specs.Prelude.{◌≡◌, ◌<◌, IfOk, List, ℕ, get_or, length};
+ghost use Rattle.std.specs.Prelude.{◌≡◌, ◌<◌, IfOk, List, ℕ, get_or, length, map};
 ghost use Rattle.run_history.specs.Seats.{DeskView, NoteView};
 ghost use Rattle.replica_lock.specs.Sessions.{NodeView};
 ghost use Rattle.postbox.specs.Posts.{PostboxView};
 ghost use Rattle.work_load.specs.declared.plan.Client.{Client};
-ghost use Rattle.run_work.specs.Ends.{AreDrawn, AreKeys, AreWhole};
+ghost use Rattle.run_work.specs.Ends.{AreApart, AreBusy, AreDrawn, AreFew, AreKeys, AreWhole};
 ghost use Rattle.run_work.specs.Sites.{AreInboxes, IsInboxAt, IsNodeAt};
 
 use crate::seat::End;
@@ -33,8 +33,9 @@ pub(crate) fn end_inboxes<R: Wait>(
     keys: Vec<Key>,
 ) -> Result<Vec<Inbox<Parcel>>, NoMemory>
     requires keys { AreKeys inboxes.items keys.items }
-    ensures { (desk : DeskView) → ((replica : ℕ) (none : PostboxView) → replica < length inboxes.items → IsInboxAt desk replica (get_or inboxes.items replica none))
+    ensures inboxes { (desk : DeskView) → ((replica : ℕ) (none : PostboxView) → replica < length inboxes.items → IsInboxAt desk replica (get_or inboxes.items replica none))
         → IfOk result (λ ended. (length ended.items ≡ length inboxes.items) × AreInboxes desk ended.items) }
+    ensures plans { IfOk result (λ ended. map (λ inbox. inbox.plan) ended.items ≡ map (λ inbox. inbox.plan) inboxes.items) }
 {
     let mut ended = Vec::new(alloc);
     let mut keys = keys.into_iter();
@@ -55,11 +56,13 @@ pub(crate) fn finish_all<R: Wait, G: Gate>(
     ends: Vec<End>,
 ) -> Result<Drawn, NoMemory>
     requires ends { (clients : List Client) × (notes : List NoteView) × AreWhole clients notes nodes.items ends.items }
-    ensures { (desk : DeskView) (clients : List Client) (notes : List NoteView)
+    ensures drawn { (desk : DeskView) (clients : List Client) (notes : List NoteView)
         → (length nodes.entry.items ≡ desk.setup.replicas)
         → ((replica : ℕ) (none : NodeView) → replica < length nodes.entry.items → IsNodeAt desk replica (get_or nodes.entry.items replica none))
         → AreWhole clients notes nodes.entry.items ends.items
         → IfOk result (AreDrawn clients notes desk) }
+    ensures few { (clients : List Client) (extra : ℕ) → AreBusy clients extra ends.items → AreApart ends.items
+        → IfOk result (λ drawn. AreFew clients extra drawn.clerks.items) }
 {
     let mut drawn = Drawn {
         clerks: Vec::new(alloc),

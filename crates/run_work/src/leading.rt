@@ -1,8 +1,11 @@
 //! What a replica does on behalf of its least client, when its workers have ended.
-ghost use Rattle.std.specs.Prelude.{◌≡◌, ◌≢◌, ◌<◌, IfErr, IfOk, OnOk, length, map};
+ghost use Rattle.std.specs.Prelude.{◌≡◌, ◌≢◌, ◌<◌, ◌≤◌, ◌+◌, IfErr, IfOk, List, OnOk, length, map};
+ghost use Rattle.run_model.specs.Histories.{IsPrefix};
+ghost use Rattle.run_model.specs.declared.entry.Entry.{Entry};
 ghost use Rattle.replica_lock.specs.Sessions.{IsFaultSeen, IsSessionOf};
 ghost use Rattle.postbox.specs.Posts.{IsFor};
-ghost use Rattle.run_work.specs.Ends.{IsStop};
+ghost use Rattle.run_work.specs.Ends.{IsStop, made_by};
+ghost use Rattle.run_work.specs.Rounds.{HasSeen, HasSeenSending, HasSeenTaking, IsLead};
 ghost use Rattle.run_work.specs.Settling.{HasGoneOn, HasSeated, IsEndOf};
 
 use crate::leaving::Stop;
@@ -32,7 +35,7 @@ impl End {
     // The place of the session of the least client.
     fn lead(&self) -> usize
         requires { 0 < length self.now.sessions.items }
-        ensures { result < length self.now.sessions.items }
+        ensures { IsLead (map (λ session. session.client) self.now.sessions.items) result }
     {
         let mut least = 0;
         for place in 1..self.sessions.len() {
@@ -56,7 +59,10 @@ impl End {
         requires to { to < node.now.desk.setup.replicas }
         requires other { to ≢ node.now.replica }
         ensures on { HasGoneOn self.old self.new }
+        ensures made { made_by self.new ≤ made_by self.old + 1 }
         ensures parcel { IfOk result (IsFor node.now.desk.table to) }
+        ensures sent { IfOk result (λ parcel. (front : List Entry) → HasSeen self.old front
+            → HasSeenSending (HasSeen self.new) front node.now.replica to parcel.message) }
         ensures stop { IfErr result (IsStop node.now.desk) }
     {
         let lead = self.lead();
@@ -79,6 +85,8 @@ impl End {
         requires ready { 0 < length self.old.sessions.items }
         requires parcel { IsFor node.now.desk.table node.now.replica parcel }
         ensures on { HasGoneOn self.old self.new }
+        ensures made { made_by self.new ≤ made_by self.old + 1 }
+        ensures taken { OnOk result (HasSeenTaking (HasSeen self.new) node.now.replica parcel.message) }
         ensures stop { IfErr result (IsStop node.now.desk) }
     {
         let lead = self.lead();
@@ -96,9 +104,24 @@ impl End {
         requires ready { 0 < length self.old.sessions.items }
         requires note { note.table ≡ node.now.desk.table }
         ensures on { HasGoneOn self.old self.new }
+        ensures made { made_by self.new ≤ made_by self.old }
+        ensures told { HasSeen self.new note.seen }
     {
         let lead = self.lead();
         node.hear(rt, &mut self.sessions[lead], note);
+    }
+
+    /// A note of what the session has seen.
+    pub(crate) fn note<G: Gate>(&mut self, node: &Node<'_, G>) -> Note
+        requires end { IsEndOf node.now self.old }
+        requires ready { 0 < length self.old.sessions.items }
+        ensures on { HasGoneOn self.old self.new }
+        ensures made { made_by self.new ≤ made_by self.old }
+        ensures table { result.table ≡ node.now.desk.table }
+        ensures seen { (front : List Entry) → HasSeen self.old front → IsPrefix front result.seen }
+    {
+        let lead = self.lead();
+        node.note(&mut self.sessions[lead])
     }
 
     /// That there was no memory for the replica.
@@ -106,6 +129,7 @@ impl End {
         requires end { IsEndOf node.now self.old }
         requires ready { 0 < length self.old.sessions.items }
         ensures on { HasGoneOn self.old self.new }
+        ensures made { made_by self.new ≤ made_by self.old }
         ensures stop { IsStop node.now.desk result }
     {
         let lead = self.lead();

@@ -1,6 +1,6 @@
 //! What the workers leave when all have ended.
 ghost use Rattle.std.specs.Prelude.{◌≡◌, ◌<◌, ◌++◌, ◌∷◌, [], All, IfOk, IfSome, OnOk, length, map, Some};
-ghost use Rattle.run_work.specs.Ends.{AreEnds, HasCome, HasStopped, HaveEnded, IsOneOf, IsStop, first_of, first_stop, note_of, stop_with};
+ghost use Rattle.run_work.specs.Ends.{AreEnds, HasCome, HasStopped, HaveEnded, HaveServed, IsOneOf, IsStop, first_of, first_stop, note_of, stop_with, AreBusy};
 ghost use Rattle.run_work.specs.Working.{HasWorked};
 ghost use Rattle.work_load.specs.Entries.{EachAfter};
 ghost use Rattle.work_load.specs.Ranges.{IsClientAfter};
@@ -44,9 +44,11 @@ pub(crate) fn leave_all<G: Gate>(
     requires clients { EachAfter (IsClientAfter sites.now.desk.setup.replicas sites.now.desk.setup.conits) [] (map (λ worker. worker.client) workers.items) }
     ensures ends { IfOk result (λ left. AreEnds (map (λ worker. worker.client) workers.entry.items) (map (λ worker. worker.client) workers.entry.items) left.notes.items sites.now ends.new) }
     ensures ended { IfOk result (λ left. HaveEnded tries (map (λ worker. worker.client) workers.entry.items) left.notes.items left.stop) }
+    ensures served { IfOk result (λ left. HaveServed sites.now.desk.setup (map (λ worker. worker.client) workers.entry.items) left.notes.items left.stop) }
     ensures notes { IfOk result (λ left. All (λ note. note.table ≡ sites.now.desk.table) left.notes.items) }
     ensures stop { IfOk result (λ left. IfSome left.stop (IsStop sites.now.desk)) }
     ensures first { IfOk result (λ left. left.stop ≡ first_stop workers.entry.items) }
+    ensures busy { OnOk result (AreBusy (map (λ worker. worker.client) workers.entry.items) 0 ends.new) }
 {
     stand(sites);
     let mut left = Left {

@@ -1,13 +1,14 @@
 //! The run of a plan.
-ghost use Rattle.std.specs.Prelude.{◌≡◌, ◌<◌, [], All, IfErr, IfOk, IfSome, List, None, OnOk, ℕ, length, map};
+ghost use Rattle.std.specs.Prelude.{◌≡◌, ◌≢◌, ◌<◌, [], All, IfErr, IfOk, IfSome, List, None, OnOk, ℕ, length, map};
 ghost use Rattle.run_model.specs.Histories.{IsPrefix};
 ghost use Rattle.run_history.specs.Seats.{fresh_clerks, NoteView};
+ghost use Rattle.work_load.specs.Attempts.{settling as settled_most};
 ghost use Rattle.work_load.specs.Workloads.{IsWorkload};
 ghost use Rattle.work_load.specs.declared.plan.Client.{Client};
-ghost use Rattle.run_work.specs.Ends.{AreEnds, AreWhole, HaveEnded, IsStop};
+ghost use Rattle.run_work.specs.Ends.{AreEnds, AreWhole, HaveEnded, HaveServed, IsStop, AreBusy};
 ghost use Rattle.run_work.specs.Finished.{HasFinished, IsFaultOf};
 ghost use Rattle.run_work.specs.Runs.{IsDoneRun, IsStoppedRun};
-ghost use Rattle.run_work.specs.Settling.{AreSettled};
+ghost use Rattle.run_work.specs.Settling.{AreSettled, HaveMet};
 ghost use Rattle.run_work.specs.Working.{HasWorked, IsFresh};
 
 use crate::closing::{Drawn, end_inboxes, finish_all};
@@ -91,8 +92,8 @@ struct Finished {
 }
 
 /// Runs a plan: a worker for each client does its items in order, each tried until its reply is final, at most `tries`
-/// times. When all have ended without a refusal, the plan's rounds settle the replicas. A run that a refusal stopped
-/// comes back in the fault, as far as it went.
+/// times. When all have ended without a refusal, the plan's rounds settle the replicas. A run in which a replica became
+/// full comes back in the fault, as far as it went; where memory was refused, none comes back.
 pub fn run_plan<R: Threads + Wait + Sync, C: Clock + Sync, G: Gate + Sync>(
     rt: &R,
     alloc: Global,
@@ -196,11 +197,14 @@ fn settle_after<R: Wait, C: Clock, G: Gate>(
     requires whole { (clients : List Client) × (noted : List NoteView) × AreWhole clients noted settling.old.nodes settling.old.ends }
     requires note { note.old.table ≡ settling.old.desk.table }
     requires stop { IfSome stop (IsStop settling.old.desk) }
-    ensures note { note.new ≡ note.old }
+    ensures note { (note.new.table ≡ note.old.table) × IsPrefix note.old.seen note.new.seen }
+    ensures met { IfOk result (λ after. after ≡ None → rounds ≢ 0 → HaveMet settling.old note.old.seen note.new.seen) }
     ensures settled { OnOk result (AreSettled settling.old settling.new) }
     ensures stop { IfOk result (λ after. IfSome after (IsStop settling.old.desk)) }
+    ensures first { IfOk result (λ after. after ≡ None → stop ≡ None) }
     ensures ended { (tries : ℕ) (clients : List Client) (noted : List NoteView)
         → HaveEnded tries clients noted stop → IfOk result (HaveEnded tries clients noted) }
+    ensures busy { (clients : List Client) → AreBusy clients 0 settling.old.ends → OnOk result (AreBusy clients (settled_most rounds) settling.new.ends) }
 {
     if let Some(stop) = stop {
         return Ok(Some(stop));
@@ -269,8 +273,10 @@ fn work_all<R: Threads + Wait + Sync, C: Clock + Sync, G: Gate + Sync>(
     requires ends { AreEnds [] [] [] sites.now ends.old }
     ensures ends { IfOk result (λ left. AreEnds plan.now.clients plan.now.clients left.notes.items sites.now ends.new) }
     ensures ended { IfOk result (λ left. HaveEnded tries plan.now.clients left.notes.items left.stop) }
+    ensures served { IfOk result (λ left. HaveServed sites.now.desk.setup plan.now.clients left.notes.items left.stop) }
     ensures notes { IfOk result (λ left. All (λ note. note.table ≡ sites.now.desk.table) left.notes.items) }
     ensures stop { IfOk result (λ left. IfSome left.stop (IsStop sites.now.desk)) }
+    ensures busy { OnOk result (AreBusy plan.now.clients 0 ends.new) }
 {
     let mut workers = seat_all(alloc, sites, ends, plan.clients())?;
     work_each(rt, sites, tries, clock, workers.as_mut_slice());

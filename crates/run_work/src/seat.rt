@@ -8,7 +8,7 @@ ghost use Rattle.work_load.specs.Entries.{EachAfter};
 ghost use Rattle.work_load.specs.Ranges.{IsClientAfter, IsItemOf};
 ghost use Rattle.run_work.specs.Ends.{AreEnds, AreKeys};
 ghost use Rattle.run_work.specs.Holding.{Holds};
-ghost use Rattle.run_work.specs.Sites.{AreSites};
+ghost use Rattle.run_work.specs.Sites.{AreSites, HavePlans};
 ghost use Rattle.run_work.specs.Working.{IsFresh};
 
 use crate::site::Sites;
@@ -48,6 +48,7 @@ pub(crate) fn open<'d, 'g, G: Gate>(
     requires clerks { clerks.items ≡ fresh_clerks desk.now }
     ensures desk { IfOk result (λ opened. opened.sites.desk ≡ desk.now) }
     ensures ends { IfOk result (λ opened. AreEnds [] [] [] opened.sites opened.ends.items) }
+    ensures plans { IfOk result (λ opened. HavePlans plan.now opened.sites.inboxes) }
     ensures keys { IfOk result (λ opened. AreKeys opened.sites.inboxes opened.keys.items) }
 {
     let mut nodes = Vec::new(alloc);

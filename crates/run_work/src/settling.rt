@@ -1,11 +1,18 @@
 //! How a run is settled: rounds in which each replica sends to each other, on one thread.
-ghost use Rattle.std.specs.Prelude.{◌≡◌, ◌≢◌, ◌<◌, IfErr, IfOk, IfSome, List, OnOk, get_or, length, map};
+ghost use Rattle.std.specs.Prelude.{◌≡◌, ◌≢◌, ◌<◌, ◌≤◌, ◌+◌, ◌*◌, ◌++◌, Contains, IfErr, IfOk, IfSome, List, None, OnOk, ℕ, [], get_or, length, map};
+ghost use Rattle.std.specs.Option.{option_map, option_to_list};
+ghost use Rattle.link_faults.specs.declared.plan.TheConstants.{INBOX_MAX};
 ghost use Rattle.postbox.specs.Posts.{IsFor};
+ghost use Rattle.run_model.specs.Histories.{IsPrefix};
+ghost use Rattle.run_model.specs.Runs.{IsRun};
+ghost use Rattle.run_model.specs.declared.entry.Entry.{Entry};
+ghost use Rattle.run_model.specs.declared.entry.Message.{Message};
 ghost use Rattle.run_history.specs.Seats.{NoteView};
 ghost use Rattle.work_load.specs.declared.plan.Client.{Client};
 ghost use Rattle.run_work.specs.Ends.{AreWhole, IsStop};
 ghost use Rattle.run_work.specs.declared.seat.End.{End};
-ghost use Rattle.run_work.specs.Settling.{AreReady, AreSettled, HaveGoneOn, IsSeatedAt};
+ghost use Rattle.run_work.specs.Rounds.{AreEmpty, AreStill, HasMadeOne, HasReached, HasSeenAt, HasSeenSending, HasSeenTaking, HasSentAll, HasSentTo, HasTaken, HaveArrived, HaveCome, HaveSeen, HaveSentAll, lose_at, made_at, waiting_at};
+ghost use Rattle.run_work.specs.Settling.{AreReady, AreSettled, HaveGoneOn, HaveMadeFew, HaveMet, IsSeatedAt};
 
 use crate::leaving::Stop;
 use crate::seat::End;
@@ -37,8 +44,9 @@ impl<'d, 'g, G: Gate> Model for Settling<'d, 'g, G> {
 }
 
 impl<'d, 'g, G: Gate> Settling<'d, 'g, G> {
-    /// Lets each replica hear what a note has seen, empties the inboxes, and then goes through so many rounds. It
-    /// ends at the first refusal, and tells where. Want of memory for a session is its only error.
+    /// Lets each replica hear what a note has seen, empties the inboxes, and then goes through so many rounds, at least
+    /// one. It ends at the first refusal, and tells where. The note then sees what the replicas have seen. Want of memory
+    /// for a session is its only error.
     pub(crate) fn settle<R: Wait, C: Clock>(
         &mut self,
         rt: &R,
@@ -48,13 +56,18 @@ impl<'d, 'g, G: Gate> Settling<'d, 'g, G> {
     ) -> Result<Option<Stop>, NoMemory>
         requires whole { (clients : List Client) × (seen : List NoteView) × AreWhole clients seen self.old.nodes self.old.ends }
         requires note { note.old.table ≡ self.old.desk.table }
-        ensures note { note.new ≡ note.old }
+        requires rounds { 0 < rounds }
+        ensures note { (note.new.table ≡ note.old.table) × IsPrefix note.old.seen note.new.seen }
+        ensures met { IfOk result (λ stop. stop ≡ None → HaveMet self.old note.old.seen note.new.seen) }
+        ensures few { OnOk result (HaveMadeFew rounds self.old self.new) }
         ensures settled { OnOk result (AreSettled self.old self.new) }
         ensures stop { IfOk result (λ stop. IfSome stop (IsStop self.old.desk)) }
     {
         self.seat_rest()?;
         self.hear(rt, note);
-        Ok(self.rounds(rt, clock, rounds).err())
+        let stop = self.rounds(rt, clock, rounds).err();
+        self.tell(note);
+        Ok(stop)
     }
 
     // A session of client 0 for each replica that has none.
@@ -62,6 +75,8 @@ impl<'d, 'g, G: Gate> Settling<'d, 'g, G> {
         requires whole { (clients : List Client) × (seen : List NoteView) × AreWhole clients seen self.old.nodes self.old.ends }
         ensures settled { OnOk result (AreSettled self.old self.new) }
         ensures ready { OnOk result (AreReady self.new) }
+        ensures still { OnOk result (AreStill self.old self.new) }
+        ensures inboxes { length self.old.inboxes ≡ length self.old.nodes }
     {
         for replica in 0..self.nodes.len() {
             self.seat(replica)?;
@@ -79,13 +94,15 @@ impl<'d, 'g, G: Gate> Settling<'d, 'g, G> {
     }
 
     // Each replica hears a note.
-    #[tactic(auto, using(crate::proofs::Settled::have_gone_on_same, crate::proofs::Settled::have_gone_on_then))]
+    #[tactic(auto, using(crate::proofs::Settled::have_gone_on_same, crate::proofs::Settled::have_gone_on_then, crate::proofs::RoundSteps::are_still_same, crate::proofs::RoundSteps::are_still_then))]
     fn hear<R: Wait>(&mut self, rt: &R, note: &mut Note)
         requires ready { AreReady self.old }
         requires note { note.old.table ≡ self.old.desk.table }
         ensures note { note.new ≡ note.old }
         ensures on { HaveGoneOn self.old self.new }
         ensures ready { AreReady self.new }
+        ensures still { AreStill self.old self.new }
+        ensures told { HaveSeen self.new note.old.seen }
     {
         for replica in 0..self.nodes.len() {
             let heard = note.twin(self.desk);
@@ -100,8 +117,40 @@ impl<'d, 'g, G: Gate> Settling<'d, 'g, G> {
         requires note { note.table ≡ self.old.desk.table }
         ensures on { HaveGoneOn self.old self.new }
         ensures ready { AreReady self.new }
+        ensures still { AreStill self.old self.new }
+        ensures told { HasSeenAt self.new replica note.seen }
     {
         self.ends[replica].hear(rt, &self.nodes[replica], note);
+    }
+
+    // A note takes in what each replica has seen.
+    #[tactic(auto, using(crate::proofs::Settled::have_gone_on_same, crate::proofs::Settled::have_gone_on_then, crate::proofs::RoundSteps::are_still_same, crate::proofs::RoundSteps::are_still_then))]
+    fn tell(&mut self, note: &mut Note)
+        requires ready { AreReady self.old }
+        requires note { note.old.table ≡ self.old.desk.table }
+        ensures on { HaveGoneOn self.old self.new }
+        ensures still { AreStill self.old self.new }
+        ensures note { (note.new.table ≡ note.old.table) × IsPrefix note.old.seen note.new.seen }
+        ensures run { 0 < length self.old.nodes → IsRun self.old.desk.setup note.new.seen }
+        ensures told { (replica : ℕ) (front : List Entry) → replica < length self.old.nodes → HasSeenAt self.old replica front → IsPrefix front note.new.seen }
+    {
+        for replica in 0..self.nodes.len() {
+            let told = self.note_at(replica);
+            note.meet(self.desk, told);
+        }
+    }
+
+    // A note of what a replica has seen.
+    fn note_at(&mut self, replica: usize) -> Note
+        requires replica { replica < length self.old.nodes }
+        requires ready { AreReady self.old }
+        ensures on { HaveGoneOn self.old self.new }
+        ensures ready { AreReady self.new }
+        ensures still { AreStill self.old self.new }
+        ensures table { result.table ≡ self.old.desk.table }
+        ensures seen { (front : List Entry) → HasSeenAt self.old replica front → IsPrefix front result.seen }
+    {
+        self.ends[replica].note(&self.nodes[replica])
     }
 
     // Empties the inboxes, and goes through so many rounds.
@@ -110,22 +159,42 @@ impl<'d, 'g, G: Gate> Settling<'d, 'g, G> {
         requires ready { AreReady self.old }
         ensures on { HaveGoneOn self.old self.new }
         ensures ready { AreReady self.new }
+        ensures made { (replica : ℕ) → replica < length self.old.nodes → made_at self.new replica ≤ made_at self.old replica + (1024 + 21 * rounds) }
+        ensures arrived { OnOk result ((front : List Entry) → 0 < rounds → HaveSeen self.old front → HaveArrived front self.new) }
         ensures stop { IfErr result (IsStop self.old.desk) }
     {
         self.take_all(rt, clock)?;
         for _round in 0..rounds {
-            self.send_all(rt, clock)?;
-            self.take_all(rt, clock)?;
+            self.round(rt, clock)?;
         }
         Ok(())
+    }
+
+    // Each replica sends to each other, and then takes all that waits for it.
+    fn round<R: Wait, C: Clock>(&mut self, rt: &R, clock: &C) -> Result<(), Stop>
+        requires ready { AreReady self.old }
+        requires empty { AreEmpty self.old }
+        ensures on { HaveGoneOn self.old self.new }
+        ensures ready { AreReady self.new }
+        ensures made { (replica : ℕ) → replica < length self.old.nodes → made_at self.new replica ≤ made_at self.old replica + 21 }
+        ensures empty { OnOk result (AreEmpty self.new) }
+        ensures arrived { OnOk result ((front : List Entry) → HaveSeen self.old front → HaveArrived front self.new) }
+        ensures stop { IfErr result (IsStop self.old.desk) }
+    {
+        self.send_all(rt, clock)?;
+        self.take_all(rt, clock)
     }
 
     // Each replica sends to each other.
     #[tactic(auto, using(crate::proofs::Settled::have_gone_on_same, crate::proofs::Settled::have_gone_on_then))]
     fn send_all<R: Wait, C: Clock>(&mut self, rt: &R, clock: &C) -> Result<(), Stop>
         requires ready { AreReady self.old }
+        requires empty { AreEmpty self.old }
         ensures on { HaveGoneOn self.old self.new }
         ensures ready { AreReady self.new }
+        ensures all { HaveSentAll self.old self.new }
+        ensures reached { OnOk result ((front : List Entry) (from to : ℕ) → HaveSeen self.old front
+            → from < length self.old.nodes → to < length self.old.nodes → to ≢ from → HasReached front from to self.new) }
         ensures stop { IfErr result (IsStop self.old.desk) }
     {
         for from in 0..self.nodes.len() {
@@ -139,8 +208,12 @@ impl<'d, 'g, G: Gate> Settling<'d, 'g, G> {
     fn send_from<R: Wait, C: Clock>(&mut self, rt: &R, clock: &C, from: usize) -> Result<(), Stop>
         requires from { from < length self.old.nodes }
         requires ready { AreReady self.old }
+        requires room { (to : ℕ) → to < length self.old.nodes → length (waiting_at self.old to) < INBOX_MAX }
         ensures on { HaveGoneOn self.old self.new }
         ensures ready { AreReady self.new }
+        ensures all { HasSentAll from self.old self.new }
+        ensures reached { OnOk result ((front : List Entry) (to : ℕ) → HasSeenAt self.old from front
+            → to < length self.old.nodes → to ≢ from → HasReached front from to self.new) }
         ensures stop { IfErr result (IsStop self.old.desk) }
     {
         for to in 0..self.nodes.len() {
@@ -164,15 +237,18 @@ impl<'d, 'g, G: Gate> Settling<'d, 'g, G> {
         requires to { to < length self.old.nodes }
         requires other { to ≢ from }
         requires ready { AreReady self.old }
+        requires room { length (waiting_at self.old to) < INBOX_MAX }
         ensures on { HaveGoneOn self.old self.new }
         ensures ready { AreReady self.new }
+        ensures sent { HasSentTo from to self.old self.new }
+        ensures reached { OnOk result ((front : List Entry) → HasSeenAt self.old from front → HasReached front from to self.new) }
         ensures stop { IfErr result (IsStop self.old.desk) }
     {
         let parcel = self.parcel(rt, clock, from, to)?;
-        if self.put(to, parcel).is_ok() {
-            return Ok(());
-        }
-        Err(self.no_memory(from))
+        let Ok(()) = self.put(to, parcel) else {
+            return Err(self.no_memory(from));
+        };
+        Ok(())
     }
 
     // What a replica sends to another.
@@ -189,7 +265,10 @@ impl<'d, 'g, G: Gate> Settling<'d, 'g, G> {
         requires ready { AreReady self.old }
         ensures on { HaveGoneOn self.old self.new }
         ensures ready { AreReady self.new }
+        ensures made { HasMadeOne from self.old self.new }
         ensures parcel { IfOk result (IsFor self.old.desk.table to) }
+        ensures sent { IfOk result (λ parcel. (front : List Entry) → HasSeenAt self.old from front
+            → HasSeenSending (HasSeenAt self.new from) front from to parcel.message) }
         ensures stop { IfErr result (IsStop self.old.desk) }
     {
         self.ends[from].send(rt, clock, &self.nodes[from], to as u32)
@@ -201,6 +280,10 @@ impl<'d, 'g, G: Gate> Settling<'d, 'g, G> {
         requires parcel { IsFor self.old.desk.table to parcel }
         ensures on { HaveGoneOn self.old self.new }
         ensures ready { AreReady self.old → AreReady self.new }
+        ensures ends { self.new.ends ≡ self.old.ends }
+        ensures come { HaveCome to self.old self.new }
+        ensures waits { OnOk result (lose_at self.old to ≡ 0 → length (waiting_at self.old to) < INBOX_MAX
+            → Contains (waiting_at self.new to) parcel.message) }
     {
         let Ok(_) = self.inboxes[to].put(self.desk, parcel) else {
             return Err(NoMemory);
@@ -214,6 +297,7 @@ impl<'d, 'g, G: Gate> Settling<'d, 'g, G> {
         requires ready { AreReady self.old }
         ensures on { HaveGoneOn self.old self.new }
         ensures ready { AreReady self.new }
+        ensures still { AreStill self.old self.new }
         ensures stop { IsStop self.old.desk result }
     {
         self.ends[replica].no_memory(&self.nodes[replica])
@@ -225,6 +309,11 @@ impl<'d, 'g, G: Gate> Settling<'d, 'g, G> {
         requires ready { AreReady self.old }
         ensures on { HaveGoneOn self.old self.new }
         ensures ready { AreReady self.new }
+        ensures made { (replica : ℕ) → made_at self.new replica ≤ made_at self.old replica + length (waiting_at self.old replica) }
+        ensures few { (replica : ℕ) → made_at self.new replica ≤ made_at self.old replica + INBOX_MAX }
+        ensures empty { OnOk result (AreEmpty self.new) }
+        ensures taken { OnOk result ((replica : ℕ) (message : Message) → replica < length self.old.nodes → Contains (waiting_at self.old replica) message
+            → HasSeenTaking (HasSeenAt self.new replica) replica message) }
         ensures stop { IfErr result (IsStop self.old.desk) }
     {
         for replica in 0..self.nodes.len() {
@@ -245,9 +334,14 @@ impl<'d, 'g, G: Gate> Settling<'d, 'g, G> {
         requires ready { AreReady self.old }
         ensures on { HaveGoneOn self.old self.new }
         ensures ready { AreReady self.new }
+        ensures made { HasTaken replica self.old self.new }
+        ensures few { length (waiting_at self.old replica) ≤ INBOX_MAX }
+        ensures empty { OnOk result (waiting_at self.new replica ≡ []) }
+        ensures taken { OnOk result ((message : Message) → Contains (waiting_at self.old replica) message
+            → HasSeenTaking (HasSeenAt self.new replica) replica message) }
         ensures stop { IfErr result (IsStop self.old.desk) }
     {
-        for _taken in 0..self.inboxes[replica].counts().waiting {
+        for _taken in 0..self.waiting(replica) {
             let Some(parcel) = self.next(replica) else {
                 return Ok(());
             };
@@ -256,11 +350,24 @@ impl<'d, 'g, G: Gate> Settling<'d, 'g, G> {
         Ok(())
     }
 
+    // How many parcels wait for a replica.
+    fn waiting(&self, replica: usize) -> u64
+        requires replica { replica < length self.now.nodes }
+        ensures count { result ≡ length (waiting_at self.now replica) }
+        ensures few { result ≤ INBOX_MAX }
+    {
+        self.inboxes[replica].counts().waiting
+    }
+
     // The first parcel that waits for a replica, if any does.
     fn next(&mut self, replica: usize) -> Option<Parcel>
         requires replica { replica < length self.old.nodes }
         ensures on { HaveGoneOn self.old self.new }
         ensures ready { AreReady self.old → AreReady self.new }
+        ensures ends { self.new.ends ≡ self.old.ends }
+        ensures first { waiting_at self.old replica ≡ option_to_list (option_map (λ parcel. parcel.message) result) ++ waiting_at self.new replica }
+        ensures none { result ≡ None → waiting_at self.new replica ≡ [] }
+        ensures others { (other : ℕ) → other ≢ replica → waiting_at self.new other ≡ waiting_at self.old other }
         ensures parcel { IfSome result (IsFor self.old.desk.table replica) }
     {
         self.inboxes[replica].next()
@@ -279,6 +386,8 @@ impl<'d, 'g, G: Gate> Settling<'d, 'g, G> {
         requires parcel { IsFor self.old.desk.table replica parcel }
         ensures on { HaveGoneOn self.old self.new }
         ensures ready { AreReady self.new }
+        ensures made { HasMadeOne replica self.old self.new }
+        ensures taken { OnOk result (HasSeenTaking (HasSeenAt self.new replica) replica parcel.message) }
         ensures stop { IfErr result (IsStop self.old.desk) }
     {
         self.ends[replica].take(rt, clock, &self.nodes[replica], parcel)

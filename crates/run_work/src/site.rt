@@ -1,5 +1,6 @@
 //! The nodes of a run and the inboxes of their replicas.
 ghost use Rattle.std.specs.Prelude.{◌≡◌, ◌<◌, ◌≤◌, slice_get, Some};
+ghost use Rattle.tact_base.specs.Setup.{IsSetup};
 ghost use Rattle.tact_base.specs.declared.limits.TheConstants.{REPLICAS_MAX};
 ghost use Rattle.run_work.specs.Sites.{IsInboxAt, IsNodeAt};
 
@@ -47,7 +48,8 @@ impl<'d, 'g, G: Gate> Sites<'d, 'g, G> {
 
     /// How many conits there are.
     pub(crate) fn conits(&self) -> u32
-        ensures { result ≡ self.now.desk.setup.conits }
+        ensures count { result ≡ self.now.desk.setup.conits }
+        ensures sound { IsSetup self.now.desk.setup }
     {
         self.conits
     }

@@ -1,8 +1,9 @@
 //! What a worker takes and sends between its tries.
-ghost use Rattle.std.specs.Prelude.{◌≡◌, ◌≢◌, ◌<◌, IfErr};
+ghost use Rattle.std.specs.Prelude.{◌≡◌, ◌≢◌, ◌<◌, IfErr, IfSome, OnOk};
 ghost use Rattle.replica_lock.specs.Sessions.{IsFaultSeen};
 ghost use Rattle.postbox.specs.Posts.{IsFor};
 ghost use Rattle.run_work.specs.Holding.{IsQuiet};
+ghost use Rattle.run_work.specs.Serving.{HasSentTo, IsOther};
 
 use crate::worker::{Worker, moment};
 use replica_lock::{NodeFault, Parcel, TakeFault};
@@ -25,8 +26,10 @@ impl<'s, 'd, 'g, G: Gate> Worker<'s, 'd, 'g, G> {
         clock: &C,
         wish: Option<u32>,
     ) -> Result<(), NodeFault>
+        requires wish { IfSome wish (IsOther self.old.node.desk.setup self.old.session.replica) }
         ensures same { self.new ≡ record self.old { session = self.new.session } }
         ensures quiet { IsQuiet 23 self.old.session self.new.session }
+        ensures sent { OnOk result (IfSome wish (λ to. HasSentTo to self.old.session self.new.session)) }
         ensures fault { IfErr result (IsFaultSeen self.new.session) }
     {
         let answers = self.take_some(rt, clock)?;
@@ -78,15 +81,14 @@ impl<'s, 'd, 'g, G: Gate> Worker<'s, 'd, 'g, G> {
         }
     }
 
-    // Sends to a replica that a reply wishes word of.
+    // Sends to another replica that a reply wishes word of.
     fn send_to<R: Wait, C: Clock>(&mut self, rt: &R, clock: &C, to: u32) -> Result<(), NodeFault>
+        requires other { IsOther self.old.node.desk.setup self.old.session.replica to }
         ensures same { self.new ≡ record self.old { session = self.new.session } }
         ensures quiet { IsQuiet 1 self.old.session self.new.session }
+        ensures sent { OnOk result (HasSentTo to self.old.session self.new.session) }
         ensures fault { IfErr result (IsFaultSeen self.new.session) }
     {
-        if to == self.session.replica() || to >= self.sites.count() {
-            return Ok(());
-        }
         let parcel = self.node.send(rt, &mut self.session, moment(clock), to)?;
         self.sites.inbox(to).put(rt, self.sites.desk(), parcel)?;
         Ok(())

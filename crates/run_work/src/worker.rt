@@ -7,6 +7,7 @@ ghost use Rattle.replica_lock.specs.Locks.{IsWriteOrRead};
 ghost use Rattle.work_load.specs.Ranges.{IsAmountOf, IsItemOf, IsWeightOf};
 ghost use Rattle.work_load.specs.declared.plan.Item.TheVariants as item;
 ghost use Rattle.run_work.specs.Holding.{IsLater};
+ghost use Rattle.run_work.specs.Serving.{HasLent, Owes};
 ghost use Rattle.run_work.specs.Trying.{HasAsked, HasTried, loaned_by, tried_by};
 
 use crate::site::Sites;
@@ -96,6 +97,8 @@ impl<'s, 'd, 'g, G: Gate> Worker<'s, 'd, 'g, G> {
         ensures same { self.new ≡ record self.old { session = self.new.session; allowances = self.new.allowances } }
         ensures later { IsLater 1 self.old.session self.new.session }
         ensures tried { IfOk result (λ tried. HasTried item.now tried (own_calls self.old.session) (own_calls self.new.session)) }
+        ensures owes { IfOk result (λ tried. Owes self.old.node.desk.setup tried self.old.session self.new.session) }
+        ensures lent { OnOk result (HasLent self.old.node.desk.setup item.now self.old.session self.new.session) }
         ensures refused { OnErr result (own_calls self.new.session ≡ own_calls self.old.session) }
         ensures fault { IfErr result (IsFaultSeen self.new.session) }
     {
@@ -133,6 +136,7 @@ impl<'s, 'd, 'g, G: Gate> Worker<'s, 'd, 'g, G> {
         ensures same { self.new ≡ record self.old { session = self.new.session } }
         ensures later { IsLater 1 self.old.session self.new.session }
         ensures tried { IfOk result (λ tried. HasAsked request tried (own_calls self.old.session) (own_calls self.new.session)) }
+        ensures owes { IfOk result (λ tried. Owes self.old.node.desk.setup tried self.old.session self.new.session) }
         ensures refused { OnErr result (own_calls self.new.session ≡ own_calls self.old.session) }
         ensures fault { IfErr result (IsFaultSeen self.new.session) }
     {
@@ -154,6 +158,7 @@ impl<'s, 'd, 'g, G: Gate> Worker<'s, 'd, 'g, G> {
         ensures same { self.new ≡ record self.old { session = self.new.session; allowances = self.new.allowances } }
         ensures later { IsLater 1 self.old.session self.new.session }
         ensures tried { IfOk result (λ tried. HasTried (item.Held weight op) tried (own_calls self.old.session) (own_calls self.new.session)) }
+        ensures owes { IfOk result (λ tried. Owes self.old.node.desk.setup tried self.old.session self.new.session) }
         ensures refused { OnErr result (own_calls self.new.session ≡ own_calls self.old.session) }
         ensures fault { IfErr result (IsFaultSeen self.new.session) }
     {
@@ -182,6 +187,7 @@ impl<'s, 'd, 'g, G: Gate> Worker<'s, 'd, 'g, G> {
         ensures same { self.new ≡ record self.old { session = self.new.session; allowances = self.new.allowances } }
         ensures later { IsLater 1 self.old.session self.new.session }
         ensures tried { IfOk result (λ tried. HasTried (item.Reserve conit amount) tried (own_calls self.old.session) (own_calls self.new.session)) }
+        ensures owes { IfOk result (λ tried. Owes self.old.node.desk.setup tried self.old.session self.new.session) }
         ensures refused { OnErr result (own_calls self.new.session ≡ own_calls self.old.session) }
         ensures fault { IfErr result (IsFaultSeen self.new.session) }
     {
@@ -207,6 +213,7 @@ impl<'s, 'd, 'g, G: Gate> Worker<'s, 'd, 'g, G> {
         ensures same { self.new ≡ record self.old { session = self.new.session; allowances = self.new.allowances } }
         ensures later { IsLater 1 self.old.session self.new.session }
         ensures tried { IfOk result (λ tried. HasTried (item.Release conit) tried (own_calls self.old.session) (own_calls self.new.session)) }
+        ensures owes { IfOk result (λ tried. Owes self.old.node.desk.setup tried self.old.session self.new.session) }
         ensures refused { OnErr result (own_calls self.new.session ≡ own_calls self.old.session) }
         ensures fault { IfErr result (IsFaultSeen self.new.session) }
     {

@@ -1,7 +1,8 @@
-use Rattle.std.proofs.Common.{◌≡◌, ℕ, ◌+◌, ◌<◌, List, [], ◌∷◌, ◌++◌, length, get_or, map, ap, sym, ◌∙◌, subst, ⊎_elim, arith}
+use Rattle.std.proofs.Common.{◌≡◌, ℕ, ◌+◌, ◌<◌, List, [], ◌∷◌, ◌++◌, length, get_or, map, ap, ap₂, sym, ◌∙◌, subst, ⊎_elim, arith}
 use Rattle.std.proofs.lemmas.Bool.{cases_lt}
-use Rattle.std.proofs.lemmas.List.{append_assoc, get_or_append_left, get_or_push, length_push}
+use Rattle.std.proofs.lemmas.List.{append_assoc, get_or_append_left, get_or_push, length_push, map-append}
 use Rattle.link_faults.specs.Inboxes.{InboxState}
+use Rattle.link_faults.specs.declared.plan.LinkPlan.{LinkPlan}
 use Rattle.run_history.specs.Seats.{DeskView}
 use Rattle.replica_lock.specs.Parcels.{ParcelView}
 use Rattle.postbox.specs.Posts.{AreFor, PostboxView}
@@ -60,14 +61,24 @@ loop-inbox-preserved g c =
       all = append_assoc before (box ∷ []) c.next.new.self.rest.items ∙ ap (λ (items : List PostboxView). before ++ items) (sym c.in-Some.ensures.steps.0) ∙ c.loop-inbox.invariant.all;
       keys = keys_rest c.in-Some-next.key box.cell c.next-in-loop-inbox.new.self.rest.items (map (λ (b : PostboxView). b.cell) c.next.new.self.rest.items)
           (sym c.in-Some-next.ensures.items ∙ c.loop-inbox.invariant.keys ∙ ap (map (λ (b : PostboxView). b.cell)) c.in-Some.ensures.steps.0);
+      plans = ap (map (λ (i : InboxState ParcelView). i.plan)) c.in_ok-push.ensures.items
+          ∙ map-append (λ (i : InboxState ParcelView). i.plan) ended (inbox ∷ [])
+          ∙ ap₂ (λ (plans : List LinkPlan) (plan : LinkPlan). plans ++ plan ∷ []) c.loop-inbox.invariant.plans c.end.ensures.plan
+          ∙ sym (map-append (λ (b : PostboxView). b.plan) before (box ∷ []));
       count = ap length c.in_ok-push.ensures.items ∙ length_push ended inbox ∙ ap (λ (k : ℕ). k + 1) c.loop-inbox.invariant.count ∙ sym (length_push before box);
       ended = subst (λ (all : List (InboxState ParcelView)). (replica : ℕ) (no_box : PostboxView) (none : InboxState ParcelView) → replica < length all
           → AreFor (get_or (before ++ box ∷ []) replica no_box).desk (get_or (before ++ box ∷ []) replica no_box).to (get_or all replica none).waiting) (sym c.in_ok-push.ensures.items)
           (ended_more before ended box inbox c.loop-inbox.invariant.count c.end.ensures.parcels c.loop-inbox.invariant.ended);
     }
 
-pub returns : goal.returns
-returns g c =
+pub returns-clause-plans : goal.returns-clause-plans
+returns-clause-plans g c =
+    let all : c.loop-inbox.yielded ≡ c.args.inboxes.items =
+    all_there c.loop-inbox.yielded c.loop-inbox.inbox-iterator.rest.items c.args.inboxes.items c.loop-inbox.invariant.all (omega (arith, c.in-None.ensures.steps.0)) in
+    c.loop-inbox.invariant.plans ∙ ap (map (λ (b : PostboxView). b.plan)) all
+
+pub returns-clause-inboxes : goal.returns-clause-inboxes
+returns-clause-inboxes g c =
     λ desk at.
     let boxes : List PostboxView = c.args.inboxes.items in
     let ended : List (InboxState ParcelView) = c.loop-inbox.ended.items in

@@ -10,6 +10,7 @@ use Rattle.work_load.specs.declared.plan.Client.{Client}
 use Rattle.run_work.specs.Ends.{AreWhole, IsWhole}
 use Rattle.run_work.specs.declared.seat.End.{End}
 use Rattle.run_work.proofs.Ended.{AreLeft, AreLeft-more, IsLeft, all_there, count_at, drawn_each, first_dropped, rest_dropped, stands_at}
+use Rattle.run_work.proofs.Reach.{AreFew-left}
 use Rattle.run_work.proofs.closing.finish_all.Goals as goal
 
 -- there is an end for each node
@@ -92,8 +93,8 @@ loop-node-preserved g c =
           (λ d. first_dropped ends (length before) end c.next-in-loop-node.new.self.rest.items d dropped) is c.loop-node.invariant.left);
     }
 
-pub returns : goal.returns
-returns g c =
+pub returns-clause-drawn : goal.returns-clause-drawn
+returns-clause-drawn g c =
     λ desk clients notes size at whole.
     let nodes : List NodeView = c.args.nodes.items in
     let ends : List End = c.args.ends.items in
@@ -106,3 +107,14 @@ returns g c =
       each = drawn_each clients notes desk nodes ends clerks count at whole (subst (λ (before : List NodeView). AreLeft before ends clerks) all c.loop-node.invariant.left);
       parts = c.loop-node.invariant.parts;
     }
+
+pub returns-clause-few : goal.returns-clause-few
+returns-clause-few g c =
+    λ clients extra busy apart.
+    let nodes : List NodeView = c.args.nodes.items in
+    let ends : List End = c.args.ends.items in
+    let clerks : List ClerkView = c.loop-node.drawn.clerks.items in
+    let all : c.loop-node.yielded ≡ nodes =
+    all_there c.loop-node.yielded c.loop-node.node-iterator.rest.items nodes c.loop-node.invariant.all (omega (arith, c.in-None.ensures.steps.0)) in
+    AreFew-left clients extra nodes ends clerks (c.loop-node.invariant.count ∙ ap length all) c.requires.ends.2.count
+    (subst (λ (before : List NodeView). AreLeft before ends clerks) all c.loop-node.invariant.left) busy apart

@@ -1,4 +1,4 @@
-use Rattle.std.proofs.Common.{◌≡◌, ℕ, ◌<◌, false, List, [], ◌∷◌, ◌++◌, All, Option, None, length, map, refl, ap, sym, ◌∙◌, subst, arith}
+use Rattle.std.proofs.Common.{◌≡◌, ℕ, ◌<◌, false, List, [], ◌∷◌, ◌++◌, All, Option, None, length, map, refl, ap, sym, ◌∙◌, subst, arith, rules}
 use Rattle.std.specs.List.{list_any}
 use Rattle.std.proofs.lemmas.List.{append_assoc, map-append, map_push}
 use Rattle.std.proofs.lemmas.List.Elements.{All-head, All-push}
@@ -9,14 +9,15 @@ use Rattle.work_load.specs.Clients.{is_of}
 use Rattle.work_load.specs.Entries.{EachAfter}
 use Rattle.work_load.specs.Ranges.{IsClientAfter}
 use Rattle.work_load.specs.declared.plan.Client.{Client}
-use Rattle.run_work.specs.Ends.{AreEnds, HasCome, HasStopped, HaveEnded, first_stop, note_of, stop_with}
+use Rattle.run_work.specs.Ends.{AreEnds, HasCome, HasStopped, HaveEnded, HaveServed, first_stop, note_of, stop_with, AreBusy}
 use Rattle.run_work.specs.Sites.{AreSites, SitesView}
 use Rattle.run_work.specs.Working.{HasWorked, WorkerView}
 use Rattle.run_work.specs.declared.leaving.Stop.{Stop}
 use Rattle.run_work.specs.declared.seat.End.{End}
 use Rattle.run_work.proofs.Ended.{all_there}
 use Rattle.run_work.proofs.Ending.{AreEnds-come, each_mid}
-use Rattle.run_work.proofs.Stopping.{HaveEnded-more, HaveEnded-size, IsStop-more, desk_of, replica_of}
+use Rattle.run_work.proofs.Stopping.{HaveEnded-more, HaveEnded-size, HaveServed-more, IsStop-more, desk_of, replica_of}
+use Rattle.run_work.proofs.Reach.{AreBusy-come, AreBusy-none}
 use Rattle.run_work.proofs.leaving.leave_all.Goals as goal
 
 -- one of the workers has worked
@@ -70,6 +71,19 @@ ended_more sites tries back worker notes now before after are has noted stopped 
     (subst (λ (all : List NoteView). HaveEnded tries (map client back ++ worker.client ∷ []) all after) (sym noted)
     (HaveEnded-more tries (map client back) notes worker before after (replica_of sites tries worker are has) has.number has.ended stopped ended))
 
+served_more : (sites : SitesView) (tries : ℕ) (back : List WorkerView) (worker : WorkerView) (notes now : List NoteView) (before after : Option Stop)
+    → AreSites sites
+    → HasWorked sites tries worker
+    → now ≡ notes ++ note_of worker ∷ []
+    → HasStopped worker worker.end before after
+    → HaveServed sites.desk.setup (map (λ (w : WorkerView). w.client) back) notes before
+    → HaveServed sites.desk.setup (map (λ (w : WorkerView). w.client) (back ++ worker ∷ [])) now after
+served_more sites tries back worker notes now before after are has noted stopped served =
+    let client : WorkerView → Client = λ w. w.client in
+    subst (λ (clients : List Client). HaveServed sites.desk.setup clients now after) (sym (map_push client back worker))
+    (subst (λ (all : List NoteView). HaveServed sites.desk.setup (map client back ++ worker.client ∷ []) all after) (sym noted)
+    (HaveServed-more sites.desk.setup (map client back) notes worker before after (ap (λ (desk : DeskView). desk.setup) (desk_of sites tries worker are has)) has.served stopped served))
+
 notes_more : (sites : SitesView) (tries : ℕ) (worker : WorkerView) (notes now : List NoteView)
     → AreSites sites
     → HasWorked sites tries worker
@@ -80,6 +94,16 @@ notes_more sites tries worker notes now are has noted all =
     let IsOfDesk : NoteView → Type 0 = λ note. note.table ≡ sites.desk.table in
     subst (All IsOfDesk) (sym noted) (All-push IsOfDesk notes (note_of worker) all (ap (λ (desk : DeskView). desk.table) (desk_of sites tries worker are has)))
 
+busy_more : (sites : SitesView) (tries : ℕ) (back : List WorkerView) (worker : WorkerView) (before after : List End)
+    → HasWorked sites tries worker
+    → HasCome worker.session worker.client.replica before after
+    → AreBusy (map (λ (w : WorkerView). w.client) back) 0 before
+    → AreBusy (map (λ (w : WorkerView). w.client) (back ++ worker ∷ [])) 0 after
+busy_more sites tries back worker before after has come busy =
+    let client : WorkerView → Client = λ w. w.client in
+    subst (λ (clients : List Client). AreBusy clients 0 after) (sym (map_push client back worker))
+    (AreBusy-come (map client back) worker.client 0 worker.session before after has.busy come busy)
+
 pub leave-requires : goal.leave-requires
 leave-requires g c =
     let sites : SitesView = c.args.sites.now in
@@ -89,6 +113,11 @@ leave-requires g c =
     let whole : before ++ worker ∷ after ≡ c.args.workers.items = ap (λ (items : List WorkerView). before ++ items) (sym c.in-Some.ensures.steps.0) ∙ c.loop-worker.invariant.all in
     let has = has_worked sites c.args.tries before after c.args.workers.items worker whole c.requires.workers in
     omega (arith, has.replica, c.loop-worker.invariant.ends.count)
+
+pub loop-worker-init : goal.loop-worker-init
+loop-worker-init g c =
+    let busy = AreBusy-none (map (λ (w : WorkerView). w.client) c.args.workers.items) c.args.sites.now c.args.ends.now c.requires.ends in
+    search rules
 
 pub loop-worker-preserved : goal.loop-worker-preserved
 loop-worker-preserved g c =
@@ -109,11 +138,13 @@ loop-worker-preserved g c =
       ends = ends_more sites tries (map (λ (w : WorkerView). w.client) workers) before worker left.notes.items now.notes.items left.stop c.loop-worker.ends c.leave.new.ends
           c.stand.ensures has new invariant.ended c.in_ok-leave.ensures.note invariant.ends c.in_ok-leave.ensures.end;
       ended = ended_more sites tries before worker left.notes.items now.notes.items left.stop now.stop c.stand.ensures has c.in_ok-leave.ensures.note c.in_ok-leave.ensures.stop invariant.ended;
+      served = served_more sites tries before worker left.notes.items now.notes.items left.stop now.stop c.stand.ensures has c.in_ok-leave.ensures.note c.in_ok-leave.ensures.stop invariant.served;
       notes = notes_more sites tries worker left.notes.items now.notes.items c.stand.ensures has c.in_ok-leave.ensures.note invariant.notes;
       first = c.in_ok-leave.ensures.first ∙ ap (λ (stop : Option Stop). stop_with worker worker.end stop) invariant.first
           ∙ sym (fold-push (λ (stop : Option Stop) (one : WorkerView). stop_with one one.end stop) None before worker);
       stop = IsStop-more tries sites.desk worker left.stop now.stop (desk_of sites tries worker c.stand.ensures has) (replica_of sites tries worker c.stand.ensures has) has.ended
           c.in_ok-leave.ensures.stop invariant.stop;
+      busy = busy_more sites tries before worker c.loop-worker.ends c.leave.new.ends has c.in_ok-leave.ensures.end invariant.busy;
     }
 
 pub returns-clause-ends : goal.returns-clause-ends
@@ -131,9 +162,23 @@ returns-clause-ended g c =
     all_there c.loop-worker.yielded c.loop-worker.worker-iterator.rest.items workers c.loop-worker.invariant.all (omega (arith, c.in-None.ensures.steps.0)) in
     subst (λ (back : List WorkerView). HaveEnded c.args.tries (map (λ (w : WorkerView). w.client) back) c.loop-worker.left.notes.items c.loop-worker.left.stop) all c.loop-worker.invariant.ended
 
+pub returns-clause-served : goal.returns-clause-served
+returns-clause-served g c =
+    let workers : List WorkerView = c.args.workers.items in
+    let all : c.loop-worker.yielded ≡ workers =
+    all_there c.loop-worker.yielded c.loop-worker.worker-iterator.rest.items workers c.loop-worker.invariant.all (omega (arith, c.in-None.ensures.steps.0)) in
+    subst (λ (back : List WorkerView). HaveServed c.args.sites.now.desk.setup (map (λ (w : WorkerView). w.client) back) c.loop-worker.left.notes.items c.loop-worker.left.stop) all c.loop-worker.invariant.served
+
 pub returns-clause-first : goal.returns-clause-first
 returns-clause-first g c =
     let workers : List WorkerView = c.args.workers.items in
     let all : c.loop-worker.yielded ≡ workers =
     all_there c.loop-worker.yielded c.loop-worker.worker-iterator.rest.items workers c.loop-worker.invariant.all (omega (arith, c.in-None.ensures.steps.0)) in
     c.loop-worker.invariant.first ∙ ap first_stop all
+
+pub returns-clause-busy : goal.returns-clause-busy
+returns-clause-busy g c =
+    let workers : List WorkerView = c.args.workers.items in
+    let all : c.loop-worker.yielded ≡ workers =
+    all_there c.loop-worker.yielded c.loop-worker.worker-iterator.rest.items workers c.loop-worker.invariant.all (omega (arith, c.in-None.ensures.steps.0)) in
+    subst (λ (back : List WorkerView). AreBusy (map (λ (w : WorkerView). w.client) back) 0 c.loop-worker.ends) all c.loop-worker.invariant.busy

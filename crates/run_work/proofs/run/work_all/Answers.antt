@@ -1,10 +1,10 @@
-use Rattle.std.proofs.Common.{◌≡◌, List, [], IfOk, length, map, sym, ◌∙◌, subst, rules}
+use Rattle.std.proofs.Common.{◌≡◌, List, [], IfOk, OnOk, length, map, sym, ◌∙◌, subst, rules}
 use Rattle.std.specs.Vec.{with_items}
 use Rattle.tact_base.specs.Setup.{Setup}
 use Rattle.work_load.specs.Entries.{EachAfter}
 use Rattle.work_load.specs.Ranges.{IsClientAfter}
 use Rattle.work_load.specs.declared.plan.Client.{Client}
-use Rattle.run_work.specs.Ends.{AreEnds, HaveEnded}
+use Rattle.run_work.specs.Ends.{AreEnds, HaveEnded, HaveServed, AreBusy}
 use Rattle.run_work.specs.Working.{WorkerView}
 use Rattle.run_work.specs.declared.leaving.Left.{Left}
 use Rattle.run_work.proofs.Finishing.{clients_written}
@@ -30,7 +30,17 @@ returns-clause-ends g c =
     subst (λ (clients : List Client). IfOk c.leave_all.result (λ (left : Left). AreEnds clients clients left.notes.items c.args.sites.now c.leave_all.new.ends))
     (have_clients g (goal.at.returns-clause-ends g c).After-work_each) c.leave_all.ensures.ends
 
+pub returns-clause-served : goal.returns-clause-served
+returns-clause-served g c =
+    subst (λ (clients : List Client). IfOk c.leave_all.result (λ (left : Left). HaveServed c.args.sites.now.desk.setup clients left.notes.items left.stop))
+    (have_clients g (goal.at.returns-clause-served g c).After-work_each) c.leave_all.ensures.served
+
 pub returns-clause-ended : goal.returns-clause-ended
 returns-clause-ended g c =
     subst (λ (clients : List Client). IfOk c.leave_all.result (λ (left : Left). HaveEnded c.args.tries clients left.notes.items left.stop))
     (have_clients g (goal.at.returns-clause-ended g c).After-work_each) c.leave_all.ensures.ended
+
+pub returns-clause-busy : goal.returns-clause-busy
+returns-clause-busy g c =
+    subst (λ (clients : List Client). OnOk c.leave_all.result (AreBusy clients 0 c.leave_all.new.ends))
+    (have_clients g (goal.at.returns-clause-busy g c).After-work_each) c.leave_all.ensures.busy

@@ -2,10 +2,11 @@ use Rattle.std.proofs.Common.{◌≡◌, ℕ, ◌+◌, ◌<◌, List, [], ◌∷
 use Rattle.std.proofs.lemmas.List.{append_assoc, length_push, map_push}
 use Rattle.run_history.specs.Seats.{ClerkView, DeskView}
 use Rattle.replica_lock.specs.Sessions.{NodeView}
+use Rattle.link_faults.specs.Plans.{no_faults}
 use Rattle.postbox.specs.Posts.{PostboxView}
 use Rattle.tact_base.specs.Setup.{IsSetup, Setup}
 use Rattle.run_work.specs.Ends.{AreEnds}
-use Rattle.run_work.specs.Sites.{IsInboxAt, IsNodeAt}
+use Rattle.run_work.specs.Sites.{HavePlans, IsInboxAt, IsNodeAt}
 use Rattle.run_work.specs.declared.seat.End.{End}
 use Rattle.run_work.proofs.Ended.{all_there, at_push}
 use Rattle.run_work.proofs.Opening.{AreEnds-new, fresh_at, fresh_count}
@@ -68,6 +69,10 @@ loop-clerk-preserved g c =
           (at_push (IsNodeAt desk) nodes node c.loop-clerk.invariant.node is_node);
       inbox = subst (λ (all : List PostboxView). (replica : ℕ) (none : PostboxView) → replica < length all → IsInboxAt desk replica (get_or all replica none)) (sym c.in_ok-push-2.ensures.items)
           (at_push (IsInboxAt desk) inboxes inbox c.loop-clerk.invariant.inbox is_inbox);
+      plans = subst (HavePlans c.args.plan.now) (sym c.in_ok-push-2.ensures.items)
+          (at_push (λ replica (one : PostboxView). one.plan ≡ get_or c.args.plan.now.links replica no_faults) inboxes inbox c.loop-clerk.invariant.plans
+          (c.in_ok-inbox.ensures.plan ∙ c.link.ensures
+          ∙ ap (λ (k : ℕ). get_or c.args.plan.now.links k no_faults) (c.replica-replica.ensures.replica ∙ number ∙ sym c.loop-clerk.invariant.inboxes)));
       keys = c.in_ok-push-3.ensures.items
           ∙ ap (λ keys. keys ++ c.in_ok-inbox.key ∷ []) c.loop-clerk.invariant.keys
           ∙ ap (λ key. map (λ (one : PostboxView). one.cell) inboxes ++ key ∷ []) c.in_ok-inbox.ensures.key

@@ -1,8 +1,19 @@
-use Rattle.run_work.proofs.Settled.{HasGoneOn-set, HasStayed-heard}
+use Rattle.std.proofs.Common.{ap}
+use Rattle.replica_lock.specs.Sessions.{SessionView}
+use Rattle.run_work.proofs.Leads.{HasGoneOn-lead, HasSeen-set, made_by-same}
+use Rattle.run_work.proofs.Settled.{HasStayed-heard}
 use Rattle.run_work.proofs.seat.End.hear.Goals as goal
 
 pub returns : goal.returns
-returns g c = record {
-  on = HasGoneOn-set c.args.self.now c.lead-lead.result c.index_mut.result.now c.hear.new.session c.lead-lead.ensures c.index_mut.ensures.value
-      (HasStayed-heard c.args.node.now.desk.setup c.index_mut.result.now c.hear.new.session c.hear.ensures.heard);
-}
+returns g c =
+    let end = c.args.self.now in
+    let place = c.lead-lead.result in
+    let before = c.index_mut.result.now in
+    let after = c.hear.new.session in
+    let there = c.index_mut.ensures.value in
+    let stayed = HasStayed-heard c.args.node.now.desk.setup before after c.hear.ensures.heard in
+    record {
+      on = HasGoneOn-lead end place before c.lead-lead.ensures there after stayed;
+      made = made_by-same end place before c.lead-lead.ensures there after (ap (λ (s : SessionView). s.made) c.hear.ensures.heard.value);
+      told = HasSeen-set end place before c.lead-lead.ensures there after c.args.note.seen stayed c.hear.ensures.note;
+    }

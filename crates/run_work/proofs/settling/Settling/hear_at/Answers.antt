@@ -1,43 +1,18 @@
-use Rattle.std.proofs.Common.{◌<◌, length, sym, subst}
-use Rattle.run_work.specs.Settling.{AreReady, SettlingView}
-use Rattle.run_work.proofs.Settled.{AreReady-on, HaveGoneOn-set, IsSettling-set}
+use Rattle.run_work.proofs.RoundSteps.{AreStill-set, HasSeenAt-set}
+use Rattle.run_work.proofs.Settled.{HasStepped-set}
 use Rattle.run_work.proofs.settling.Settling.hear_at.Goals as goal
 
 pub invariant_of-self : goal.invariant_of-self
-invariant_of-self g c =
-    let old : SettlingView = record {
-      desk = c.self.inside.desk.now;
-      nodes = c.self.inside.nodes.items;
-      ends = c.self.inside.ends.items;
-      inboxes = c.self.inside.inboxes.items;
-    } in
-    IsSettling-set old c.args.replica c.index_mut.result.now c.hear.new.self c.self.invariant
-    (subst (λ (s : SettlingView). c.args.replica < length s.nodes) (sym c.self.view_is) c.requires.replica)
-    c.index_mut.ensures.value c.hear.ensures.on
+invariant_of-self g c = (HasStepped-set c.self.view_is c.self.invariant c.requires.replica c.index_mut.ensures.value c.hear.ensures.on).settling
 
 pub returns-clause-on : goal.returns-clause-on
-returns-clause-on g c =
-    let old : SettlingView = record {
-      desk = c.self.inside.desk.now;
-      nodes = c.self.inside.nodes.items;
-      ends = c.self.inside.ends.items;
-      inboxes = c.self.inside.inboxes.items;
-    } in
-    rw (← c.self.view_is)
-    (HaveGoneOn-set old c.args.replica c.index_mut.result.now c.hear.new.self c.self.invariant
-    (subst (λ (s : SettlingView). c.args.replica < length s.nodes) (sym c.self.view_is) c.requires.replica)
-    c.index_mut.ensures.value c.hear.ensures.on)
+returns-clause-on g c = (HasStepped-set c.self.view_is c.self.invariant c.requires.replica c.index_mut.ensures.value c.hear.ensures.on).on
 
 pub returns-clause-ready : goal.returns-clause-ready
-returns-clause-ready g c =
-    let old : SettlingView = record {
-      desk = c.self.inside.desk.now;
-      nodes = c.self.inside.nodes.items;
-      ends = c.self.inside.ends.items;
-      inboxes = c.self.inside.inboxes.items;
-    } in
-    AreReady-on old _
-    (HaveGoneOn-set old c.args.replica c.index_mut.result.now c.hear.new.self c.self.invariant
-    (subst (λ (s : SettlingView). c.args.replica < length s.nodes) (sym c.self.view_is) c.requires.replica)
-    c.index_mut.ensures.value c.hear.ensures.on)
-    c.self.invariant.ends_are (subst AreReady (sym c.self.view_is) c.requires.ready)
+returns-clause-ready g c = (HasStepped-set c.self.view_is c.self.invariant c.requires.replica c.index_mut.ensures.value c.hear.ensures.on).ready c.requires.ready
+
+pub returns-clause-still : goal.returns-clause-still
+returns-clause-still g c = AreStill-set c.self.view_is c.self.invariant c.requires.replica c.index_mut.ensures.value _ c.hear.ensures.made
+
+pub returns-clause-told : goal.returns-clause-told
+returns-clause-told g c = HasSeenAt-set c.self.view_is c.self.invariant c.requires.replica c.index_mut.ensures.value _ c.args.note.seen c.hear.ensures.told

@@ -1,27 +1,33 @@
-use Rattle.std.proofs.Common.{◌<◌, length, sym, subst}
+use Rattle.std.proofs.Common.{◌++◌, IfSome, ap, sym, ◌∙◌, subst}
+use Rattle.std.specs.Option.{option_map, option_to_list}
+use Rattle.replica_lock.specs.Parcels.{ParcelView}
 use Rattle.postbox.specs.Posts.{IsFor}
 use Rattle.run_work.specs.Settling.{SettlingView}
-use Rattle.run_work.proofs.Settled.{HaveGoneOn-inboxes, first-holds, waiting-are_for}
+use Rattle.run_work.proofs.Puts.{first_message, none_waits}
+use Rattle.run_work.proofs.RoundSteps.{waiting-mine, waiting-others, waiting-there}
+use Rattle.run_work.proofs.Settled.{HaveGoneOn-inbox, first-holds, waiting-are_for}
 use Rattle.run_work.proofs.settling.Settling.next.Goals as goal
 
 pub returns-clause-on : goal.returns-clause-on
-returns-clause-on g c =
-    let old : SettlingView = record {
-      desk = c.self.inside.desk.now;
-      nodes = c.self.inside.nodes.items;
-      ends = c.self.inside.ends.items;
-      inboxes = c.self.inside.inboxes.items;
-    } in
-    rw (← c.self.view_is) (HaveGoneOn-inboxes old _)
+returns-clause-on g c = HaveGoneOn-inbox _ _ c.self.view_is c.index_mut.ensures.value c.next.ensures.plan
+
+pub returns-clause-first : goal.returns-clause-first
+returns-clause-first g c =
+    waiting-there c.self.view_is c.self.invariant c.requires.replica c.index_mut.ensures.value
+    ∙ first_message c.next.result c.index_mut.result.now.waiting c.next.new.self.waiting c.next.ensures.first
+    ∙ ap (λ ms. option_to_list (option_map (λ (p : ParcelView). p.message) c.next.result) ++ ms)
+    (sym (waiting-mine c.self.view_is c.self.invariant c.requires.replica c.index_mut.ensures.value c.next.new.self))
+
+pub returns-clause-none : goal.returns-clause-none
+returns-clause-none g c none =
+    waiting-mine c.self.view_is c.self.invariant c.requires.replica c.index_mut.ensures.value c.next.new.self
+    ∙ none_waits c.next.result c.index_mut.result.now.waiting c.next.new.self.waiting c.next.ensures.first none c.next.ensures.none
+
+pub returns-clause-others : goal.returns-clause-others
+returns-clause-others g c = waiting-others _ c.self.view_is
 
 pub returns-clause-parcel : goal.returns-clause-parcel
 returns-clause-parcel g c =
-    let old : SettlingView = record {
-      desk = c.self.inside.desk.now;
-      nodes = c.self.inside.nodes.items;
-      ends = c.self.inside.ends.items;
-      inboxes = c.self.inside.inboxes.items;
-    } in
-    let waits = waiting-are_for old c.args.replica c.index_mut.result.now c.self.invariant
-    (subst (λ (s : SettlingView). c.args.replica < length s.nodes) (sym c.self.view_is) c.requires.replica) c.index_mut.ensures.value in
-    rw (← c.self.view_is) (first-holds (IsFor old.desk.table c.args.replica) c.next.result c.index_mut.result.now.waiting c.next.new.self.waiting c.next.ensures.first waits)
+    subst (λ (s : SettlingView). IfSome c.next.result (IsFor s.desk.table c.args.replica)) c.self.view_is
+    (first-holds (IsFor c.self.inside.desk.now.table c.args.replica) c.next.result c.index_mut.result.now.waiting c.next.new.self.waiting c.next.ensures.first
+    (waiting-are_for c.self.view_is c.self.invariant c.requires.replica c.index_mut.ensures.value))

@@ -5,6 +5,7 @@ use Rattle.replica_lock.specs.Sessions.{NodeView, SessionView}
 use Rattle.run_work.specs.Settling.{HasSeated}
 use Rattle.run_work.specs.declared.seat.End.{End}
 use Rattle.run_work.proofs.Settled.{AreReady-seated, AreSettled-seated}
+use Rattle.run_work.proofs.RoundSteps.{AreStill-seated}
 use Rattle.run_work.proofs.settling.Settling.seat_rest.Goals as goal
 
 pub seat-requires-clause-whole : goal.seat-requires-clause-whole
@@ -34,7 +35,7 @@ loop-replica-preserved g c =
     (λ (other : place ≢ replica).
     subst (HasSeated (get_or begun.nodes place no_node) (get_or begun.ends place none)) (sym (seated.others place none other)) (invariant.4 place no_node none (omega (arith, before, other))))
     (cases_eq place replica) in
-    (seated.desk ∙ invariant.0, seated.nodes ∙ invariant.1, seated.count ∙ invariant.2, others, done)
+    (seated.desk ∙ invariant.0, seated.nodes ∙ invariant.1, seated.count ∙ invariant.2, others, done, seated.inboxes ∙ invariant.5)
 
 pub returns-clause-settled : goal.returns-clause-settled
 returns-clause-settled g c =
@@ -50,3 +51,11 @@ returns-clause-ready g c =
     let over : length c.args.self.now.nodes ≤ c.loop-replica.replica = grind (arith, common_steps) in
     AreReady-seated c.args.self.now c.loop-replica.self invariant.0 invariant.1 invariant.2 c.requires.whole.2.count
     (λ place no_node none within. invariant.4 place no_node none (omega (arith, within, over))) node
+
+pub returns-clause-still : goal.returns-clause-still
+returns-clause-still g c =
+    let invariant = c.loop-replica.invariant in
+    let node : NodeView = record { cell = c.loop-replica.self.desk.table; desk = c.loop-replica.self.desk; replica = 0 } in
+    let over : length c.args.self.now.nodes ≤ c.loop-replica.replica = grind (arith, common_steps) in
+    AreStill-seated c.args.self.now c.loop-replica.self node invariant.5 invariant.2
+    (λ place none within. invariant.4 place node none (omega (arith, within, over, c.requires.whole.2.count)))

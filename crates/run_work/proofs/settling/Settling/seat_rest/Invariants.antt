@@ -12,3 +12,4 @@ invariant-loop-replica g l =
     × ((place : ℕ) (none : End) → l.replica ≤ place → get_or l.self.ends place none ≡ get_or l.fn.self.ends place none)
     × ((place : ℕ) (no_node : NodeView) (none : End) → place < l.replica
     → HasSeated (get_or l.fn.self.nodes place no_node) (get_or l.fn.self.ends place none) (get_or l.self.ends place none))
+    × (l.self.inboxes ≡ l.fn.self.inboxes)

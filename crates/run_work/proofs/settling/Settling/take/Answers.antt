@@ -1,43 +1,22 @@
-use Rattle.std.proofs.Common.{◌<◌, length, sym, subst}
-use Rattle.run_work.specs.Settling.{AreReady, SettlingView}
-use Rattle.run_work.proofs.Settled.{AreReady-on, HaveGoneOn-set, IsSettling-set}
+use Rattle.std.proofs.lemmas.Result.{on_ok_weaker}
+use Rattle.run_work.proofs.RoundSteps.{HasMadeOne-set, HasSeenTaking-set}
+use Rattle.run_work.proofs.Settled.{HasStepped-set}
 use Rattle.run_work.proofs.settling.Settling.take.Goals as goal
 
 pub invariant_of-self : goal.invariant_of-self
-invariant_of-self g c =
-    let old : SettlingView = record {
-      desk = c.self.inside.desk.now;
-      nodes = c.self.inside.nodes.items;
-      ends = c.self.inside.ends.items;
-      inboxes = c.self.inside.inboxes.items;
-    } in
-    IsSettling-set old c.args.replica c.index_mut.result.now c.take.new.self c.self.invariant
-    (subst (λ (s : SettlingView). c.args.replica < length s.nodes) (sym c.self.view_is) c.requires.replica)
-    c.index_mut.ensures.value c.take.ensures.on
+invariant_of-self g c = (HasStepped-set c.self.view_is c.self.invariant c.requires.replica c.index_mut.ensures.value c.take.ensures.on).settling
 
 pub returns-clause-on : goal.returns-clause-on
-returns-clause-on g c =
-    let old : SettlingView = record {
-      desk = c.self.inside.desk.now;
-      nodes = c.self.inside.nodes.items;
-      ends = c.self.inside.ends.items;
-      inboxes = c.self.inside.inboxes.items;
-    } in
-    rw (← c.self.view_is)
-    (HaveGoneOn-set old c.args.replica c.index_mut.result.now c.take.new.self c.self.invariant
-    (subst (λ (s : SettlingView). c.args.replica < length s.nodes) (sym c.self.view_is) c.requires.replica)
-    c.index_mut.ensures.value c.take.ensures.on)
+returns-clause-on g c = (HasStepped-set c.self.view_is c.self.invariant c.requires.replica c.index_mut.ensures.value c.take.ensures.on).on
 
 pub returns-clause-ready : goal.returns-clause-ready
-returns-clause-ready g c =
-    let old : SettlingView = record {
-      desk = c.self.inside.desk.now;
-      nodes = c.self.inside.nodes.items;
-      ends = c.self.inside.ends.items;
-      inboxes = c.self.inside.inboxes.items;
-    } in
-    AreReady-on old _
-    (HaveGoneOn-set old c.args.replica c.index_mut.result.now c.take.new.self c.self.invariant
-    (subst (λ (s : SettlingView). c.args.replica < length s.nodes) (sym c.self.view_is) c.requires.replica)
-    c.index_mut.ensures.value c.take.ensures.on)
-    c.self.invariant.ends_are (subst AreReady (sym c.self.view_is) c.requires.ready)
+returns-clause-ready g c = (HasStepped-set c.self.view_is c.self.invariant c.requires.replica c.index_mut.ensures.value c.take.ensures.on).ready c.requires.ready
+
+pub returns-clause-made : goal.returns-clause-made
+returns-clause-made g c = HasMadeOne-set c.self.view_is c.self.invariant c.requires.replica c.index_mut.ensures.value _ c.take.ensures.made
+
+pub returns-clause-taken : goal.returns-clause-taken
+returns-clause-taken g c =
+    on_ok_weaker c.take.result
+    (HasSeenTaking-set c.self.view_is c.self.invariant c.requires.replica c.index_mut.ensures.value _ c.index.ensures c.args.parcel.message)
+    c.take.ensures.taken

@@ -8,7 +8,7 @@ use Rattle.run_work.specs.Holding.{Holds}
 use Rattle.run_work.specs.Working.{WorkerView}
 use Rattle.run_work.proofs.GoingOn.{IsLater-called}
 use Rattle.run_work.proofs.Moving.{Holds-released, allowance-at}
-use Rattle.run_work.proofs.Staying.{IsWorker-later}
+use Rattle.run_work.proofs.Staying.{IsWorker-later, Owes-worker}
 use Rattle.run_work.proofs.TryingLemmas.{HasAsked-called}
 use Rattle.run_work.proofs.worker.Worker.release.Goals as goal
 use Rattle.run_work.proofs.worker.Worker.release.Goals.{In_ok-release}
@@ -44,3 +44,6 @@ returns-clause-later g c = rw (← c.self.view_is) (IsLater-called _ _ _ _ _ _ (
 
 pub returns-clause-tried : goal.returns-clause-tried
 returns-clause-tried g c = rw (← c.self.view_is) (HasAsked-called _ _ _ _ _ _ (called g c))
+
+pub returns-clause-owes : goal.returns-clause-owes
+returns-clause-owes g c = rw (← c.self.view_is) (Owes-worker _ _ _ _ _ _ c.self.invariant (called g c))

@@ -1,4 +1,5 @@
 use Rattle.run_work.proofs.GoingOn.{IsQuiet-made}
+use Rattle.run_work.proofs.Heeding.{HasSentTo-sent}
 use Rattle.run_work.proofs.worker.Worker.send_to.Goals as goal
 
 pub returns-in_err-put-clause-quiet : goal.returns-in_err-put-clause-quiet
@@ -6,3 +7,6 @@ returns-in_err-put-clause-quiet g c = rw (← c.self.view_is) (IsQuiet-made _ _ 
 
 pub returns-clause-quiet : goal.returns-clause-quiet
 returns-clause-quiet g c = rw (← c.self.view_is) (IsQuiet-made _ _ _ _ _ c.in_ok-parcel.ensures.sent.made)
+
+pub returns-clause-sent : goal.returns-clause-sent
+returns-clause-sent g c = rw (← c.self.view_is) (HasSentTo-sent _ _ _ _ _ _ c.in_ok-parcel.ensures.sent)

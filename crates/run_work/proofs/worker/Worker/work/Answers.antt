@@ -1,9 +1,10 @@
-use Rattle.std.proofs.Common.{◌≡◌, ◌<◌, List, Some, length, get_or, sym, ap, ◌∙◌, subst}
+use Rattle.std.proofs.Common.{◌≡◌, ◌<◌, List, Some, length, get_or, sym, ap, ◌∙◌, subst, arith}
 use Rattle.work_load.specs.declared.plan.Item.{Item}
 use Rattle.replica_lock.specs.Sessions.{own_calls}
+use Rattle.run_work.specs.Serving.{HasLent}
 use Rattle.run_work.specs.Trying.{HasBegun, HasDone}
-use Rattle.run_work.specs.Working.{HasWorked, WorkerView}
-use Rattle.run_work.proofs.WorkingLoop.{HasWorked-fault, IsWorking-more}
+use Rattle.run_work.specs.Working.{HasWorked, IsWorker, WorkerView}
+use Rattle.run_work.proofs.WorkingLoop.{HasWorked-all, HasWorked-fault, IsWorking-more, IsWorking-start}
 use Rattle.run_work.proofs.worker.Worker.work.Goals as goal
 
 pub returns-in-Err-clause-worked : goal.returns-in-Err-clause-worked
@@ -27,4 +28,20 @@ loop-item-preserved g c =
     c.item-item.is ∙ ap (λ (xs : List Item). get_or xs c.loop-item.item-index c.item-item.result) items in
     let done = subst (λ (i : Item). HasDone c.args.tries i (own_calls c.loop-item.self.session) (own_calls c.do_item.new.self.session)) is c.in_default.ensures.done in
     IsWorking-more c.args.tries c.args.self.now c.loop-item.item-index c.loop-item.self c.loop-item.invariant c.item-item.result among c.do_item.new.self
-    (record { is = c.do_item.ensures.same }) _ c.do_item.ensures.later c.do_item.ensures.busy done
+    (record { is = c.do_item.ensures.same }) _ c.do_item.ensures.later c.do_item.ensures.busy done c.in_default.ensures.heeded
+    (subst (λ (w : WorkerView). HasLent w.node.desk.setup (get_or c.args.self.now.client.items c.loop-item.item-index c.item-item.result) c.loop-item.self.session c.do_item.new.self.session)
+    c.loop-item.invariant.same.is
+    (subst (λ (i : Item). HasLent c.loop-item.self.node.desk.setup i c.loop-item.self.session c.do_item.new.self.session) is c.in_default.ensures.lent))
+
+pub loop-item-init : goal.loop-item-init
+loop-item-init g c =
+    IsWorking-start c.args.tries c.self.inside.sites.now.desk c.args.self.now (subst (IsWorker c.self.inside.sites.now.desk) c.self.view_is c.self.invariant)
+    c.requires.fresh.0 c.requires.fresh.1
+
+pub returns-clause-worked : goal.returns-clause-worked
+returns-clause-worked g c sites fresh =
+    let items : c.items-item-items.result.now ≡ c.args.self.now.client.items =
+    c.items-item-items.ensures ∙ ap (λ (w : WorkerView). w.client.items) c.self.view_is in
+    let size = ap length items in
+    HasWorked-all c.args.tries c.args.self.now c.loop-item.item-index c.loop-item.self c.loop-item.invariant
+    (omega (arith, c.loop-item-test.false, size)) (omega (arith, c.loop-item.auto.item-index-end, size)) c.requires.fresh.2 sites fresh

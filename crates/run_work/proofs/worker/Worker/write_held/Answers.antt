@@ -15,7 +15,7 @@ use Rattle.run_work.specs.Working.{WorkerView}
 use Rattle.run_work.specs.declared.trying.Tried.TheVariants.{Final}
 use Rattle.run_work.proofs.GoingOn.{IsLater-called}
 use Rattle.run_work.proofs.Moving.{Holds-held, allowance-at}
-use Rattle.run_work.proofs.Staying.{IsWorker-later}
+use Rattle.run_work.proofs.Staying.{IsWorker-later, Owes-worker}
 use Rattle.run_work.proofs.TryingLemmas.{HasAsked-called, HasTried-asked, asked-held, asked-short}
 use Rattle.run_work.proofs.worker.Worker.write_held.Goals as goal
 use Rattle.run_work.proofs.worker.Worker.write_held.Goals.{In_ok-write_held}
@@ -75,3 +75,6 @@ returns-clause-tried g c =
     (HasTried-asked (item.Held c.args.weight c.args.op) (request.Held c.args.weight c.args.op) Final _ _
     (asked-held (own_calls c.self.inside.session) c.args.weight c.args.op (enough g c))
     (HasAsked-called _ _ _ _ _ _ c.in_ok-write_held.ensures.accepted))
+
+pub returns-clause-owes : goal.returns-clause-owes
+returns-clause-owes g c = rw (← c.self.view_is) (Owes-worker _ _ _ _ _ _ c.self.invariant c.in_ok-write_held.ensures.accepted)

@@ -1,0 +1,19 @@
+use Rattle.std.proofs.Common.{ap, arith, length}
+use Rattle.run_work.proofs.RoundSteps.{HaveSeen-on}
+use Rattle.run_work.proofs.Settled.{have_gone_on_then}
+use Rattle.run_work.proofs.settling.Settling.rounds.Goals as goal
+
+pub loop-round-preserved : goal.loop-round-preserved
+loop-round-preserved g c =
+    let begun = c.args.self.now in
+    let now = c.loop-round.self in
+    let after = c.round.new.self in
+    let invariant = c.loop-round.invariant in
+    let round = c.in_ok-round.ensures in
+    record {
+      on = have_gone_on_then begun now after invariant.on round.on;
+      ready = round.ready;
+      empty = round.empty;
+      made = λ replica within. omega (arith, invariant.made replica within, round.made replica (omega (arith, within, ap length invariant.on.nodes)));
+      arrived = λ front some seen. round.arrived front (HaveSeen-on begun now front invariant.on seen);
+    }
