@@ -18,8 +18,8 @@ use Rattle.run_model.specs.declared.script_line.Line.TheVariants as line
 use Rattle.script_text.specs.LineRanges.{IsLineInRange, IsCallInRange}
 use Rattle.script_text.specs.Setups.{opening, sets_up}
 use Rattle.drawn_scripts.specs.Counting.{IsAmongFour, AreFourSenders}
-use Rattle.drawn_scripts.specs.Draws.{pick}
-use Rattle.drawn_scripts.specs.DrawnScripts.{weight_of, need_of, write_drawn, two_drawn, send_drawn, sync_drawn, take_drawn, read_drawn, take_of, some_drawn, line_drawn}
+use Rattle.drawn_scripts.specs.Draws.{pick, some_drawn, two_drawn}
+use Rattle.drawn_scripts.specs.DrawnScripts.{weight_of, need_of, write_drawn, send_drawn, sync_drawn, take_drawn, read_drawn, take_of, line_drawn}
 use Rattle.drawn_scripts.specs.declared.sent.SentOne.{SentOne}
 
 -- the setup of every drill

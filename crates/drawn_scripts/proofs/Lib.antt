@@ -1,3 +1,4 @@
+pub mod DrawsLemmas
 pub mod SentLemmas
 pub mod DrawnLemmas
 pub mod StepLemmas

@@ -1,12 +1,11 @@
 -- The lines that the steps of the drill draw are those of a script.
 use Rattle.std.proofs.Common.{◌≡◌, ℕ, zero, suc, ◌+◌, ◌*◌, ◌≤◌, List, [], ◌∷◌, ◌++◌, length, get_or, Option, None, Some, append_assoc, append-nil, refl, sym, ap, ◌∙◌, subst, arith}
 use Rattle.std.specs.Prelude.{replicate}
-use Rattle.std.specs.List.{All, fold, range_with_len}
+use Rattle.std.specs.List.{All}
 use Rattle.std.proofs.lemmas.List.{get_or-replicate}
 use Rattle.std.proofs.lemmas.List.Elements.{All-nil, All-weaker}
 use Rattle.std.proofs.lemmas.Option.{slice_get-get_or, slice_get_within}
 use Rattle.std.proofs.lemmas.List.Sums.{fold-append}
-use Rattle.tact_base.proofs.RangeLists.{range_more}
 use Rattle.tact_base.specs.Setup as setups
 use Rattle.tact_base.specs.declared.limits.TheConstants.{MOMENT_MAX}
 use Rattle.run_model.specs.declared.script_line.Line.{Line}
@@ -17,10 +16,11 @@ use Rattle.script_text.specs.Setups.{setup_of, is_past_setup}
 use Rattle.script_text.proofs.ReaderLemmas.{script_more, start_is_begun}
 use Rattle.script_text.proofs.SetupGrowth.{setup_of-kept, sent_by-push}
 use Rattle.drawn_scripts.specs.Counting.{IsAmongFour}
-use Rattle.drawn_scripts.specs.Draws.{Drawing, ◌>>=◌, drawn, pick}
-use Rattle.drawn_scripts.specs.DrawnScripts.{messages_after, messages_of, line_drawn, listed, step_drawn, steps_drawn}
+use Rattle.drawn_scripts.specs.Draws.{listed, pick}
+use Rattle.drawn_scripts.specs.DrawnScripts.{messages_after, messages_of, line_drawn, step_drawn, steps_drawn}
 use Rattle.drawn_scripts.specs.declared.sent.SentOne.{SentOne}
 use Rattle.drawn_scripts.proofs.SentLemmas.{IsThere, HasAll, there_is_sent, has_one_more}
+use Rattle.drawn_scripts.proofs.DrawsLemmas.{after_more, after_none}
 use Rattle.drawn_scripts.proofs.DrawnLemmas.{four, IsDrawn, IsDrawnIfAny, line_is_drawn}
 
 -- the lines of a script of four, whose messages are counted
@@ -93,29 +93,12 @@ goes_step step lines state few goes =
     subst GoesOn (append_assoc lines (line.At step ∷ []) (listed more))
     (goes_listed (lines ++ line.At step ∷ []) more handed (subst (λ (sent : List SentOne). IsDrawnIfAny sent more) (sym same) drawn))
 
--- no step, and one more step
-steps_none : (number : ℕ) → steps_drawn 0 number ≡ (line.Start 4 2 60 20 ∷ [], number)
-unfolding steps_drawn
-steps_none number = refl
-
+-- one more step
 pub steps_more : (n number : ℕ)
     → steps_drawn (suc n) number ≡ step_drawn n (steps_drawn n number).0 (steps_drawn n number).1
-unfolding steps_drawn
 steps_more n number =
-    let before = λ (drawing : Drawing (List Line)) (step : ℕ). drawing >>= step_drawn step in
-    let begun : Drawing (List Line) = drawn (line.Start 4 2 60 20 ∷ []) in
     let one : suc n ≡ n + 1 = omega (arith) in
-    let last : 0 + n ≡ n = omega (arith) in
-    let range : range_with_len 0 (suc n) ≡ range_with_len 0 n ++ n ∷ [] =
-    ap (λ (m : ℕ). range_with_len 0 m) one ∙ range_more 0 n ∙ ap (λ (m : ℕ). range_with_len 0 n ++ m ∷ []) last in
-    ap (λ (drawing : Drawing (List Line)). drawing number)
-    (ap (λ (steps : List ℕ). fold before begun steps) range ∙ fold-append before begun (range_with_len 0 n) (n ∷ []))
-
-steps_next : (n number : ℕ)
-    → steps_drawn (n + 1) number ≡ step_drawn n (steps_drawn n number).0 (steps_drawn n number).1
-steps_next n number =
-    let one : n + 1 ≡ suc n = omega (arith) in
-    ap (λ (m : ℕ). steps_drawn m number) one ∙ steps_more n number
+    ap (λ (m : ℕ). steps_drawn m number) one ∙ after_more step_drawn (line.Start 4 2 60 20 ∷ []) number n
 
 -- the line that every drill begins with
 begun : GoesOn (line.Start 4 2 60 20 ∷ [])
@@ -131,7 +114,7 @@ begun = record {
 }
 
 pub goes_steps : (n number : ℕ) → n ≤ 2000 → GoesOn (steps_drawn n number).0
-goes_steps zero number few = subst (λ (after : List Line × ℕ). GoesOn after.0) (sym (steps_none number)) begun
+goes_steps zero number few = subst (λ (after : List Line × ℕ). GoesOn after.0) (sym (after_none step_drawn (line.Start 4 2 60 20 ∷ []) number)) begun
 goes_steps (suc n) number few =
     let before = steps_drawn n number in
     subst (λ (after : List Line × ℕ). GoesOn after.0) (sym (steps_more n number))
@@ -160,7 +143,7 @@ drawn_to_among number done script draws sent few is =
     rw is.sent_is (all_among (messages_of script) (sent_by script) goes.all)
 
 pub drawn_to_begins : (number : ℕ) → IsDrawnTo number 0 (line.Start 4 2 60 20 ∷ []) number []
-drawn_to_begins number = record { lines = steps_none number; sent_is = refl; few = omega (arith) }
+drawn_to_begins number = record { lines = after_none step_drawn (line.Start 4 2 60 20 ∷ []) number; sent_is = refl; few = omega (arith) }
 
 pub drawn_to_more : (number done : ℕ) (script script' : List Line) (draws draws' : ℕ) (sent sent' : List SentOne)
     → IsDrawnTo number done script draws sent
@@ -169,7 +152,7 @@ pub drawn_to_more : (number done : ℕ) (script script' : List Line) (draws draw
     → length sent' ≤ length sent + 2
     → IsDrawnTo number (done + 1) script' draws' sent'
 drawn_to_more number done script script' draws draws' sent sent' is step sent-is few = record {
-  lines = steps_next done number ∙ ap (λ (before : List Line × ℕ). step_drawn done before.0 before.1) is.lines ∙ step;
+  lines = after_more step_drawn (line.Start 4 2 60 20 ∷ []) number done ∙ ap (λ (before : List Line × ℕ). step_drawn done before.0 before.1) is.lines ∙ step;
   sent_is = sent-is;
   few = omega (arith, few, is.few);
 }

@@ -1,6 +1,5 @@
 -- The script that a number draws: four replicas that write, send, take, meet and read at random, and no other choice.
-use Rattle.std.specs.Prelude.{ℕ, ◌+◌, ◌%◌, ◌==◌, pos, ◌-ℤ◌, nat_lt, List, [], ◌∷◌, ◌++◌, fold, length, replicate, slice_get, Option, None, Some, if◌then◌else◌}
-use Rattle.std.specs.List.{range_with_len}
+use Rattle.std.specs.Prelude.{ℕ, ◌==◌, pos, ◌-ℤ◌, nat_lt, List, [], ◌∷◌, ◌++◌, fold, length, replicate, slice_get, Option, None, if◌then◌else◌}
 use Rattle.std.specs.Option.{option_map}
 use Rattle.tact_base.specs.declared.conit_list.Need.{Need}
 use Rattle.tact_base.specs.declared.conit_list.Weight.{Weight}
@@ -8,7 +7,7 @@ use Rattle.tact_base.specs.declared.write.Op.TheVariants.{Add}
 use Rattle.run_model.specs.declared.script_line.Line.{Line}
 use Rattle.run_model.specs.declared.script_line.Line.TheVariants as line
 use Rattle.drawn_scripts.specs.Counting.{sent_from}
-use Rattle.drawn_scripts.specs.Draws.{Drawing, drawn, ◌>>=◌, pick}
+use Rattle.drawn_scripts.specs.Draws.{Drawing, drawn, ◌>>=◌, after_steps, listed, pick, some_drawn, two_drawn}
 use Rattle.drawn_scripts.specs.declared.sent.SentOne.{SentOne}
 
 -- the messages that lines sent, in order, after one more message: its number counts those of its sender
@@ -39,13 +38,6 @@ write_drawn = do
   key ← pick 16
   drawn (line.Write replica 0 (Add key (pos 1)) (weight_of conit size ∷ []))
 
--- two replicas, not the same
-unfoldable pub two_drawn : Drawing (ℕ × ℕ)
-two_drawn = do
-  first ← pick 4
-  step ← pick 3
-  drawn (first, (first + 1 + step) % 4)
-
 unfoldable pub send_drawn : Drawing Line
 send_drawn = do
   two ← two_drawn
@@ -75,11 +67,6 @@ read_drawn = do
   key ← pick 16
   drawn (line.Read replica 0 key (need_of conit ∷ []))
 
-abbrev pub some_drawn : Drawing Line → Drawing (Option Line)
-some_drawn drawing = do
-  line ← drawing
-  drawn (Some line)
-
 -- what a step does, by a number below ten
 abbrev pub line_drawn : List SentOne → ℕ → Drawing (Option Line)
 line_drawn sent kind =
@@ -89,10 +76,6 @@ line_drawn sent kind =
     else if kind == 8 then some_drawn sync_drawn
     else some_drawn read_drawn
 
-abbrev pub listed : Option Line → List Line
-listed None = []
-listed (Some line) = line ∷ []
-
 -- one more step, handed its number as the moment
 unfoldable pub step_drawn : ℕ → List Line → Drawing (List Line)
 step_drawn step lines = do
@@ -101,8 +84,8 @@ step_drawn step lines = do
   drawn (lines ++ line.At step ∷ listed more)
 
 -- the lines after so many steps
-unfoldable pub steps_drawn : ℕ → Drawing (List Line)
-steps_drawn steps = fold (λ before step. before >>= step_drawn step) (drawn (line.Start 4 2 60 20 ∷ [])) (range_with_len 0 steps)
+abbrev pub steps_drawn : ℕ → Drawing (List Line)
+steps_drawn steps = after_steps step_drawn (line.Start 4 2 60 20 ∷ []) steps
 
 -- the lines of the script that a number draws
 abbrev pub drawn_script : ℕ → List Line

@@ -1,5 +1,6 @@
 -- Numbers drawn one after another from a state of 64 bits, by a linear congruence (Knuth's MMIX).
-use Rattle.std.specs.Prelude.{ℕ, ◌+◌, ◌*◌, ◌^◌, ◌/◌, ◌%◌}
+use Rattle.std.specs.Prelude.{ℕ, ◌+◌, ◌*◌, ◌^◌, ◌/◌, ◌%◌, List, [], ◌∷◌, fold, Option, None, Some}
+use Rattle.std.specs.List.{range_with_len}
 
 -- the state after a draw
 unfoldable pub after_draw : ℕ → ℕ
@@ -21,3 +22,24 @@ abbrev pub ◌>>=◌ : {A B : Type 0} → Drawing A → (A → Drawing B) → Dr
 -- a number below k: the upper half of the state after the draw, modulo k
 unfoldable pub pick : ℕ → Drawing ℕ
 pick k state = (after_draw state / 2 ^ 32 % k, after_draw state)
+
+-- two numbers below 4, not the same
+unfoldable pub two_drawn : Drawing (ℕ × ℕ)
+two_drawn = do
+  first ← pick 4
+  step ← pick 3
+  drawn (first, (first + 1 + step) % 4)
+
+-- what may be drawn, where it is
+abbrev pub some_drawn : {A : Type 0} → Drawing A → Drawing (Option A)
+some_drawn drawing = do
+  thing ← drawing
+  drawn (Some thing)
+
+abbrev pub listed : {A : Type 0} → Option A → List A
+listed None = []
+listed (Some thing) = thing ∷ []
+
+-- what stands after so many steps, each by its number
+unfoldable pub after_steps : {A : Type 0} → (ℕ → A → Drawing A) → A → ℕ → Drawing A
+after_steps step begun steps = fold (λ before number. before >>= step number) (drawn begun) (range_with_len 0 steps)

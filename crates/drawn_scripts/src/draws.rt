@@ -1,6 +1,6 @@
 //! Numbers drawn one after another.
 ghost use Rattle.std.specs.Prelude.{◌≡◌, ◌≢◌, ◌<◌};
-ghost use Rattle.drawn_scripts.specs.Draws.{after_draw, pick};
+ghost use Rattle.drawn_scripts.specs.Draws.{after_draw, pick, two_drawn};
 
 use std::marker::Model;
 
@@ -39,5 +39,18 @@ impl Draws {
             .wrapping_mul(6364136223846793005)
             .wrapping_add(1442695040888963407);
         (self.state >> 32) % k
+    }
+
+    /// Draws two numbers below 4, not the same. Takes no memory.
+    #[tactic(auto, unfolding(crate::specs::Draws::two_drawn))]
+    pub fn two(&mut self) -> (u32, u32)
+        ensures drawn { two_drawn self.old ≡ (result, self.new) }
+        ensures first { result.0 < 4 }
+        ensures second { result.1 < 4 }
+        ensures others { result.1 ≢ result.0 }
+    {
+        let first = self.pick(4) as u32;
+        let step = self.pick(3) as u32;
+        (first, (first + 1 + step) % 4)
     }
 }

@@ -1,6 +1,6 @@
 //! What a step of the drill draws.
 ghost use Rattle.std.specs.Prelude.{◌≡◌, ◌<◌, [], ◌∷◌, IfOk};
-ghost use Rattle.drawn_scripts.specs.DrawnScripts.{weight_of, need_of, write_drawn, two_drawn, send_drawn, sync_drawn, take_drawn, read_drawn, line_drawn};
+ghost use Rattle.drawn_scripts.specs.DrawnScripts.{weight_of, need_of, write_drawn, send_drawn, sync_drawn, take_drawn, read_drawn, line_drawn};
 
 use crate::draws::Draws;
 use crate::sent::SentOne;
@@ -57,24 +57,12 @@ fn write_line(draws: &mut Draws) -> Line
     }
 }
 
-// Two replicas, not the same.
-#[tactic(auto, unfolding(crate::specs::DrawnScripts::two_drawn))]
-fn two(draws: &mut Draws) -> (u32, u32)
-    ensures drawn { two_drawn draws.old ≡ (result, draws.new) }
-    ensures first { result.0 < 4 }
-    ensures second { result.1 < 4 }
-{
-    let first = draws.pick(4) as u32;
-    let step = draws.pick(3) as u32;
-    (first, (first + 1 + step) % 4)
-}
-
 /// A sending, with zeros as its firsts.
 #[tactic(auto, unfolding(crate::specs::DrawnScripts::send_drawn))]
 fn send_line(alloc: Global, draws: &mut Draws) -> Result<Line, NoMemory>
     ensures { IfOk result (λ line. send_drawn draws.old ≡ (line, draws.new)) }
 {
-    let (from, to) = two(draws);
+    let (from, to) = draws.two();
     let firsts = Numbers::filled(alloc, 0, 4)?;
     Ok(Line::Send { from, to, firsts })
 }
@@ -84,7 +72,7 @@ fn send_line(alloc: Global, draws: &mut Draws) -> Result<Line, NoMemory>
 fn sync_line(draws: &mut Draws) -> Line
     ensures { sync_drawn draws.old ≡ (result, draws.new) }
 {
-    let (first, second) = two(draws);
+    let (first, second) = draws.two();
     Line::Sync { first, second }
 }
 

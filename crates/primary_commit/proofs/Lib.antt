@@ -1,0 +1,11 @@
+pub mod SoundNetworks
+pub mod SoundSteps
+pub mod Agreement
+pub mod Stepping
+pub mod LogLemmas
+pub mod SettledLemmas
+pub mod AcceptLemmas
+pub mod FreshLemmas
+pub mod TakingLemmas
+pub mod PostLemmas
+pub mod NoticeLemmas
