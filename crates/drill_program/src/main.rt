@@ -5,7 +5,7 @@
 use run_model::Status;
 use std::alloc::{AllocError, Global};
 use std::process::ExitCode;
-use tact_io::{StdSink, StdSource};
+use tact_io::{FreeGate, StdClock, StdSink, StdSource};
 use tact_top::tact;
 
 fn main(rt: HostRuntime) -> ExitCode {
@@ -14,7 +14,17 @@ fn main(rt: HostRuntime) -> ExitCode {
     };
     let mut source = StdSource::new(rt.reader());
     let mut sink = StdSink::new(&rt);
-    match tact(rt.alloc(), &words, &mut source, &mut sink) {
+    let clock = StdClock::new(&rt);
+    let gate = FreeGate::new();
+    match tact(
+        &rt,
+        rt.alloc(),
+        &words,
+        &mut source,
+        &mut sink,
+        &clock,
+        &gate,
+    ) {
         Status::Done => ExitCode::SUCCESS,
         _ => ExitCode::FAILURE,
     }

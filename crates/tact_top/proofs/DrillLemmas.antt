@@ -14,8 +14,9 @@ use Rattle.script_text.specs.Setups.{setup_of}
 use Rattle.script_text.proofs.ReaderLemmas.{script_more}
 use Rattle.script_text.proofs.SetupGrowth.{setup_of-kept}
 use Rattle.script_run.specs.Worlds.{AreFirstLines, WorldState}
-use Rattle.drawn_scripts.specs.Draws.{pick}
-use Rattle.drawn_scripts.specs.DrawnScripts.{drawn_script, line_drawn, listed, messages_of, step_drawn, steps_drawn}
+use Rattle.drawn_scripts.specs.Draws.{listed, pick}
+use Rattle.drawn_scripts.specs.DrawnScripts.{drawn_script, line_drawn, messages_of, step_drawn, steps_drawn}
+use Rattle.drawn_scripts.proofs.DrawsLemmas.{after_none}
 use Rattle.drawn_scripts.proofs.StepLemmas.{steps_more}
 use Rattle.tact_top.specs.Drilling.{HasShown, TellsTheSame, told_in}
 use Rattle.tact_top.specs.DrillText.{shown_line}
@@ -34,8 +35,7 @@ step_is_short step lines state =
     omega (arith, length-append lines (line.At step ∷ listed more), length-listed more)
 
 none_is_short : (number : ℕ) → length (steps_drawn 0 number).0 ≤ 1
-unfolding steps_drawn
-none_is_short number = omega (arith)
+none_is_short number = subst (λ (after : List Line × ℕ). length after.0 ≤ 1) (sym (after_none step_drawn (line.Start 4 2 60 20 ∷ []) number)) (omega (arith))
 
 steps_are_short : (n number : ℕ) → length (steps_drawn n number).0 ≤ 1 + 2 * n
 steps_are_short zero number = none_is_short number

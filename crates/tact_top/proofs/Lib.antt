@@ -1,3 +1,5 @@
 mod ByteFaults
 mod Played
 mod DrillLemmas
+mod DefaultLemmas
+mod TriesLemmas

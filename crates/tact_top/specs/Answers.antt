@@ -21,6 +21,7 @@ Faulting = List ℕ → ℕ → InputKind → Type 0
 abbrev pub IsEnd : Status → Type 0
 IsEnd status.Done = Unit {0}
 IsEnd (status.Bad entry cause) = Unit {0}
+IsEnd (status.Full replica count clock) = Unit {0}
 IsEnd other = ⊥
 
 -- where the source told what it had left: it was read to its end, it isn't too long, and this is true of it
@@ -48,6 +49,7 @@ Writes Asks status.WriteFault left before after = (text : List ℕ) × GainsPart
 Writes Asks status.NoMemory left before after = (after ≡ before) ⊎ ((text : List ℕ) × GainsPart before after text × IsAsked Asks left text)
 Writes Asks status.Done left before after = (text : List ℕ) × Gains before after text × IfSome left (λ input. Asks input status.Done text)
 Writes Asks (status.Bad entry cause) left before after = (text : List ℕ) × Gains before after text × IfSome left (λ input. Asks input (status.Bad entry cause) text)
+Writes Asks (status.Full replica count clock) left before after = (text : List ℕ) × Gains before after text × IfSome left (λ input. Asks input (status.Full replica count clock) text)
 Writes Asks other left before after = after ≡ before
 
 -- Without a fault, an input that isn't too long and is in its grammar gets an answer that it asks for, unless memory
@@ -63,3 +65,11 @@ abbrev pub IsWritten : List ℕ → Status → Status → Option (List ℕ) → 
 IsWritten text due status.WriteFault before after writes writes' = GainsPart before after text × HasRisen writes writes'
 IsWritten text due status.NoMemory before after writes writes' = GainsPart before after text
 IsWritten text due answer before after writes writes' = Gains before after text × (answer ≡ due)
+
+-- What each answer of a command leaves of the sink, where its text doesn't hang on an input, and its cause: the text, a front
+-- of it, or nothing more.
+abbrev pub IsDrawn : List ℕ → Status → Option (List ℕ) → Option (List ℕ) → ℕ → ℕ → Type 0
+IsDrawn text status.Done before after writes writes' = Gains before after text
+IsDrawn text status.WriteFault before after writes writes' = GainsPart before after text × HasRisen writes writes'
+IsDrawn text status.NoMemory before after writes writes' = (after ≡ before) ⊎ GainsPart before after text
+IsDrawn text other before after writes writes' = ⊥

@@ -1,9 +1,15 @@
--- What each command that reads an input makes of it.
+-- What each command that reads an input makes of it, and what each that draws writes.
+use Rattle.std.specs.Prelude.{ℕ, List}
+use Rattle.tact_top.specs.declared.words.Drawing.{Drawing}
+use Rattle.tact_top.specs.declared.words.Drawing.TheVariants.{Drill, Primary}
 use Rattle.tact_top.specs.declared.words.Reading.{Reading}
-use Rattle.tact_top.specs.declared.words.Reading.TheVariants.{Play, Check, Pack, Unpack}
+use Rattle.tact_top.specs.declared.words.Reading.TheVariants.{Play, Check, Pack, Unpack, Run}
 use Rattle.tact_top.specs.Answers.{Asking, Faulting}
 use Rattle.tact_top.specs.Checked.{IsChecked}
+use Rattle.tact_top.specs.DrillText.{drill_text}
+use Rattle.tact_top.specs.PrimaryText.{primary_text}
 use Rattle.tact_top.specs.RecordForms.{IsByteFault, IsPacked, IsRecordFault, IsTextFault, IsUnpacked}
+use Rattle.tact_top.specs.Running.{IsLoadFault, IsRan}
 use Rattle.tact_top.specs.ScriptForm.{IsPlayed, IsScriptFault}
 
 -- what an input asks of it
@@ -12,6 +18,7 @@ asks Play = IsPlayed
 asks Check = IsChecked
 asks Pack = IsPacked
 asks Unpack = IsUnpacked
+asks (Run tries) = IsRan tries
 
 -- where an input isn't in its grammar
 abbrev pub faults : Reading → Faulting
@@ -19,3 +26,9 @@ faults Play = IsScriptFault
 faults Check = IsRecordFault
 faults Pack = IsTextFault
 faults Unpack = IsByteFault
+faults (Run tries) = IsLoadFault
+
+-- what is written of a number
+abbrev pub text_of : Drawing → ℕ → List ℕ
+text_of Drill = drill_text
+text_of Primary = primary_text

@@ -1,15 +1,23 @@
 -- What the words of a command ask for. The first word is the program's name.
-use Rattle.std.specs.Prelude.{ℕ, List, [], ◌∷◌, codes, nat_eq, find, Option, Some, None, Result, Ok, Err, if◌then◌else◌}
+use Rattle.std.specs.Prelude.{◌≡◌, ◌⊎◌, ℕ, ◌<◌, List, [], ◌∷◌, codes, nat_eq, find, Option, Some, None, Result, Ok, Err, if◌then◌else◌}
 use Rattle.std.specs.Cmp.Lexicographic.{pointwise}
 use Rattle.std.specs.Option.{option_map}
+use Rattle.run_model.specs.declared.status.Status.{Status}
+use Rattle.run_model.specs.declared.status.Status.TheVariants as status
 use Rattle.run_model.specs.declared.status.UsageKind.{UsageKind}
-use Rattle.run_model.specs.declared.status.UsageKind.TheVariants.{NoCommand, UnknownCommand, ExtraWord, MissingNumber, BadNumber}
+use Rattle.run_model.specs.declared.status.UsageKind.TheVariants.{NoCommand, UnknownCommand, ExtraWord, MissingNumber, BadNumber, RunWords}
 use Rattle.tact_base.specs.Numbers.{whole_number}
 use Rattle.tact_base.specs.declared.tokens.TokenFault.{TokenFault}
+use Rattle.tact_top.specs.RunWords.{are_run_words, tries_in}
 use Rattle.tact_top.specs.declared.words.Command.{Command}
-use Rattle.tact_top.specs.declared.words.Command.TheVariants.{Read, Drill}
+use Rattle.tact_top.specs.declared.words.Command.TheVariants.{Read, Draw}
+use Rattle.tact_top.specs.declared.words.Drawing.{Drawing}
+use Rattle.tact_top.specs.declared.words.Drawing.TheVariants.{Drill, Primary}
 use Rattle.tact_top.specs.declared.words.Reading.{Reading}
+use Rattle.tact_top.specs.declared.words.Reading.TheVariants.{Run}
 use Rattle.tact_top.specs.declared.words.TheConstants.{READINGS}
+use Rattle.tact_top.specs.declared.words.WordsFault.{WordsFault}
+use Rattle.tact_top.specs.declared.words.WordsFault.TheVariants as fault
 
 -- the command that reads an input which a word names, by the table of these commands
 abbrev pub named : List ℕ → Option Reading
@@ -24,27 +32,64 @@ abbrev pub read_of : Option Reading → List (List ℕ) → Result Command Usage
 read_of None rest = Err UnknownCommand
 read_of (Some reading) rest = alone (Read reading) rest
 
--- a drill, by its number below 2^64
-abbrev pub drill_by : Result ℕ TokenFault → List (List ℕ) → Result Command UsageKind
-drill_by (Ok number) rest = alone (Drill number) rest
-drill_by (Err fault) rest = Err BadNumber
+-- what draws by a number, by its number below 2^64
+abbrev pub drawn_from : Drawing → Result ℕ TokenFault → List (List ℕ) → Result Command UsageKind
+drawn_from drawing (Ok number) rest = alone (Draw drawing number) rest
+drawn_from drawing (Err fault) rest = Err BadNumber
 
-abbrev pub drill_of : List (List ℕ) → Result Command UsageKind
-drill_of [] = Err MissingNumber
-drill_of (word ∷ rest) = drill_by (whole_number word 18446744073709551615) rest
+abbrev pub drawn_by : Drawing → List (List ℕ) → Result Command UsageKind
+drawn_by drawing [] = Err MissingNumber
+drawn_by drawing (word ∷ rest) = drawn_from drawing (whole_number word 18446744073709551615) rest
+
+-- a run, by its words, its name first
+abbrev pub run_of : List (List ℕ) → Result Command UsageKind
+run_of words = if are_run_words words then Ok (Read (Run (tries_in words))) else Err RunWords
+
+-- a command that reads an input, its name first
+abbrev pub input_of : List (List ℕ) → Result Command UsageKind
+input_of [] = Err NoCommand
+input_of (first ∷ rest) = if pointwise nat_eq first (codes "run") then run_of (first ∷ rest) else read_of (named first) rest
 
 abbrev pub command_of : List (List ℕ) → Result Command UsageKind
 command_of [] = Err NoCommand
 command_of (name ∷ []) = Err NoCommand
 command_of (name ∷ first ∷ rest) =
-    if pointwise nat_eq first (codes "drill") then drill_of rest else read_of (named first) rest
+    if pointwise nat_eq first (codes "drill") then drawn_by Drill rest
+    else if pointwise nat_eq first (codes "primary") then drawn_by Primary rest
+    else input_of (first ∷ rest)
 
--- where the words ask for a command that reads an input, this is true of it; and where they ask for a drill, of its
--- number
+-- a run tries each item once at least
+abbrev pub IsReading : Reading → Type 0
+IsReading (Run tries) = 0 < tries
+IsReading other = Unit {0}
+
+abbrev pub IsCommand : Command → Type 0
+IsCommand (Read reading) = IsReading reading
+IsCommand (Draw drawing number) = Unit {0}
+
+-- to read the words takes memory where they are those of a run
+abbrev pub MayWantMemory : Result Command UsageKind → Type 0
+MayWantMemory (Ok (Read (Run tries))) = Unit {0}
+MayWantMemory (Err RunWords) = Unit {0}
+MayWantMemory other = ⊥
+
+-- what a reader of words answers is what they ask for, unless memory ran out
+abbrev pub TellsCommand : Result Command UsageKind → Result Command WordsFault → Type 0
+TellsCommand wanted (Ok command) = wanted ≡ Ok command
+TellsCommand wanted (Err (fault.Usage kind)) = wanted ≡ Err kind
+TellsCommand wanted (Err fault.NoMemory) = MayWantMemory wanted
+
+-- the status of words that ask for nothing; where they are those of a run, unless memory ran out
+abbrev pub IsUsage : UsageKind → Status → Type 0
+IsUsage RunWords answer = (answer ≡ status.Usage RunWords) ⊎ (answer ≡ status.NoMemory)
+IsUsage kind answer = answer ≡ status.Usage kind
+
+-- where the words ask for a command that reads an input, this is true of it; and where they ask for one that draws, of it
+-- and of its number
 abbrev pub IfReads : Result Command UsageKind → (Reading → Type 0) → Type 0
 IfReads (Ok (Read reading)) Fact = Fact reading
 IfReads other Fact = Unit {0}
 
-abbrev pub IfDrills : Result Command UsageKind → (ℕ → Type 0) → Type 0
-IfDrills (Ok (Drill number)) Fact = Fact number
-IfDrills other Fact = Unit {0}
+abbrev pub IfDraws : Result Command UsageKind → (Drawing → ℕ → Type 0) → Type 0
+IfDraws (Ok (Draw drawing number)) Fact = Fact drawing number
+IfDraws other Fact = Unit {0}

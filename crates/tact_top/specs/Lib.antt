@@ -4,6 +4,9 @@ pub mod Refusals
 pub mod Checked
 pub mod DrillText
 pub mod Drilling
+pub mod PrimaryText
+pub mod RunWords
 pub mod Commands
 pub mod ScriptForm
+pub mod Running
 pub mod CommandAnswers

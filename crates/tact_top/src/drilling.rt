@@ -7,7 +7,8 @@ ghost use Rattle.tact_base.specs.declared.limits.TheConstants.{REPLICAS_MAX, SCR
 ghost use Rattle.tact_io.specs.Faults.{HasRisen};
 ghost use Rattle.script_text.specs.Scripts.{IsScript};
 ghost use Rattle.script_text.specs.Setups.{setup_of};
-ghost use Rattle.tact_top.specs.Drilling.{HasShown, IsDrilled, TellsTheSame, told_in};
+ghost use Rattle.tact_top.specs.Answers.{IsDrawn};
+ghost use Rattle.tact_top.specs.Drilling.{HasShown, TellsTheSame, told_in};
 ghost use Rattle.tact_top.specs.DrillText.{drill_text, shown_line};
 
 use crate::counting::put_counts;
@@ -26,7 +27,7 @@ use tact_io::Sink;
 /// - `WriteFault`: the sink failed in this call. A front of the summary was written.
 /// - `NoMemory`: an allocation was refused. Nothing was written, or a front of the summary.
 pub fn drill<K: Sink>(alloc: Global, number: u64, sink: &mut K) -> Status
-    ensures written { IsDrilled number result (K.written sink.old) (K.written sink.new) (K.faults sink.old) (K.faults sink.new) }
+    ensures written { IsDrawn (drill_text number) result (K.written sink.old) (K.written sink.new) (K.faults sink.old) (K.faults sink.new) }
     ensures complete { ¬ HasRisen (K.faults sink.old) (K.faults sink.new) → (result ≡ Done) ⊎ (result ≡ OutOfMemory) }
     ensures writes_never_fall { K.faults sink.old ≤ K.faults sink.new }
 {

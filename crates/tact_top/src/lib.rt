@@ -6,13 +6,17 @@ mod checking;
 mod counting;
 mod drilling;
 mod job;
+mod ordering;
 mod packing;
 mod playing;
 mod reading;
+mod run_words;
+mod running;
 mod top;
 mod words;
 
 pub use checking::check;
 pub use drilling::drill;
+pub use ordering::primary;
 pub use packing::{pack, unpack};
 pub use top::tact;

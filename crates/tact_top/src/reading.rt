@@ -1,15 +1,18 @@
-//! A record that an input is: its text, its bytes, or either of both.
+//! What an input is: a record, as text, as bytes or as either of both; or a workload.
 ghost use Rattle.std.specs.Prelude.{◌≡◌, IfOk, IfErr, Ok};
 ghost use Rattle.run_record.specs.RecordBytes.{record_bytes};
 ghost use Rattle.run_record.specs.RecordLines.{record_of};
 ghost use Rattle.run_record.specs.Records.{IsHeld};
 ghost use Rattle.tact_top.specs.RecordForms.{IsByteFault, IsRecordFault, IsRecordIn, IsTextFault, is_in_bytes};
+ghost use Rattle.tact_top.specs.Running.{IsLoadFault};
+ghost use Rattle.work_load.specs.Workloads.{workload_in};
 ghost use Rattle.tact_top.specs.Refusals.{IsRefusalBy, refusal_of};
 
 use crate::job::Refusal;
 use run_model::InputKind;
 use run_record::{Record, RecordFault, parse_bytes, parse_text};
 use std::alloc::Global;
+use work_load::{LoadFault, Plan, parse_plan};
 
 /// The record that an input is as text or as bytes. Bytes begin with `T`, which no text of a record does.
 pub(crate) fn read_record(alloc: Global, input: &[u8]) -> Result<Record, Refusal>
@@ -55,6 +58,21 @@ pub(crate) fn read_bytes(alloc: Global, input: &[u8]) -> Result<Record, Refusal>
     match parse_bytes(alloc, input) {
         Ok(record) => Ok(record),
         Err(fault) => Err(refusal_of(fault)),
+    }
+}
+
+/// The plan of the workload that an input is.
+pub(crate) fn read_plan(alloc: Global, input: &[u8]) -> Result<Plan, Refusal>
+    ensures read { IfOk result (λ plan. workload_in input.now ≡ Ok plan) }
+    ensures refused { IfErr result (IsRefusalBy IsLoadFault input.now) }
+{
+    match parse_plan(alloc, input) {
+        Ok(plan) => Ok(plan),
+        Err(LoadFault::Bad { place, kind }) => Err(Refusal::Bad {
+            place,
+            kind: InputKind::Load(kind),
+        }),
+        Err(LoadFault::NoMemory) => Err(Refusal::NoMemory),
     }
 }
 

@@ -1,19 +1,21 @@
 //! The top call: the words of a command, and what it does.
 ghost use Rattle.std.specs.Prelude.{◌≡◌, ◌≤◌, map, IfErr, string_bytes};
-ghost use Rattle.run_model.specs.declared.status.Status.TheVariants.{Usage};
-ghost use Rattle.tact_top.specs.Answers.{Completes, HasCause, Writes};
-ghost use Rattle.tact_top.specs.CommandAnswers.{asks, faults};
-ghost use Rattle.tact_top.specs.Commands.{IfDrills, IfReads, command_of};
-ghost use Rattle.tact_top.specs.Drilling.{IsDrilled};
+ghost use Rattle.tact_top.specs.Answers.{Completes, HasCause, IsDrawn, Writes};
+ghost use Rattle.tact_top.specs.CommandAnswers.{asks, faults, text_of};
+ghost use Rattle.tact_top.specs.Commands.{IfDraws, IfReads, IsReading, IsUsage, command_of};
 
 use crate::checking::check;
 use crate::drilling::drill;
+use crate::ordering::primary;
 use crate::packing::{pack, unpack};
 use crate::playing::play;
-use crate::words::{Command, Reading, command_of};
+use crate::running::run;
+use crate::words::{Command, Drawing, Reading, WordsFault, command_of};
 use run_model::Status;
 use std::alloc::Global;
-use tact_io::{Sink, Source};
+use std::sync::Wait;
+use std::thread::Threads;
+use tact_io::{Clock, Gate, Sink, Source};
 
 /// Does what the words ask for. The first word is the program's name.
 ///
@@ -21,18 +23,34 @@ use tact_io::{Sink, Source};
 /// - `check` reads a record as text or as bytes and writes the line that says whether it is that of a run.
 /// - `pack` reads a record as text and writes its bytes.
 /// - `unpack` reads a record as bytes and writes its text, without comments.
+/// - `run` reads a workload, runs it on threads, and writes the record of the run as text, without comments. With
+///   `--tries` and a number from 1 to 100 it tries each item so often at most, else 20 times. What a call records as
+///   its moment is told by the clock, and each call passes the gate once. It may wait.
 /// - `drill` with a number plays the script that the number draws and writes a summary. It reads nothing.
+/// - `primary` with a number lets the events happen among peers that the number draws, whose order a primary gives, and
+///   writes a summary. It reads nothing.
 ///
 /// `Usage` comes exactly where the words after the name are no command, and then nothing is read or
 /// written: `NoCommand` where there is none, `UnknownCommand` where the first of them is no command's
-/// name, `MissingNumber` where no word follows `drill`, `BadNumber` where the one that does isn't a number
-/// below 2^64, and `ExtraWord` where a word follows the command's last one. The other statuses are those of
-/// `script_run::play`, [`check`], [`pack`], [`unpack`] and [`drill`].
-pub fn tact<S: Source, K: Sink>(
+/// name, `MissingNumber` where no word follows `drill` or `primary`, `BadNumber` where the one that does isn't a number
+/// below 2^64, `ExtraWord` where a word follows the command's last one, and `RunWords` where `clap` refuses
+/// those after `run`. `NoMemory` may come in place of `RunWords`. The other statuses are those of `script_run::play`,
+/// [`check`], [`pack`], [`unpack`], [`drill`] and [`primary`], and for `run`:
+///
+/// - `Done`: each client did its items, each tried until its reply was final or as often as it may be. The record was
+///   written.
+/// - `Full`: a replica got as many entries as it may, with their count and its clock. The record of the run up to
+///   there was written.
+/// - `BadInput`: what was read is no workload; the first fault, and 0 or the number of the client that has it.
+/// - `TooLong`, `ReadFault`, `WriteFault` and `NoMemory`: as of [`pack`].
+pub fn tact<R: Threads + Wait + Sync, C: Clock + Sync, G: Gate + Sync, S: Source, K: Sink>(
+    rt: &R,
     alloc: Global,
     words: &[String],
     source: &mut S,
     sink: &mut K,
+    clock: &C,
+    gate: &G,
 ) -> Status
     ensures cause { IfReads (command_of (map string_bytes words.now)) (λ reading.
         HasCause (asks reading) (faults reading) result (S.left source.old) (S.left source.new)
@@ -42,22 +60,35 @@ pub fn tact<S: Source, K: Sink>(
     ensures complete { IfReads (command_of (map string_bytes words.now)) (λ reading.
         Completes (asks reading) (faults reading) result (S.left source.old)
         (S.faults source.old) (S.faults source.new) (K.faults sink.old) (K.faults sink.new)) }
-    ensures drilled { IfDrills (command_of (map string_bytes words.now)) (λ number. (source.new ≡ source.old)
-        × IsDrilled number result (K.written sink.old) (K.written sink.new) (K.faults sink.old) (K.faults sink.new)) }
+    ensures drawn { IfDraws (command_of (map string_bytes words.now)) (λ drawing number. (source.new ≡ source.old)
+        × IsDrawn (text_of drawing number) result (K.written sink.old) (K.written sink.new) (K.faults sink.old) (K.faults sink.new)) }
     ensures usage { IfErr (command_of (map string_bytes words.now)) (λ kind.
-        (result ≡ Usage kind) × (source.new ≡ source.old) × (sink.new ≡ sink.old)) }
+        IsUsage kind result × (source.new ≡ source.old) × (sink.new ≡ sink.old)) }
     ensures reads_never_fall { S.faults source.old ≤ S.faults source.new }
     ensures writes_never_fall { K.faults sink.old ≤ K.faults sink.new }
 {
-    match command_of(words) {
-        Ok(Command::Read(reading)) => obey(alloc, reading, source, sink),
-        Ok(Command::Drill { number }) => drill(alloc, number, sink),
-        Err(kind) => Status::Usage(kind),
+    match command_of(alloc, words) {
+        Ok(Command::Read(reading)) => obey(rt, alloc, reading, source, sink, clock, gate),
+        Ok(Command::Draw { drawing, number }) => match drawing {
+            Drawing::Drill => drill(alloc, number, sink),
+            Drawing::Primary => primary(alloc, number, sink),
+        },
+        Err(WordsFault::Usage(kind)) => Status::Usage(kind),
+        Err(WordsFault::NoMemory) => Status::NoMemory,
     }
 }
 
 // Does what a command that reads an input says.
-fn obey<S: Source, K: Sink>(alloc: Global, reading: Reading, source: &mut S, sink: &mut K) -> Status
+fn obey<R: Threads + Wait + Sync, C: Clock + Sync, G: Gate + Sync, S: Source, K: Sink>(
+    rt: &R,
+    alloc: Global,
+    reading: Reading,
+    source: &mut S,
+    sink: &mut K,
+    clock: &C,
+    gate: &G,
+) -> Status
+    requires reading { IsReading reading }
     ensures cause { HasCause (asks reading) (faults reading) result (S.left source.old) (S.left source.new)
         (S.faults source.old) (S.faults source.new) (K.faults sink.old) (K.faults sink.new) }
     ensures written { Writes (asks reading) result (S.left source.old) (K.written sink.old) (K.written sink.new) }
@@ -71,5 +102,6 @@ fn obey<S: Source, K: Sink>(alloc: Global, reading: Reading, source: &mut S, sin
         Reading::Check => check(alloc, source, sink),
         Reading::Pack => pack(alloc, source, sink),
         Reading::Unpack => unpack(alloc, source, sink),
+        Reading::Run { tries } => run(rt, alloc, tries, source, sink, clock, gate),
     }
 }

@@ -3,7 +3,9 @@
 use crate::obeying::obeyed;
 use run_model::Status;
 use std::alloc::Global;
+use std::sync::Wait;
 use std::test::Fail;
+use std::thread::Threads;
 use tact_io::MemSink;
 
 // Each two replicas tell each other what they have.
@@ -38,8 +40,12 @@ fn script(alloc: Global) -> Result<String, Fail> {
 }
 
 // What a command writes on an input, where it ends Done.
-fn done(alloc: Global, line: &str, input: &[u8]) -> Result<MemSink, Fail> {
-    let (status, sink) = obeyed(alloc, line, input, &[], &[])?;
+fn done<R: Threads + Wait + Sync + AllocGlobal>(
+    rt: &R,
+    line: &str,
+    input: &[u8],
+) -> Result<MemSink, Fail> {
+    let (status, sink) = obeyed(rt, line, input, &[], &[])?;
     if status != Status::Done {
         return Err("a command that isn't done".into());
     }
@@ -59,20 +65,20 @@ fn without_comments(alloc: Global, text: &[u8]) -> Result<Vec<u8>, Fail> {
 
 #[test]
 fn a_board_is_played_and_checked(rt: HostRuntime) -> Result<(), Fail> {
-    let played = done(rt.alloc(), "tactcli play", script(rt.alloc())?.as_bytes())?;
+    let played = done(&rt, "tactcli play", script(rt.alloc())?.as_bytes())?;
     assert_eq!(rt; played.bytes().ends_with(LAST_TEXT.as_bytes()), true);
-    let said = done(rt.alloc(), "tactcli check", played.bytes())?;
+    let said = done(&rt, "tactcli check", played.bytes())?;
     assert_eq!(rt; said.bytes(), VERDICT.as_bytes());
     Ok(())
 }
 
 #[test]
 fn packed_and_unpacked_it_has_no_comments(rt: HostRuntime) -> Result<(), Fail> {
-    let played = done(rt.alloc(), "tactcli play", script(rt.alloc())?.as_bytes())?;
-    let packed = done(rt.alloc(), "tactcli pack", played.bytes())?;
-    let said = done(rt.alloc(), "tactcli check", packed.bytes())?;
+    let played = done(&rt, "tactcli play", script(rt.alloc())?.as_bytes())?;
+    let packed = done(&rt, "tactcli pack", played.bytes())?;
+    let said = done(&rt, "tactcli check", packed.bytes())?;
     assert_eq!(rt; said.bytes(), VERDICT.as_bytes());
-    let unpacked = done(rt.alloc(), "tactcli unpack", packed.bytes())?;
+    let unpacked = done(&rt, "tactcli unpack", packed.bytes())?;
     let kept = without_comments(rt.alloc(), played.bytes())?;
     assert_eq!(rt; unpacked.bytes(), kept.as_slice());
     Ok(())

@@ -21,8 +21,20 @@ fn each_command_line_has_its_status(rt: HostRuntime) -> Result<(), Fail> {
         ("tactcli drill 18446744073709551616", UsageKind::BadNumber),
         ("tactcli drill 1a 1", UsageKind::BadNumber),
         ("tactcli drill 1 1", UsageKind::ExtraWord),
+        ("tactcli primary", UsageKind::MissingNumber),
+        ("tactcli primary x", UsageKind::BadNumber),
+        ("tactcli primary x 1", UsageKind::BadNumber),
+        ("tactcli primary 1 1", UsageKind::ExtraWord),
+        ("tactcli run --tries 0", UsageKind::RunWords),
+        ("tactcli run --tries 101", UsageKind::RunWords),
+        ("tactcli run --tries 3 --tries 4", UsageKind::RunWords),
+        ("tactcli run --tries", UsageKind::RunWords),
+        ("tactcli run --tries x", UsageKind::RunWords),
+        ("tactcli run --help", UsageKind::RunWords),
+        ("tactcli run --version", UsageKind::RunWords),
+        ("tactcli run x", UsageKind::RunWords),
     ] {
-        let (status, sink) = obeyed(rt.alloc(), line, b"start 2 1 0 0\n", &[], &[])?;
+        let (status, sink) = obeyed(&rt, line, b"start 2 1 0 0\n", &[], &[])?;
         assert_eq!(rt; status, Status::Usage(wanted), "{line}");
         assert_eq!(rt; sink.bytes().is_empty(), true, "{line}");
     }

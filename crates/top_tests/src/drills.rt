@@ -1,4 +1,4 @@
-//! The drill of a number.
+//! What a number draws.
 
 use crate::obeying::obeyed;
 use run_model::Status;
@@ -14,16 +14,36 @@ show 3 have 219 230 220 229 clock 337 point 325 committed 873 last 3.223 tentati
 
 #[test]
 fn the_first_number_and_the_last(rt: HostRuntime) -> Result<(), Fail> {
-    let (status, sink) = obeyed(rt.alloc(), "tactcli drill 0", b"", &[], &[])?;
+    let (status, sink) = obeyed(&rt, "tactcli drill 0", b"", &[], &[])?;
     assert_eq!(rt; status, Status::Done);
     assert_eq!(rt; sink.bytes(), ZERO.as_bytes());
-    let (status, _sink) = obeyed(
-        rt.alloc(),
-        "tactcli drill 18446744073709551615",
-        b"",
-        &[],
-        &[],
-    )?;
+    let (status, _sink) = obeyed(&rt, "tactcli drill 18446744073709551615", b"", &[], &[])?;
     assert_eq!(rt; status, Status::Done);
+    Ok(())
+}
+
+// What an independent program reckons of the primary's order at the number 0: 1,000 events, those of each kind added up.
+const ORDER: &str = "primary 0 events 1000 accepts 387 posts 279 takes 334
+peer 0 have 89 74 46 68 told 277 committed 277
+peer 1 have 64 95 30 52 told 256 committed 146
+peer 2 have 69 75 90 97 told 222 committed 222
+peer 3 have 63 68 69 113 told 216 committed 216
+";
+
+#[test]
+fn an_order_is_that_of_its_number(rt: HostRuntime) -> Result<(), Fail> {
+    let (status, sink) = obeyed(&rt, "tactcli primary 0", b"", &[], &[])?;
+    assert_eq!(rt; status, Status::Done);
+    assert_eq!(rt; sink.bytes(), ORDER.as_bytes());
+    Ok(())
+}
+
+#[test]
+fn a_number_draws_the_same_order_again(rt: HostRuntime) -> Result<(), Fail> {
+    let (one, sink) = obeyed(&rt, "tactcli primary 7", b"", &[], &[])?;
+    let (other, again) = obeyed(&rt, "tactcli primary 7", b"", &[], &[])?;
+    assert_eq!(rt; one, Status::Done);
+    assert_eq!(rt; other, Status::Done);
+    assert_eq!(rt; sink.bytes(), again.bytes());
     Ok(())
 }

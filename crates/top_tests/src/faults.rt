@@ -52,7 +52,7 @@ fn the_outside_is_named(rt: HostRuntime) -> Result<(), Fail> {
             Status::WriteFault,
         ),
     ] {
-        let (status, sink) = obeyed(rt.alloc(), line, RECORD.as_bytes(), reads, writes)?;
+        let (status, sink) = obeyed(&rt, line, RECORD.as_bytes(), reads, writes)?;
         assert_eq!(rt; &status, wanted, "{line}");
         assert_eq!(rt; sink.bytes().is_empty(), true, "{line}");
     }

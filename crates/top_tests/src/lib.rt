@@ -14,3 +14,5 @@ mod faults;
 mod obeying;
 #[cfg(test)]
 mod records;
+#[cfg(test)]
+mod runs;

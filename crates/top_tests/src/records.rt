@@ -51,7 +51,7 @@ fn forms_of_a_record(rt: HostRuntime) -> Result<(), Fail> {
         ("tactcli check", EMPTY.as_bytes(), EMPTY_LINE.as_bytes()),
         ("tactcli check", EMPTY_BYTES, EMPTY_LINE.as_bytes()),
     ] {
-        let (status, sink) = obeyed(rt.alloc(), line, input, &[], &[])?;
+        let (status, sink) = obeyed(&rt, line, input, &[], &[])?;
         assert_eq!(rt; status, Status::Done, "{line}");
         assert_eq!(rt; sink.bytes(), wanted, "{line}");
     }
@@ -60,7 +60,7 @@ fn forms_of_a_record(rt: HostRuntime) -> Result<(), Fail> {
 
 #[test]
 fn a_take_without_a_send(rt: HostRuntime) -> Result<(), Fail> {
-    let (status, sink) = obeyed(rt.alloc(), "tactcli check", NO_SEND.as_bytes(), &[], &[])?;
+    let (status, sink) = obeyed(&rt, "tactcli check", NO_SEND.as_bytes(), &[], &[])?;
     let cause = Cause::NoSend { from: 0, number: 0 };
     assert_eq!(rt; status, Status::Bad { entry: 0, cause });
     assert_eq!(rt; sink.bytes(), b"bad 0 no-send 0 0\n".as_slice());
@@ -125,7 +125,7 @@ fn inputs_that_are_no_records(rt: HostRuntime) -> Result<(), Fail> {
             InputKind::Line(LineKind::BadHeader),
         ),
     ] {
-        let (status, sink) = obeyed(rt.alloc(), line, input, &[], &[])?;
+        let (status, sink) = obeyed(&rt, line, input, &[], &[])?;
         assert_eq!(rt; status, Status::BadInput { place, kind }, "{line}");
         assert_eq!(rt; sink.bytes().is_empty(), true, "{line}");
     }
