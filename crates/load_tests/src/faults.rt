@@ -12,6 +12,9 @@ const NAMES: &[u8] = b"{\"replicas\":3,\"conits\":2,\"clients\":[[0,0,[]]]";
 
 const ITEMS: &[u8] = b"{\"replicas\":2,\"conits\":3,\"clients\":[[0,1,[]],[1,0,[[\"release\",0],";
 
+// Lists in lists, deeper than a reader of JSON follows, and none has an end.
+const DEEP: [u8; 200] = [b'['; 200];
+
 const CLIENTS: &[u8] = b"{\"replicas\":2,\"conits\":1,\"clients\":[";
 
 // Why a text, in three parts, is no workload.
@@ -36,13 +39,18 @@ fn bad(place: u64, kind: LoadKind) -> Option<LoadFault> {
 
 #[test]
 fn whole_texts(rt: HostRuntime) -> Result<(), Fail> {
-    let cases: [(&[u8], LoadKind); 18] = [
+    let cases: [(&[u8], LoadKind); 20] = [
         (b"", LoadKind::NotJson),
+        (&DEEP, LoadKind::NotJson),
         (b"{\"replicas\":2,", LoadKind::NotJson),
         (b"{} 0", LoadKind::NotJson),
         (b"\"\xff\"", LoadKind::NotJson),
         (b"[]", LoadKind::Shape),
         (b"{\"replicas\":99,\"more\":0}", LoadKind::Shape),
+        (
+            b"{\"replicas\":3,\"conits\":1,\"clients\":[],\"x\":1}",
+            LoadKind::Shape,
+        ),
         (b"{}", LoadKind::Shape),
         (b"{\"replicas\":2}", LoadKind::Shape),
         (b"{\"replicas\":2.0,\"conits\":0}", LoadKind::Shape),
@@ -115,13 +123,14 @@ fn bounds_links_and_rounds(rt: HostRuntime) -> Result<(), Fail> {
 
 #[test]
 fn clients(rt: HostRuntime) -> Result<(), Fail> {
-    let cases: [(&[u8], u64, LoadKind); 11] = [
+    let cases: [(&[u8], u64, LoadKind); 12] = [
         (b"0", 1, LoadKind::Shape),
         (b"[0,0]", 1, LoadKind::Shape),
         (b"[2,0,{}]", 1, LoadKind::Shape),
         (b"[0,0,[]],[0,[],[]]", 2, LoadKind::Shape),
         (b"[2,0,[]]", 1, LoadKind::Range),
         (b"[0,8,[0]]", 1, LoadKind::Range),
+        (b"[0,0,[]],[0,0,[]]", 2, LoadKind::Twice),
         (b"[0,0,[]],[1,0,[]],[0,0,[0]]", 3, LoadKind::Twice),
         (b"[0,0,[0]],[0,0,[]]", 1, LoadKind::Shape),
         (b"[0,0,[[\"restart\"],[]]]", 1, LoadKind::NotBuilt),
