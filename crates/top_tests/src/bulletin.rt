@@ -73,6 +73,31 @@ fn a_board_is_played_and_checked(rt: HostRuntime) -> Result<(), Fail> {
 }
 
 #[test]
+fn a_board_where_a_read_or_a_write_fails(rt: HostRuntime) -> Result<(), Fail> {
+    let script = script(rt.alloc())?;
+    let whole = done(&rt, "tactcli play", script.as_bytes())?;
+    for (reads, writes, wanted) in &[
+        ([0].as_slice(), [].as_slice(), Status::ReadFault),
+        ([1].as_slice(), [].as_slice(), Status::ReadFault),
+        ([2].as_slice(), [].as_slice(), Status::Done),
+        ([].as_slice(), [0].as_slice(), Status::WriteFault),
+        ([].as_slice(), [1].as_slice(), Status::Done),
+    ] {
+        let (status, sink) = obeyed(&rt, "tactcli play", script.as_bytes(), reads, writes)?;
+        assert_eq!(rt; &status, wanted, "{reads:?} {writes:?}");
+        // What is written is the front of the text: all of it, or nothing.
+        assert_eq!(rt; whole.bytes().starts_with(sink.bytes()), true);
+        let written = if status == Status::Done {
+            whole.bytes().len()
+        } else {
+            0
+        };
+        assert_eq!(rt; sink.bytes().len(), written, "{reads:?} {writes:?}");
+    }
+    Ok(())
+}
+
+#[test]
 fn packed_and_unpacked_it_has_no_comments(rt: HostRuntime) -> Result<(), Fail> {
     let played = done(&rt, "tactcli play", script(rt.alloc())?.as_bytes())?;
     let packed = done(&rt, "tactcli pack", played.bytes())?;
