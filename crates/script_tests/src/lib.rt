@@ -1,9 +1,11 @@
-//! Tests of scripts and of what they are read from and written to, by subject. Nothing else stands here:
+//! Tests of scripts, of what they are read from and written to, and of journals and shelves, by subject. Nothing else stands here:
 //! the crates that they test are proved once without them.
 #![tactic(auto)]
 
 #[cfg(test)]
 mod faults;
+#[cfg(test)]
+mod journals;
 #[cfg(test)]
 mod limits;
 #[cfg(test)]

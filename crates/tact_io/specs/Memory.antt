@@ -1,6 +1,8 @@
 -- The forms in memory: what they hold, and which of their calls fail.
-use Rattle.std.specs.Prelude.{ℕ, List, Contains}
+use Rattle.std.specs.Prelude.{ℕ, List, true, Contains}
 use Rattle.tact_base.specs.Counts.{one_more}
+use Rattle.tact_io.specs.declared.memory_journal.JournalFail.{JournalFail}
+use Rattle.tact_io.specs.Journals.{Pieces}
 
 -- how many calls were made, the numbers from 0 of those that fail, and how many failed
 pub record Schedule : Type 0 where
@@ -33,3 +35,19 @@ after_success schedule = record schedule { calls = one_more schedule.calls }
 -- after a call that failed
 abbrev pub after_fault : Schedule → Schedule
 after_fault schedule = record schedule { calls = one_more schedule.calls; faults = one_more schedule.faults }
+
+-- ---- journals
+
+-- what a journal holds, how its calls fail, and which of them leave their piece
+pub record JournalState : Type 0 where
+  pub held : Pieces
+  pub schedule : Schedule
+  pub fails : List JournalFail
+
+-- the number of a listed call
+abbrev pub call_of : JournalFail → ℕ
+call_of fail = fail.call
+
+-- the next call leaves its piece, if it is an append that fails
+abbrev pub KeepsNext : JournalState → Type 0
+KeepsNext journal = Contains journal.fails (record { call = journal.schedule.calls; kept = true })

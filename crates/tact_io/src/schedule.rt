@@ -6,7 +6,7 @@ use std::marker::Model;
 use tact_base::{NoMemory, Numbers};
 
 /// Which calls of a form in memory fail.
-#[derive(Drop)]
+#[derive(Debug, Drop)]
 pub struct FaultSchedule {
     calls: u64,
     fails: Numbers,
@@ -33,6 +33,20 @@ impl FaultSchedule {
             fails: Numbers::from_slice(alloc, fails)?,
             faults: 0,
         })
+    }
+
+    /// How many calls were made.
+    pub fn calls(&self) -> u64
+        ensures { result ≡ self.now.calls }
+    {
+        self.calls
+    }
+
+    /// How many calls failed.
+    pub fn faults(&self) -> u64
+        ensures { result ≡ self.now.faults }
+    {
+        self.faults
     }
 
     /// Whether the next call fails.
