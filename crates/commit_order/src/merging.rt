@@ -18,13 +18,13 @@ pub(crate) fn merge_back(items: &mut [Write], held: usize, writes: &[Write])
     let mut left = held;
     let mut more = writes.len();
     while more > 0 {
-        let write = writes[more - 1];
+        let write = &writes[more - 1];
         if left > 0 && write.comes_before(&items[left - 1]) {
             left -= 1;
             items[left + more] = items[left];
         } else {
             more -= 1;
-            items[left + more] = write;
+            items[left + more] = *write;
         }
     }
 }
