@@ -10,8 +10,8 @@ use Rattle.std.proofs.Math.Seq.{drop-append_seam}
 use Rattle.std.specs.List.{range_with_len}
 use Rattle.tact_base.proofs.ListLemmas.{All-range, flat_map_agree}
 use Rattle.tact_base.proofs.RangeLists.{flat_map_range_more}
-use Rattle.primary_commit.specs.Kept.{AreNext, gained, log_after, order_after}
-use Rattle.primary_commit.specs.Peers.{PeerState, IsFor, added, after_take, all_added, have, items_of, log_of, origins, pick_of, primary, told_after}
+use Rattle.primary_commit.specs.Kept.{gained, log_after, order_after}
+use Rattle.primary_commit.specs.Peers.{AreNext, IsFor, PeerState, added, after_take, all_added, have, items_of, log_of, origins, pick_of, primary, told_after}
 use Rattle.primary_commit.specs.declared.items.Item.{Item}
 use Rattle.primary_commit.specs.declared.items.Notice.{Notice}
 use Rattle.primary_commit.specs.declared.items.Pick.{Pick}

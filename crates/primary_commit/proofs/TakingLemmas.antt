@@ -7,9 +7,9 @@ use Rattle.std.proofs.lemmas.List.Elements.{filter-append}
 use Rattle.std.proofs.Math.Seq.{get_or-append_seam}
 use Rattle.std.specs.List.{range_with_len}
 use Rattle.tact_base.proofs.RangeLists.{flat_map_range_more}
-use Rattle.primary_commit.specs.Peers.{pick_of}
+use Rattle.primary_commit.specs.Peers.{AreNext, pick_of}
 use Rattle.primary_commit.specs.declared.items.Pick.{Pick}
-use Rattle.primary_commit.specs.Kept.{AreNext, log_after}
+use Rattle.primary_commit.specs.Kept.{log_after}
 use Rattle.primary_commit.specs.declared.items.Item.{Item}
 
 -- the items of an origin

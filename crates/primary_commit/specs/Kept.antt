@@ -34,11 +34,6 @@ pub record KeepsPeer (peer : PeerState) (count : ℕ) (image : ImageState) : Typ
   pub events : peer.events ≤ HISTORY_MAX
   pub posts : peer.posts ≤ peer.events
 
--- the items of each origin among these are those from its first on, in order
-abbrev pub AreNext : List ℕ → List Item → Type 0
-AreNext firsts items = (origin index : ℕ) (none : Item) → index < length (filter (λ item. item.origin == origin) items)
-    → (get_or (filter (λ item. item.origin == origin) items) index none).index ≡ get_or firsts origin 0 + index
-
 -- a log after items of its origin from a first one on: with those that it lacks, unless they leave a gap
 abbrev pub log_after : List Item → ℕ → List Item → List Item
 log_after log first items = log ++ (if nat_le first (length log) then drop (length log - first) items else [])

@@ -125,12 +125,16 @@ pub record IsPeer (peer : PeerState) : Type 0 where
   pub placed : (origin index : ℕ) (none : Item) → index < have peer origin
       → ((get_or (log_of peer origin) index none).origin ≡ origin) × ((get_or (log_of peer origin) index none).index ≡ index)
 
+-- the items of each origin among these are those from its first on, in order
+abbrev pub AreNext : List ℕ → List Item → Type 0
+AreNext firsts items = (origin index : ℕ) (none : Item) → index < length (filter (λ item. item.origin == origin) items)
+    → (get_or (filter (λ item. item.origin == origin) items) index none).index ≡ get_or firsts origin 0 + index
+
 -- A notice that a peer may take: it is addressed to it, with a first of each origin, and its items of each origin are those
 -- from its first on, in order.
 pub record IsFor (peer : PeerState) (notice : Notice) : Type 0 where
   pub addressed : notice.to ≡ peer.replica
   pub counted : length notice.firsts ≡ length peer.logs
-  pub in_order : (origin index : ℕ) (none : Item) → index < length (items_of notice origin)
-      → (get_or (items_of notice origin) index none).index ≡ get_or notice.firsts origin 0 + index
+  pub in_order : AreNext notice.firsts notice.items
   pub few_items : length notice.items ≤ 64
   pub few_picks : length notice.picks ≤ 256

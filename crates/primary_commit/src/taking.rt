@@ -1,8 +1,8 @@
 //! What a peer adds from a notice.
 ghost use Rattle.std.specs.Prelude.{◌≡◌, ◌==◌, ◌&&◌, ℕ, ◌+◌, ◌-◌, ◌^◌, ◌<◌, ◌≤◌, List, [], ◌∷◌, ◌++◌, drop, filter, flat_map, get_or, if◌then◌else◌, length, map, nat_le};
 ghost use Rattle.std.specs.List.{range_with_len};
-ghost use Rattle.primary_commit.specs.Kept.{AreNext, gained, log_after, order_after};
-ghost use Rattle.primary_commit.specs.Peers.{pick_of, primary};
+ghost use Rattle.primary_commit.specs.Kept.{gained, log_after, order_after};
+ghost use Rattle.primary_commit.specs.Peers.{AreNext, pick_of, primary};
 
 use crate::logs::Logs;
 use crate::peer::PRIMARY;

@@ -2,7 +2,6 @@
 use Rattle.std.proofs.Common.{◌≡◌, ℕ, ◌+◌, ◌≤◌, ◌==◌, Bool, true, cond, List, [], ◌∷◌, ◌++◌, length, filter, refl, sym, ap, ◌∙◌, subst, arith}
 use Rattle.std.proofs.lemmas.Bool.{eq-eqb}
 use Rattle.std.proofs.lemmas.Bool.Decides.{nat_tests}
-use Rattle.std.proofs.lemmas.List.{append-nil, length-append}
 use Rattle.std.proofs.lemmas.List.Elements.{filter-append}
 use Rattle.tact_base.specs.Setup.{Setup, IsSetup}
 use Rattle.tact_base.proofs.SetupLemmas.{HasCounts-from_IsSetup}
@@ -15,7 +14,7 @@ use Rattle.run_model.specs.declared.call.Request.{Request}
 use Rattle.run_model.specs.declared.entry.Entry.{Entry}
 use Rattle.run_model.proofs.ClockBound.{clock-run}
 use Rattle.run_model.proofs.PartLemmas.{part_of-push_same}
-use Rattle.run_model.proofs.PrefixLemmas.{EachAfter-last, IsPrefix-filter}
+use Rattle.run_model.proofs.PrefixLemmas.{EachAfter-last, IsPrefix-filter, IsPrefix-whole}
 use Rattle.run_promises.proofs.Kept.{IsKept-run}
 use Rattle.run_history.proofs.RunLemmas.{parts_are_short, run_is_short}
 use Rattle.replica_core.specs.States.{Core, is_full}
@@ -26,21 +25,16 @@ use Rattle.replica_lock.specs.declared.fault.NodeFault.{NodeFault}
 use Rattle.replica_lock.specs.declared.fault.NodeFault.TheVariants as fault
 use Rattle.replica_lock.proofs.Entering.{call_entry}
 
--- a front as long as the whole is the whole
-pub prefix_all : {A : Type 0} (front whole : List A) → IsPrefix front whole → length front ≡ length whole → front ≡ whole
-prefix_all front whole ([], is) size = sym (is ∙ append-nil front)
-prefix_all front whole (x ∷ rest, is) size = absurd (omega (arith, size, ap length is, length-append front (x ∷ rest)))
-
 -- what two histories have of a client, one of which is a front of the other, where both have as many calls of it
 pub calls_of-same : (seen more : List Entry) (replica client : ℕ)
     → IsPrefix seen more
     → calls_in (part_of seen replica) client ≡ calls_in (part_of more replica) client
     → calls_of seen replica client ≡ calls_of more replica client
 calls_of-same seen more replica client front size =
-    prefix_all (calls_of seen replica client) (calls_of more replica client)
+    IsPrefix-whole (calls_of seen replica client) (calls_of more replica client)
     (IsPrefix-filter (λ (e : Entry). is_call_of client e.act) (part_of seen replica) (part_of more replica)
     (IsPrefix-filter (λ (e : Entry). e.replica == replica) seen more front))
-    size
+    (omega (arith, size))
 
 -- with one more call of the client
 calls_of-push : (front : List Entry) (session : SessionView) (moment : ℕ) (asked : Request) (given : Reply)

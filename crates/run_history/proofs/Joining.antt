@@ -1,7 +1,7 @@
 -- Joining two views keeps the history rule.
-use Rattle.std.proofs.Common.{◌≡◌, ◌≢◌, ℕ, ◌<◌, ◌≤◌, ◌==◌, List, [], ◌∷◌, ◌++◌, All, AllPairs, Contains, length, slice_index, slice_set, refl, sym, ap, ◌∙◌, subst, ⊎_elim, arith, length-append}
+use Rattle.std.proofs.Common.{◌≡◌, ◌≢◌, ℕ, ◌<◌, ◌≤◌, ◌==◌, List, [], ◌∷◌, ◌++◌, All, AllPairs, Contains, length, slice_index, slice_set, refl, sym, ap, ◌∙◌, subst, ⊎_elim, arith}
 use Rattle.std.proofs.lemmas.Bool.{cases_eq}
-use Rattle.std.proofs.lemmas.List.{append-nil, map-append, nil_from_length}
+use Rattle.std.proofs.lemmas.List.{map-append}
 use Rattle.std.proofs.lemmas.List.Elements.{All-weaker, All-append, All-nil, All-cons, Contains-append_left, Contains-append_right}
 use mathlib.Core.Option.{some, some-injective}
 use lib.ListN.{get_elem?}
@@ -11,20 +11,13 @@ use Rattle.tact_base.proofs.ElementLemmas.{AllPairs-append}
 use Rattle.tact_base.specs.Setup.{Setup}
 use Rattle.run_model.specs.Histories.{part_of, IsPrefix}
 use Rattle.run_model.specs.declared.entry.Entry.{Entry}
-use Rattle.run_model.proofs.PrefixLemmas.{IsPrefix-trans, IsPrefix-filter, IsPrefix-length}
+use Rattle.run_model.proofs.PrefixLemmas.{IsPrefix-trans, IsPrefix-filter, IsPrefix-length, IsPrefix-whole}
 use Rattle.run_history.specs.declared.view.Part.{Part}
 use Rattle.run_history.specs.declared.view.View.{View}
 use Rattle.run_history.specs.Rule.{FitsPart, FitsSeat, HasPart, IsOneHistory, KeepsHistory}
 use Rattle.run_history.specs.Steps.{longer, joined, nothing_known}
 use Rattle.run_history.proofs.Cutting.{partless_fits, FitsPart-stays, FitsPart-moves, FitsSeat-stays}
 use Rattle.run_history.proofs.SeatLemmas.{each_set, at_put, moved, moved-there, moved-else, replicas_in, HasPart-set, HasPart-set_other, IsLonger, longer_begins, HasPart-moved, IsOneHistory-reseated}
-
--- a front as long as the whole is the whole
-whole_front : {A : Type 0} (front whole : List A) → IsPrefix front whole
-    → length whole ≤ length front → front ≡ whole
-whole_front front whole (rest, is) least =
-    let none : rest ≡ [] = nil_from_length rest (omega (arith, ap length is, length-append front rest)) in
-    sym (is ∙ ap (λ rest. front ++ rest) none ∙ append-nil front)
 
 -- between a front that has all of a replica and the whole each front has all of it
 all_between : (front middle history : List Entry) (replica : ℕ) → IsPrefix front middle
@@ -33,7 +26,7 @@ all_between : (front middle history : List Entry) (replica : ℕ) → IsPrefix f
 all_between front middle history replica first second all =
     let test = λ (entry : Entry). entry.replica == replica in
     let some_of = IsPrefix-length (part_of front replica) (part_of middle replica) (IsPrefix-filter test front middle first) in
-    whole_front (part_of middle replica) (part_of history replica) (IsPrefix-filter test middle history second) (omega (arith, some_of, ap length all))
+    IsPrefix-whole (part_of middle replica) (part_of history replica) (IsPrefix-filter test middle history second) (omega (arith, some_of, ap length all))
 
 FitsPart-knows : (words : List ℕ) (seat_of : ℕ → ℕ) (history : List Entry) (id : ℕ) (known more : List Entry)
     → IsPrefix known more

@@ -45,6 +45,11 @@ module _ {A : Type 0} where
   pub IsPrefix-length : (xs ys : List A) → IsPrefix xs ys → length xs ≤ length ys
   IsPrefix-length xs ys (rest, is) = omega (arith, ap length is, length-append xs rest)
 
+  -- one that is as long as the whole
+  pub IsPrefix-whole : (xs ys : List A) → IsPrefix xs ys → length ys ≤ length xs → xs ≡ ys
+  IsPrefix-whole xs ys ([], is) least = sym (is ∙ append-nil xs)
+  IsPrefix-whole xs ys (x ∷ rest, is) least = absurd (omega (arith, least, ap length is, length-append xs (x ∷ rest)))
+
   pub IsPrefix-reads : (xs ys : List A) (i : ℕ) (d : A)
       → IsPrefix xs ys
       → i < length xs

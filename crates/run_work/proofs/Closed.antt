@@ -1,7 +1,6 @@
 -- What a closed history has of a replica and of a client: told by a front of it that was seen, by the pairs that the
 -- replica's clerk drew, and by the setup.
 use Rattle.std.proofs.Common.{◌≡◌, ℕ, ◌<◌, ◌≤◌, ◌==◌, false, List, [], ◌∷◌, flat_map, length, map, refl, sym, ap, ◌∙◌, subst, ne_eqb, arith}
-use Rattle.std.proofs.lemmas.List.{append-nil, length-append}
 use Rattle.std.proofs.lemmas.List.Elements.{All-weaker}
 use Rattle.std.proofs.lemmas.List.Folds.{flat_map-map}
 use Rattle.tact_base.specs.Roomy.{Roomy}
@@ -15,17 +14,12 @@ use Rattle.run_model.specs.declared.entry.Act.{Act}
 use Rattle.run_model.specs.declared.entry.Act.TheVariants as act
 use Rattle.run_model.specs.declared.entry.Entry.{Entry}
 use Rattle.run_model.proofs.EntriesInRange.{part_in_range}
-use Rattle.run_model.proofs.PrefixLemmas.{IsPrefix-filter, IsPrefix-length}
+use Rattle.run_model.proofs.PrefixLemmas.{IsPrefix-filter, IsPrefix-whole}
 use Rattle.run_history.specs.Closing.{all_drawn}
 use Rattle.run_history.specs.Seats.{ClerkView}
 use Rattle.run_history.specs.Ticks.{drawn_by, entries_of, IsMerge}
 use Rattle.run_history.proofs.RunLemmas.{parts_are_short, replicas_in_run}
 use Rattle.run_history.proofs.TickLemmas.{entries_of-drawn_by}
-
--- a front as long as the whole is the whole
-front_all : {A : Type 0} (front whole : List A) → IsPrefix front whole → length front ≡ length whole → whole ≡ front
-front_all front whole ([], is) size = is ∙ append-nil front
-front_all front whole (x ∷ rest, is) size = absurd (omega (arith, size, ap length is, length-append front (x ∷ rest)))
 
 -- a replica's part in a front is a front of its part
 pub IsPrefix-part_of : (seen history : List Entry) (replica : ℕ)
@@ -40,10 +34,12 @@ pub calls_of-stored : (seen history : List Entry) (pairs : List (ℕ × Entry)) 
     → calls_in (entries_of pairs) client ≡ length (calls_of seen replica client)
     → calls_of history replica client ≡ calls_of seen replica client
 calls_of-stored seen history pairs replica client front stored size =
-    front_all (calls_of seen replica client) (calls_of history replica client)
+    let same : length (calls_of seen replica client) ≡ length (calls_of history replica client) =
+    sym size ∙ ap (λ part. calls_in part client) (sym stored) in
+    sym (IsPrefix-whole (calls_of seen replica client) (calls_of history replica client)
     (IsPrefix-filter (λ (entry : Entry). is_call_of client entry.act) (part_of seen replica) (part_of history replica)
     (IsPrefix-part_of seen history replica front))
-    (sym size ∙ ap (λ part. calls_in part client) (sym stored))
+    (omega (arith, same)))
 
 -- the entries of what a replica drew are its part
 pub entries_of-drawn : (history : List Entry) (pairs : List (ℕ × Entry)) (replica : ℕ)
@@ -59,8 +55,8 @@ pub part_of-full : (setup : Setup) (seen history : List Entry) (replica : ℕ)
     → part_of history replica ≡ part_of seen replica
 part_of-full setup seen history replica run front full =
     let part = IsPrefix-part_of seen history replica front in
-    front_all (part_of seen replica) (part_of history replica) part
-    (omega (arith, full, IsPrefix-length (part_of seen replica) (part_of history replica) part, parts_are_short setup history run replica))
+    sym (IsPrefix-whole (part_of seen replica) (part_of history replica) part
+    (omega (arith, full, parts_are_short setup history run replica)))
 
 -- an act in range is no call of a client that there can't be
 no_call : (setup : Setup) (replica client : ℕ) (done : Act)

@@ -1,5 +1,6 @@
 use Rattle.std.proofs.Common.{◌≡◌, ◌==◌, ℕ, ◌+◌, ◌<◌, ◌≤◌, List, [], filter, get_or, length, take}
-use Rattle.primary_commit.specs.Kept.{AreNext, log_after}
+use Rattle.primary_commit.specs.Kept.{log_after}
+use Rattle.primary_commit.specs.Peers.{AreNext}
 use Rattle.primary_commit.proofs.taking.add_items.Given as goal
 
 abbrev pub invariant-loop-item : goal.invariant-loop-item
