@@ -1,4 +1,4 @@
-ghost use Rattle.std.specs.Prelude.{◌≡◌, ℕ, ◌<◌, [], ◌∷◌, ◌++◌, OnOk, OnErr, IfOk, length, take, map, replicate, ◌==◌};
+ghost use Rattle.std.specs.Prelude.{◌≡◌, ℕ, ◌<◌, [], ◌∷◌, ◌++◌, OnOk, OnErr, IfOk, length, take, map, replicate, slice_set, ◌==◌};
 ghost use Rattle.std.specs.List.{AllZip, range_with_len};
 ghost use Rattle.std.specs.Cmp.Lexicographic.{pointwise, lists_equiv, lists_per};
 
@@ -105,6 +105,14 @@ impl<T: Drop> Items<T> {
             list.push(item(at))?;
         }
         Ok(list)
+    }
+
+    /// Puts an item in the place of another. Takes no memory.
+    pub fn set(&mut self, place: usize, item: T)
+        requires { place < length self.old }
+        ensures { self.new ≡ slice_set self.old place item }
+    {
+        self.items[place] = item;
     }
 
     /// Drops all items from place `len` on, if there are any. Takes no memory.
