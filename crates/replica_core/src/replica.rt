@@ -136,6 +136,13 @@ impl Replica {
         Ok(())
     }
 
+    /// Its number among the replicas of its setup. Takes no memory.
+    pub fn number(&self) -> u32
+        ensures { result ≡ self.now.core.replica }
+    {
+        self.replica
+    }
+
     /// How many writes of an origin it has. Takes no memory.
     pub fn have(&self, i: u32) -> u64
         requires { i < self.now.core.setup.replicas }
@@ -310,8 +317,9 @@ impl Replica {
         Ok(())
     }
 
-    // Whether an entry may follow.
-    fn may_enter(&self) -> Result<(), CoreFault>
+    /// Whether an entry may follow: `Full` comes exactly where 20,000 entries were made or the clock stands at 2^40,
+    /// and no other fault. Takes no memory.
+    pub fn may_enter(&self) -> Result<(), CoreFault>
         ensures ok { OnOk result (is_full self.now.core ≡ false) }
         ensures err { OnErr result (is_full self.now.core ≡ true) }
         ensures full { IfErr result (λ fault. fault ≡ CoreFault.Full self.now.core.counts.count self.now.core.writes.clock) }

@@ -17,7 +17,7 @@ use replica_core::{CoreFault, LoanFault, Replica};
 use run_model::{Config, Message, Reply, Request};
 use std::alloc::Global;
 use std::marker::Model;
-use tact_base::{HISTORY_MAX, NoMemory, Numbers, STAMP_MAX};
+use tact_base::{NoMemory, Numbers};
 
 /// All replicas of a setup. Contracts see the setup and what each replica keeps, by number; `StandsFor` says
 /// when that is what the definitions say of a history of all of them. Each call is one of one replica, and
@@ -145,7 +145,7 @@ impl ReplicaSet {
         ensures err { OnErr result (self.new ≡ self.old) }
     {
         let one = &mut self.replicas[replica as usize];
-        refuse_if_full(one)?;
+        one.may_enter()?;
         one.take(moment, message)
     }
 
@@ -223,17 +223,4 @@ impl ReplicaSet {
         let one = &mut self.replicas[replica as usize];
         one.restart(moment)
     }
-}
-
-// Whether an entry of a replica may follow.
-fn refuse_if_full(one: &Replica) -> Result<(), CoreFault>
-    ensures ok { OnOk result (is_full one.now.core ≡ false) }
-    ensures err { IfErr result (IsFaultOf one.now.core) }
-{
-    let count = one.count();
-    let clock = one.clock();
-    if count >= HISTORY_MAX || clock >= STAMP_MAX {
-        return Err(CoreFault::Full { count, clock });
-    }
-    Ok(())
 }
