@@ -3,7 +3,6 @@ pub mod Records
 pub mod NoFailure
 pub mod RunLength
 pub mod FirstCauses
-pub mod RequestRange
 pub mod AtReplica
 pub mod Passing
 pub mod FirstsApart

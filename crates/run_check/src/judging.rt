@@ -1,6 +1,6 @@
 //! One entry of a record after those before it, by the kind of its act. Each function is called where the
 //! replica has room and the moment doesn't run back.
-ghost use Rattle.std.specs.Prelude.{◌≡◌, ◌↔◌, ◌<◌, ◌≤◌, ℕ, List, IsTrue, length, OnOk, IfErr, MatchOption, Some};
+ghost use Rattle.std.specs.Prelude.{◌≡◌, ◌<◌, ◌≤◌, ℕ, List, length, OnOk, IfErr, MatchOption, Some};
 ghost use Rattle.tact_base.specs.declared.limits.TheConstants.{HISTORY_MAX, REPLICAS_MAX};
 ghost use Rattle.run_model.specs.declared.entry.Entry.{Entry};
 ghost use Rattle.run_record.specs.Records.{IsShortOf};
@@ -14,6 +14,7 @@ use crate::refusal::{At, Refusal};
 use replica_core::{CoreFault, LoanFault};
 use replica_set::ReplicaSet;
 use run_model::{Cause, Message, Reply, Request};
+use run_record::are_same_replies;
 use tact_base::{HISTORY_MAX, Numbers};
 
 // Whether a replica has room for an entry at a moment.
@@ -67,7 +68,7 @@ pub(crate) fn judge_call(
         Ok(due) => due,
         Err(fault) => return Err(want_of_memory(fault)),
     };
-    if !are_same(reply, &due) {
+    if !are_same_replies(reply, &due) {
         return Err(Refusal::Unlawful(Cause::Reply {
             told: reply.clone()?,
             due,
@@ -250,13 +251,6 @@ pub(crate) fn judge_restart(set: &mut ReplicaSet, at: At) -> Result<(), Refusal>
         Ok(()) => Ok(()),
         Err(fault) => Err(want_of_memory(fault)),
     }
-}
-
-// Whether two replies are the same.
-fn are_same(one: &Reply, other: &Reply) -> bool
-    ensures { IsTrue result ↔ (one.now ≡ other.now) }
-{
-    one == other
 }
 
 // The fault of a replica that isn't full.

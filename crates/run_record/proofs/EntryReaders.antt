@@ -46,7 +46,7 @@ module _ (setup : Setup) where
   EntryFields tag =
       Then (IsByte 0 setup.replicas) (λ replica. Then (IsNumber 0 (suc MOMENT_MAX)) (λ moment. Made (IsAct setup tag replica) (λ act. record { replica = replica; moment = moment; act = act })))
 
-  entry_reader : (tag : ℕ)
+  pub entry_reader : (tag : ℕ)
       → 1 ≤ tag
       → tag < 7
       → Reader (IsEntry tag) (short_at setup.replicas setup.conits tag)

@@ -6,6 +6,8 @@ pub mod PartLemmas
 pub mod Rising
 pub mod ItemLemmas
 pub mod FieldReaders
+pub mod NeedsInRange
+pub mod RequestRange
 pub mod ActReaders
 pub mod EntryReaders
 pub mod OkParts

@@ -26,7 +26,7 @@ impl From<NoMoreMemory> for RecordFault {
 
 /// Why a part of a record isn't read: the fault of a field, or want of memory.
 #[derive(Clone, Copy, Debug)]
-pub(crate) enum PartFault {
+pub enum PartFault {
     /// The fault of a field.
     Field(FieldFault),
     /// Want of memory.

@@ -6,9 +6,7 @@ ghost use Rattle.tact_base.specs.declared.limits.TheConstants.{REPLICAS_MAX};
 ghost use Rattle.run_record.specs.EntriesAt.{act_at, back_at, call_at, firsts_at, lend_at, send_at, short_at, shorts_at, tag_at, take_at};
 ghost use Rattle.run_record.specs.PartFaults.{TellsPart};
 
-use crate::fault::PartFault;
-use crate::parts::Counts;
-use crate::{Short, ShortAct, Shorts};
+use crate::{Counts, PartFault, Short, ShortAct, Shorts};
 use run_model::{
     FieldFault, any_number_at, byte_at, number_at, numbers_at, other_at, reply_at, request_at,
 };
@@ -60,9 +58,10 @@ fn tag_at(bytes: &[u8], place: usize) -> Result<(u32, usize), FieldFault>
     }
 }
 
-// An entry, behind its tag.
+/// Reads an entry of a setup with these counts, behind its tag, at `place`: the entry and the place after it. The
+/// fault is that of the first field from the left. Memory of `alloc` is taken only for what was read.
 #[tactic(auto, unfolding(crate::specs::EntriesAt::short_at))]
-fn short_at(
+pub fn short_at(
     alloc: Global,
     counts: Counts,
     tag: u32,

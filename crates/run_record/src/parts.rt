@@ -1,8 +1,8 @@
 use tact_base::Row;
 
-/// The counts that a record in bytes begins with.
+/// The counts of a setup, with which a record in bytes begins.
 #[derive(Clone, Copy, Debug)]
-pub(crate) struct Counts {
+pub struct Counts {
     /// The count of replicas.
     pub replicas: u32,
     /// The count of conits.

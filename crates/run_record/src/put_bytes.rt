@@ -3,15 +3,19 @@
 
 ghost use Rattle.std.specs.Prelude.{◌≡◌, ◌<◌, ◌++◌, ◌∷◌, All, OnOk, OnErr, length};
 ghost use Rattle.std.specs.List.{flat_map};
+ghost use Rattle.tact_base.specs.declared.limits.TheConstants.{CONITS_MAX};
 ghost use Rattle.tact_base.specs.Setup.{owners_and_conits};
 ghost use Rattle.run_model.specs.Bytes.{number_bytes};
+ghost use Rattle.run_model.specs.CallBytes.{HasConitsBelow, HasSmallNames};
 ghost use Rattle.run_model.specs.Text.{BeginsWith};
 ghost use Rattle.run_record.specs.Records.{IsShortOf, IsActOf, IsHeld};
+ghost use Rattle.run_record.specs.declared.short.ShortAct.TheVariants.{Call, Send};
 ghost use Rattle.run_record.specs.RecordBytes.{act_bytes, act_tag, bound_bytes, record_bytes, setup_bytes, short_bytes};
 
 use crate::{Record, Short, ShortAct};
 use run_model::{
-    Config, all_or_nothing, append_byte, append_number, append_numbers, put_reply, put_request,
+    Config, Reply, Request, all_or_nothing, append_byte, append_number, append_numbers, put_reply,
+    put_request,
 };
 use tact_base::{Bytes, NoMemory};
 
@@ -98,10 +102,22 @@ fn append_short(short: &Short, config: &Config, out: &mut Bytes) -> Result<(), N
     ensures err { OnErr result (BeginsWith out.old out.new) }
 {
     let _replicas = config.replicas();
-    append_byte(tag_of(&short.act), out)?;
-    append_byte(short.replica, out)?;
-    append_number(short.moment, out)?;
+    append_front(tag_of(&short.act), short.replica, short.moment, out)?;
     append_act(&short.act, config, short.replica, out)
+}
+
+/// Appends what an entry begins with: its tag in one byte, its replica in one, its moment in eight. After
+/// `NoMemory` the bytes begin with what they were.
+#[tactic(auto, using(run_model::proofs::TextLemmas::begins_grown, run_model::proofs::TextLemmas::always_err))]
+pub fn append_front(tag: u32, replica: u32, moment: u64, out: &mut Bytes) -> Result<(), NoMemory>
+    requires tag { tag < 256 }
+    requires replica { replica < 256 }
+    ensures ok { OnOk result (out.new ≡ out.old ++ tag ∷ replica ∷ number_bytes moment) }
+    ensures err { OnErr result (BeginsWith out.old out.new) }
+{
+    append_byte(tag, out)?;
+    append_byte(replica, out)?;
+    append_number(moment, out)
 }
 
 fn tag_of(act: &ShortAct) -> u32
@@ -138,15 +154,8 @@ fn append_act(
             number,
             request,
             reply,
-        } => {
-            append_named(*client, *number, out)?;
-            put_request(request, out)?;
-            put_reply(reply, out)
-        }
-        ShortAct::Send { to, number, firsts } => {
-            append_named(*to, *number, out)?;
-            append_numbers(firsts.items(), out)
-        }
+        } => append_call(*client, *number, request, reply, out),
+        ShortAct::Send { to, number, firsts } => append_send(*to, *number, firsts.items(), out),
         ShortAct::Take { from, number } => append_named(*from, *number, out),
         ShortAct::Lend { to, conit, amount } => append_loan(*to, *conit, *amount, out),
         ShortAct::Back {
@@ -156,6 +165,39 @@ fn append_act(
         } => append_loan(*owner, *conit, *amount, out),
         ShortAct::Restart => Ok(()),
     }
+}
+
+/// Appends the fields of a call: its client in one byte, its number in eight, its request and its reply. After
+/// `NoMemory` the bytes begin with what they were.
+#[tactic(auto, using(run_model::proofs::TextLemmas::begins_grown, run_model::proofs::TextLemmas::always_err))]
+pub fn append_call(
+    client: u32,
+    number: u64,
+    request: &Request,
+    reply: &Reply,
+    out: &mut Bytes,
+) -> Result<(), NoMemory>
+    requires client { client < 256 }
+    requires conits { HasConitsBelow CONITS_MAX request.now }
+    requires names { HasSmallNames reply.now }
+    ensures ok { OnOk result (out.new ≡ out.old ++ act_bytes (Call client number request.now reply.now)) }
+    ensures err { OnErr result (BeginsWith out.old out.new) }
+{
+    append_named(client, number, out)?;
+    put_request(request, out)?;
+    put_reply(reply, out)
+}
+
+/// Appends the fields of a send: its receiver in one byte, its number in eight, and its firsts in eight each.
+/// After `NoMemory` the bytes begin with what they were.
+#[tactic(auto, using(run_model::proofs::TextLemmas::begins_grown, run_model::proofs::TextLemmas::always_err))]
+pub fn append_send(to: u32, number: u64, firsts: &[u64], out: &mut Bytes) -> Result<(), NoMemory>
+    requires { to < 256 }
+    ensures ok { OnOk result (out.new ≡ out.old ++ act_bytes (Send to number firsts.now)) }
+    ensures err { OnErr result (BeginsWith out.old out.new) }
+{
+    append_named(to, number, out)?;
+    append_numbers(firsts, out)
 }
 
 // A client or a replica, and a number.
@@ -169,9 +211,10 @@ fn append_named(named: u32, number: u64, out: &mut Bytes) -> Result<(), NoMemory
     append_number(number, out)
 }
 
-// A replica, a conit and an amount.
+/// Appends the fields of a lend or a back: the other replica and the conit in one byte each, the amount in eight.
+/// After `NoMemory` the bytes begin with what they were.
 #[tactic(auto, using(run_model::proofs::TextLemmas::begins_grown, run_model::proofs::TextLemmas::always_err))]
-fn append_loan(replica: u32, conit: u32, amount: u64, out: &mut Bytes) -> Result<(), NoMemory>
+pub fn append_loan(replica: u32, conit: u32, amount: u64, out: &mut Bytes) -> Result<(), NoMemory>
     requires replica { replica < 256 }
     requires conit { conit < 256 }
     ensures ok { OnOk result (out.new ≡ out.old ++ replica ∷ conit ∷ number_bytes amount) }

@@ -4,6 +4,5 @@ pub mod Lines
 pub mod SetupGrowth
 pub mod RangesKept
 pub mod ScriptRun
-pub mod NeedsInRange
 pub mod ReaderLemmas
 pub mod Begun

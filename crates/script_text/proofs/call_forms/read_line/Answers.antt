@@ -1,5 +1,5 @@
 use Rattle.script_text.specs.LineRanges.{bare}
-use Rattle.script_text.proofs.NeedsInRange.{AreNeedsInRange-kept}
+use Rattle.run_record.proofs.NeedsInRange.{AreNeedsInRange-kept}
 use Rattle.script_text.proofs.call_forms.read_line.Goals as goal
 
 pub returns-clause-names : goal.returns-clause-names

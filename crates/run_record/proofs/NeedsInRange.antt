@@ -1,12 +1,13 @@
 -- What the type of needs keeps, and what is left to test of them.
-use Rattle.std.proofs.Common.{true, List, refl}
+use Rattle.std.proofs.Common.{◌<◌, true, List, get_or, All, refl}
+use Rattle.std.proofs.lemmas.List.Elements.{All-weaker}
 use Rattle.tact_base.specs.declared.conit_list.Need.{Need}
 use Rattle.tact_base.proofs.ConitListLemmas.{IsConitList-limits}
 use Rattle.tact_base.proofs.ConitListLimits.{IsConitList-other_limits}
 use Rattle.tact_base.specs.Setup.{Setup}
 use Rattle.run_model.specs.Bytes.{AreNeedsOf}
-use Rattle.run_model.specs.Ranges.{AreNeedsInRange}
-use Rattle.run_model.proofs.WeightBytes.{need_in_limits, need_limits_hold}
+use Rattle.run_model.specs.Ranges.{IsNeedInRange, AreNeedsInRange}
+use Rattle.run_model.proofs.WeightBytes.{need_in_limits, need_limits_of, need_limits_hold}
 
 -- needs are in range where their conits are below the count
 pub AreNeedsInRange-kept : (setup : Setup) (needs : List Need)
@@ -19,3 +20,15 @@ AreNeedsInRange-kept setup needs kept = record {
       record { conit = kept.1 k d inside; num = sizes.0; order = sizes.1; stale = sizes.2 };
   listed = IsConitList-other_limits (λ (need : Need). need.conit) need_in_limits (λ _. true) needs kept.0 (λ k d inside. refl);
 }
+
+-- and needs in range are as their type keeps them
+pub AreNeedsOf-in_range : (setup : Setup) (needs : List Need)
+    → AreNeedsInRange setup needs
+    → AreNeedsOf setup.conits needs
+AreNeedsOf-in_range setup needs are = (
+  IsConitList-other_limits (λ (need : Need). need.conit) (λ _. true) need_in_limits needs are.listed
+  (λ k d inside.
+  let need = are.each k d inside in
+  need_limits_of (get_or needs k d).num (get_or needs k d).order (get_or needs k d).stale need.num need.order need.stale),
+  All-weaker (IsNeedInRange setup) (λ (need : Need). need.conit < setup.conits) (λ need fits. fits.conit) needs are.each,
+)

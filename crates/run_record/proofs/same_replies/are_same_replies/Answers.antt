@@ -5,7 +5,7 @@ use Rattle.std.proofs.lemmas.Slice.Eq.{slice_eq-Decides}
 use Rattle.run_model.specs.contracts.call.ReplyPartialEq.TheImpl.{eq-value}
 use Rattle.run_model.specs.declared.call.Reply.{Reply}
 use Rattle.run_model.specs.declared.call.Reply.TheVariants as reply
-use Rattle.run_check.proofs.judging.are_same.Goals as goal
+use Rattle.run_record.proofs.same_replies.are_same_replies.Goals as goal
 
 -- replies that the test takes for the same are the same
 same : (one other : Reply) → eq-value.it one other ≡ true → one ≡ other
