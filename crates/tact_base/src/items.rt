@@ -93,6 +93,19 @@ impl<T: Drop> Items<T> {
         Ok(())
     }
 
+    /// Appends an item, as [`Items::push`]. A list that is full takes memory for four times its items, if it can, so
+    /// that large items are seldom moved.
+    pub fn push_amply(&mut self, item: T) -> Result<(), NoMemory>
+        ensures ok { OnOk result (self.new ≡ self.old ++ item ∷ []) }
+        ensures err { OnErr result (self.new ≡ self.old) }
+    {
+        if self.items.len() == self.items.capacity() {
+            let ample = self.items.len().saturating_mul(3);
+            let _ = self.items.reserve(ample);
+        }
+        self.push(item)
+    }
+
     /// The list of what `item` gives at each number below `count`, in memory of `alloc`.
     pub fn from_fn<F: Fn(u32) -> T>(alloc: Global, count: u32, item: F) -> Result<Self, NoMemory>
         ghost value: { ℕ → T }

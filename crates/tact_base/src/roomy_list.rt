@@ -53,8 +53,8 @@ impl<T> RoomyList<T> {
     }
 
     /// Makes room for at least `count` more items, without memory where there is so much. A list that takes memory
-    /// takes it for four times its items, if it can, so that what it holds is seldom moved. `NoMemory` leaves the list
-    /// as it was.
+    /// takes it for four times its items, and for 64 at least, if it can, so that what it holds is seldom moved.
+    /// `NoMemory` leaves the list as it was.
     pub fn reserve(&mut self, count: u64) -> Result<(), NoMemory>
         ensures items { self.new.items ≡ self.old.items }
         ensures kept { self.old.room ≤ self.new.room }
@@ -66,7 +66,7 @@ impl<T> RoomyList<T> {
         if count <= self.items.capacity() - self.items.len() {
             return Ok(());
         }
-        let ample = self.items.len().saturating_mul(3).max(count);
+        let ample = self.items.len().saturating_mul(3).max(count).max(64);
         if self.items.reserve(ample).is_err() {
             self.items.reserve(count)?;
         }
