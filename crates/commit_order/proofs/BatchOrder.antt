@@ -1,17 +1,18 @@
 -- Writes in order that are put into others in order: what is made stays in order, and what comes before the first
 -- stays.
-use Rattle.std.proofs.Common.{◌≡◌, ◌≢◌, ℕ, ◌+◌, ◌<◌, ◌≤◌, nat_le, Bool, true, false, if◌then◌else◌, List, [], ◌∷◌, ◌++◌, length, get_or, take, drop, filter, All, refl, sym, ap, ◌∙◌, arith}
+use Rattle.std.proofs.Common.{◌≡◌, ◌≢◌, ℕ, ◌+◌, ◌<◌, ◌≤◌, nat_le, Bool, true, false, if◌then◌else◌, List, [], ◌∷◌, ◌++◌, length, get_or, take, drop, insert, filter, All, refl, sym, ap, ◌∙◌, arith}
 use Rattle.std.specs.declared.cmp.Ordering.{Ordering}
 use Rattle.std.specs.declared.cmp.Ordering.TheVariants.{Less, Equal, Greater}
+use Rattle.std.specs.Ordering.{ordering_reverse}
 use Rattle.std.specs.List.Sorted.{IsStrictlySortedBy}
 use Rattle.std.proofs.lemmas.Bool.{leb-true}
 use Rattle.std.proofs.lemmas.List.{take-append-drop, take_all, take_at, drop_all, length-take-le}
-use Rattle.std.proofs.lemmas.List.Elements.{All-nil, All-cons, All-head, All-tail, All-weaker}
+use Rattle.std.proofs.lemmas.List.Elements.{All-nil, All-cons, All-head, All-tail, All-drop, All-weaker}
 use Rattle.std.proofs.lemmas.List.Sums.{length-filter, count_by-le-length}
 use Rattle.std.proofs.lemmas.List.Sorted.{All-permutation, length_permutation}
 use Rattle.std.proofs.lemmas.Map.Keys.{sorted_tail}
 use Rattle.std.proofs.lemmas.Map.Views.{All-after_first}
-use Rattle.tact_base.proofs.CompareLemmas.{before_one_way, before_trans, not_before_trans, stamp-le_not_before}
+use Rattle.tact_base.proofs.CompareLemmas.{write_total, before_one_way, before_trans, not_before_trans, stamp-le_not_before}
 use Rattle.tact_base.proofs.ListLemmas.{filter_none, All-one}
 use Rattle.tact_base.proofs.OrderLemmas.{IsPermutation-with_write, IsSortedByPlace, with_write_behind, with_write_first}
 use Rattle.tact_base.specs.WriteOrder.{write_cmp, write_place, comes_before, with_write, in_order, committed_to}
@@ -148,6 +149,26 @@ before_place write (first ∷ held) ordered = go (before_place write held ordere
         (All-weaker (λ later. comes_before later first ≡ false) (λ later. comes_before later write ≡ false) (λ later h. not_before_trans write first later is h) held ordered.0) in
         rw (is, none) (All-nil P)
 
+-- and the others are the rest
+after_place : (write : Write) (held : List Write)
+    → IsSortedByPlace held
+    → All (λ other. comes_before other write ≡ false) (drop (length (filter (λ other. comes_before other write) held)) held)
+after_place write [] ordered = All-nil (λ other. comes_before other write ≡ false)
+after_place write (first ∷ held) ordered = go (after_place write held ordered.1) (comes_before first write) refl
+  where
+    P : Write → Type 0
+    P other = comes_before other write ≡ false
+
+    go : All P (drop (length (filter (λ other. comes_before other write) held)) held)
+        → (is : Bool)
+        → comes_before first write ≡ is
+        → All P (drop (length (filter (λ other. comes_before other write) (first ∷ held))) (first ∷ held))
+    go others true is = rw is others
+    go others false is =
+        let later : All P held =
+        All-weaker (λ later. comes_before later first ≡ false) P (λ later h. not_before_trans write first later is h) held ordered.0 in
+        rw (is, filter_none (λ other. comes_before other write) held later) (All-cons P first held is later)
+
 -- Writes in order, and others in order.
 module _ (writes held : List Write) (sorted : IsStrictlySortedBy write_cmp writes) (held_sorted : IsStrictlySortedBy write_cmp held) where
   -- the writes come after all in front of the place of their first
@@ -184,6 +205,35 @@ module _ (writes held : List Write) (sorted : IsStrictlySortedBy write_cmp write
   at_end last =
       let place = first_place held writes in
       split ∙ rw (take_all place held last, drop_all place held last) (ap (λ (l : List Write). held ++ l) (with_writes-none writes sorted))
+
+-- one write alone, which ties with no other, is put in at its place, and nothing else moves
+pub one_write : (write : Write) (held : List Write)
+    → IsStrictlySortedBy write_cmp held
+    → All (λ other. write_cmp other write ≢ Equal) held
+    → with_write write held ≡ insert held (place_in held (write_place write)) write
+one_write write held sorted new =
+    let place = place_in held (write_place write) in
+    let count = length-filter (λ other. comes_before other write) held in
+    let ordered = by_place held sorted in
+    let ahead : All (λ other. comes_before write other ≡ false) (take place held) =
+    All-weaker (λ other. comes_before other write ≡ true) (λ other. comes_before write other ≡ false) (λ other h. before_one_way other write h)
+    (take place held) (rw count at (before_place write held ordered)) in
+    let behind : All (λ other. comes_before other write ≡ false) (drop place held) = rw count at (after_place write held ordered) in
+    let others : All (λ other. write_cmp other write ≢ Equal) (drop place held) = All-drop (λ other. write_cmp other write ≢ Equal) place held new in
+    let before : All (λ other. comes_before write other ≡ true) (drop place held) =
+    λ k d within. before-from_not (get_or (drop place held) k d) (others k d within) (behind k d within) in
+    ap (with_write write) (sym (take-append-drop place held))
+    ∙ with_write-past write (take place held) (drop place held) ahead
+    ∙ ap (λ (rest : List Write). take place held ++ rest) (with_write_first write (drop place held) before)
+  where
+    before-from_not : (other : Write)
+        → write_cmp other write ≢ Equal
+        → comes_before other write ≡ false
+        → comes_before write other ≡ true
+    before-from_not other apart not_before = before-from_Less write other (Less-from_not_before write other (apart_turned other apart) not_before)
+      where
+        apart_turned : (other : Write) → write_cmp other write ≢ Equal → write_cmp write other ≢ Equal
+        apart_turned other apart same = apart (write_total.antisymm other write ∙ ap ordering_reverse same)
 
 -- A write before all of a list can be put in after others.
 with_writes-swap : (writes : List Write) (write : Write) (held : List Write)

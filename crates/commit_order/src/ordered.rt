@@ -1,7 +1,8 @@
-ghost use Rattle.std.specs.Prelude.{◌≡◌, ◌≢◌, ◌+◌, ◌-◌, ◌<◌, ◌≤◌, [], ◌++◌, All, OnOk, OnErr, IsOk, length, take, drop};
+ghost use Rattle.std.specs.Prelude.{◌≡◌, ◌≢◌, ◌+◌, ◌-◌, ◌<◌, ◌≤◌, [], ◌∷◌, ◌++◌, All, OnOk, OnErr, IsOk, length, insert, take, drop};
 ghost use Rattle.std.specs.declared.cmp.Ordering.TheVariants.{Equal};
 ghost use Rattle.std.specs.List.Sorted.{IsStrictlySortedBy};
 ghost use Rattle.tact_base.specs.WriteOrder.{write_cmp, write_place, with_write, in_order, committed_to, tentative_past};
+ghost use Rattle.tact_base.specs.declared.write.Write.{Write};
 ghost use Rattle.commit_order.specs.Batches.{with_writes, first_place};
 ghost use Rattle.commit_order.specs.Places.{place_in};
 
@@ -94,8 +95,7 @@ impl Ordered {
             origin,
             index,
         };
-        let before = |write: &Write| write.place() < place;
-        self.dropped + self.writes.items().partition_point(before) as u64
+        self.dropped + place_among(self.writes.items(), place) as u64
     }
 
     /// Puts a write in its place, which is answered. Takes no memory.
@@ -134,6 +134,7 @@ impl Ordered {
         ensures place { result ≡ first_place self.old.writes writes.now }
         ensures writes { self.new.writes ≡ with_writes writes.now self.old.writes }
         ensures in_order { self.new.writes ≡ in_order (self.old.writes ++ writes.now) }
+        ensures alone { (write : Write) → writes.now ≡ write ∷ [] → self.new.writes ≡ insert self.old.writes result write }
         ensures stays { take result self.new.writes ≡ take result self.old.writes }
         ensures past { length (committed_to self.old.point self.old.writes) ≤ result }
         ensures within { result ≤ length self.old.writes }
@@ -234,6 +235,19 @@ impl Ordered {
         let (_given_up, others) = committed.split_at(self.front);
         (others, tentative)
     }
+}
+
+// How many of writes in order come before a place, which most often is behind all of them.
+fn place_among(writes: &[Write], place: Place) -> usize
+    requires { IsStrictlySortedBy write_cmp writes.now }
+    ensures { result ≡ place_in writes.now place }
+{
+    let all = writes.len();
+    if all > 0 && writes[all - 1].place() < place {
+        return all;
+    }
+    let before = |write: &Write| write.place() < place;
+    writes.partition_point(before)
 }
 
 // Puts copies of writes in order into a list in order, in which the first of them belongs at `place`. Takes

@@ -1,8 +1,8 @@
 //! Whether items of a notice are in order.
 ghost use Rattle.std.specs.Prelude.{◌≡◌, ◌↔◌, ◌==◌, ◌+◌, IsTrue, filter, get_or, length};
+ghost use Rattle.primary_commit.specs.Peers.{AreNext};
 
 use crate::Item;
-ghost use Rattle.primary_commit.specs.Peers.{AreNext};
 
 /// Whether the items of each origin are those from its first on, in order. Takes no memory.
 pub(crate) fn are_next(firsts: &[u64], items: &[Item]) -> bool

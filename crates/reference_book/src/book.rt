@@ -69,7 +69,7 @@ impl Book {
     {
         let copy = write.clone()?;
         let log = &mut self.logs[write.origin as usize];
-        log.push(copy)?;
+        log.push_amply(copy)?;
         self.sums.add(&write.weights);
         Ok(())
     }

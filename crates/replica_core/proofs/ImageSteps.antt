@@ -1,6 +1,6 @@
 -- The image of writes in order, as they are committed and as more are put in.
-use Rattle.std.proofs.Common.{◌≡◌, ℕ, ◌+◌, ◌-◌, ◌≤◌, true, false, if◌then◌else◌, List, [], ◌∷◌, ◌++◌, length, take, drop, refl, sym, ap, ap₂, ◌∙◌, arith}
-use Rattle.std.proofs.lemmas.List.{append_assoc, length-append, length-map, map-append, drop-take}
+use Rattle.std.proofs.Common.{◌≡◌, ℕ, ◌+◌, ◌-◌, ◌≤◌, true, false, if◌then◌else◌, List, [], ◌∷◌, ◌++◌, length, take, drop, insert, refl, sym, ap, ap₂, ◌∙◌, arith}
+use Rattle.std.proofs.lemmas.List.{append_assoc, length-append, length-map, length-take-le, map-append, drop-drop, drop-map, drop-take, take-append-drop, take-map}
 use Rattle.std.proofs.lemmas.List.Sums.{fold-append, sum_by-append, sum_by-cons}
 use Rattle.std.proofs.lemmas.List.Sorted.{sum_by-IsPermutation}
 use Rattle.std.specs.List.{sum_by}
@@ -109,6 +109,32 @@ module _ (seen more : List Write) (sorted : IsSorted write_cmp seen) (sorted_mor
       ap (take front) (late-rest more sorted_more point ∙ ap (λ (ws : List Write). drop (length ws) more) same) ∙ sym (drop-take count front more)
       ∙ ap (λ (n : ℕ). drop count (take n more)) (sym whole) in
       of_seen ∙ ap (drop count) (sym stays) ∙ sym of_more
+
+  -- where one write alone is put in at the place, its operation is put in among the tentative ones
+  pub late-alone : (write : Write)
+      → more ≡ insert seen place write
+      → length (committed_to point seen) ≤ place
+      → place ≤ length seen
+      → ops_of (tentative_past point more) ≡ insert (ops_of (tentative_past point seen)) (place - length (committed_to point seen)) write.op
+  late-alone write is past within =
+      let count = length (committed_to point seen) in
+      let front = place - count in
+      let of_seen = tentative_past point seen in
+      let of_more = tentative_past point more in
+      let whole : count + front ≡ place = omega (arith, past) in
+      let put : List Write = take place seen ++ write ∷ drop place seen in
+      let rest_seen : drop front of_seen ≡ drop place seen =
+      ap (drop front) (late-rest seen sorted point) ∙ drop-drop front count seen ∙ ap (λ (n : ℕ). drop n seen) whole in
+      let behind : drop place put ≡ write ∷ drop place seen =
+      ap (λ (n : ℕ). drop n put) (sym (length-take-le place seen within)) ∙ drop-append_seam (take place seen) (write ∷ drop place seen) in
+      let rest_more : drop front of_more ≡ write ∷ drop place seen =
+      ap (drop front) (late-rest more sorted_more point ∙ ap (λ (ws : List Write). drop (length ws) more) same)
+      ∙ drop-drop front count more ∙ ap (λ (n : ℕ). drop n more) whole ∙ ap (drop place) is ∙ behind in
+      ap ops_of (sym (take-append-drop front of_more))
+      ∙ map-append op_of (take front of_more) (drop front of_more)
+      ∙ ap₂ (λ (before rest : List Write). ops_of before ++ ops_of rest) (sym (late-stays past)) rest_more
+      ∙ ap₂ (λ (before rest : List Op). before ++ write.op ∷ rest) (sym (take-map op_of front of_seen))
+      (ap ops_of (sym rest_seen) ∙ sym (drop-map op_of front of_seen))
 
   pub HasImage-admitted : (image after : ImageState)
       → HasImage seen point image

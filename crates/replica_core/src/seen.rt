@@ -1,11 +1,12 @@
 //! What a replica has seen, in order, with its image and its sums by conit.
-ghost use Rattle.std.specs.Prelude.{◌≡◌, ◌≢◌, ℕ, ◌+◌, ◌-◌, ◌<◌, ◌≤◌, List, [], ◌++◌, All, IfOk, OnOk, OnErr, IsOk, length, take, drop};
+ghost use Rattle.std.specs.Prelude.{◌≡◌, ◌≢◌, ℕ, ◌+◌, ◌-◌, ◌<◌, ◌≤◌, List, [], ◌∷◌, ◌++◌, All, IfOk, OnOk, OnErr, IsOk, length, insert, take, drop};
 ghost use Rattle.std.specs.declared.cmp.Ordering.TheVariants.{Equal};
 ghost use Rattle.std.specs.List.Sorted.{IsStrictlySortedBy};
 ghost use Rattle.tact_base.specs.Images.{image_of, ops_of};
 ghost use Rattle.tact_base.specs.Sums.{net_sum, order_sum};
 ghost use Rattle.tact_base.specs.WriteOrder.{write_cmp, committed_to, tentative_past};
 ghost use Rattle.tact_base.specs.declared.conit_list.Weight.{Weight};
+ghost use Rattle.tact_base.specs.declared.write.Write.{Write};
 ghost use Rattle.tact_base.specs.declared.limits.TheConstants.{SUMMED_WRITES};
 ghost use Rattle.commit_order.specs.Batches.{with_writes};
 ghost use Rattle.conit_sums.specs.ConitSums.{AreSumsOf};
@@ -221,12 +222,18 @@ fn follow(image: &mut Image, ordered: &Ordered, place: u64, new: &[Write])
     requires room { length new.now ≤ image.old.room }
     requires stays { let front = place - image.old.committed in
         take front image.old.ops ≡ ops_of (take front (tentative_past ordered.now.point ordered.now.writes)) }
+    requires alone { (write : Write) → new.now ≡ write ∷ [] → ops_of (tentative_past ordered.now.point ordered.now.writes)
+        ≡ insert image.old.ops (place - image.old.committed) write.op }
     ensures committed { image.new.committed ≡ image.old.committed }
     ensures base { (key : ℕ) → base_of image.new key ≡ base_of image.old key }
     ensures ops { image.new.ops ≡ ops_of (tentative_past ordered.now.point ordered.now.writes) }
     ensures room { image.old.room ≡ image.new.room + length new.now }
 {
-    image.insert_all(place, new, tentative_from(ordered, place));
+    if new.len() == 1 {
+        image.insert_at(place, new[0].op);
+    } else {
+        image.insert_all(place, new, tentative_from(ordered, place));
+    }
 }
 
 // The tentative writes from a place on.

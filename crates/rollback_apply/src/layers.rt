@@ -66,7 +66,7 @@ impl Layers {
         ensures ok { OnOk result (HasMemory self.new more) }
     {
         let keys = entries_for(more)?;
-        self.tentative.reserve(more)?;
+        reserve_layers(&mut self.tentative, more)?;
         self.current.reserve(keys)?;
         Ok(())
     }
@@ -240,6 +240,23 @@ impl Layers {
         self.tentative[at] = layer_of(op, places);
         left
     }
+}
+
+// Takes memory for so many layers beside those that are there, where there is less: for four times these and for 64 at
+// least, if it can, so that they are seldom moved.
+fn reserve_layers(layers: &mut Vec<Layer>, more: usize) -> Result<(), NoMemory>
+    ensures items { layers.new.items ≡ layers.old.items }
+    ensures kept { vec_capacity layers.old ≤ vec_capacity layers.new }
+    ensures ok { OnOk result (vec_len layers.old + more ≤ vec_capacity layers.new) }
+{
+    if more <= layers.capacity() - layers.len() {
+        return Ok(());
+    }
+    let ample = layers.len().saturating_mul(3).max(more).max(64);
+    if layers.reserve(ample).is_err() {
+        layers.reserve(more)?;
+    }
+    Ok(())
 }
 
 // Puts a layer before the one at a place, in memory that is there.

@@ -1,6 +1,6 @@
 -- Texts that grow, token by token.
-use Rattle.std.proofs.Common.{◌≡◌, ℕ, ◌≤◌, List, [], ◌∷◌, ◌++◌, length, take, Result, Ok, Err, refl, sym, ap, ◌∙◌, append_assoc, arith}
-use Rattle.std.specs.Result.{OnErr}
+use Rattle.std.proofs.Common.{◌≡◌, ℕ, ◌≤◌, List, [], ◌∷◌, ◌++◌, length, take, codes, Result, Ok, Err, refl, sym, ap, ◌∙◌, append_assoc, arith}
+use Rattle.std.specs.Result.{OnOk, OnErr}
 use Rattle.std.proofs.lemmas.List.{take-take, take_at, length-take, append-nil}
 use Rattle.run_model.specs.Text.{line_text, spaced, BeginsWith}
 use Rattle.std.proofs.lemmas.Grind.{flat_map-append}
@@ -51,3 +51,35 @@ pub line_from_parts : (word : List ℕ) (xs ys : List (List ℕ)) (old a b c : L
 line_from_parts word xs ys old a b c at_a at_b at_c =
     let line = line_text-cons word (xs ++ ys) ∙ ap (λ rest. word ++ rest) (spaced-append xs ys) in
     rw (at_c, at_b, at_a) (regroup old word (spaced xs) (spaced ys) (10 ∷ []) ∙ ap (λ text. old ++ (text ++ 10 ∷ [])) (sym line))
+
+-- four pieces, one after the other
+regroup_four : (a b c d : List ℕ) → ((a ++ b) ++ c) ++ d ≡ a ++ (b ++ (c ++ d))
+regroup_four a b c d = simp append_assoc
+
+-- the line of an entry, from what it begins with and its further tokens
+pub line_of_entry : (replica moment word : List ℕ) (xs ys : List (List ℕ)) (old mid new : List ℕ)
+    → mid ≡ (old ++ codes "e") ++ spaced (replica ∷ moment ∷ word ∷ xs)
+    → new ≡ mid ++ spaced ys
+    → new ≡ old ++ line_text (codes "e" ∷ replica ∷ moment ∷ word ∷ (xs ++ ys))
+line_of_entry replica moment word xs ys old mid new at_mid at_new =
+    let front : List (List ℕ) = replica ∷ moment ∷ word ∷ xs in
+    let line : line_text (codes "e" ∷ (front ++ ys)) ≡ codes "e" ++ (spaced front ++ spaced ys) =
+    line_text-cons (codes "e") (front ++ ys) ∙ ap (λ (rest : List ℕ). codes "e" ++ rest) (spaced-append front ys) in
+    let whole : mid ++ spaced ys ≡ ((old ++ codes "e") ++ spaced front) ++ spaced ys = ap (λ (text : List ℕ). text ++ spaced ys) at_mid in
+    at_new ∙ whole ∙ regroup_four old (codes "e") (spaced front) (spaced ys) ∙ ap (λ (text : List ℕ). old ++ text) (sym line)
+
+-- a text that grew by tokens twice
+pub grown_by_both : (xs ys : List (List ℕ)) (old mid new : List ℕ)
+    → mid ≡ old ++ spaced xs
+    → new ≡ mid ++ spaced ys
+    → new ≡ old ++ spaced (xs ++ ys)
+grown_by_both xs ys old mid new at_mid at_new =
+    at_new
+    ∙ ap (λ (text : List ℕ). text ++ spaced ys) at_mid
+    ∙ append_assoc old (spaced xs) (spaced ys)
+    ∙ ap (λ (text : List ℕ). old ++ text) (sym (spaced-append xs ys))
+
+-- what follows from what holds after a success
+pub weaker_ok : {T E P Q : Type 0} → (r : Result T E) → (P → Q) → OnOk r P → OnOk r Q
+weaker_ok (Ok x) f p = f p
+weaker_ok (Err e) f p = tt

@@ -1,11 +1,12 @@
 //! The text of entries: tokens with single spaces between them.
 
-ghost use Rattle.std.specs.Prelude.{◌≡◌, ◌++◌, ◌∷◌, [], true, map, OnOk, OnErr};
+ghost use Rattle.std.specs.Prelude.{◌≡◌, ◌≤◌, ◌++◌, ◌∷◌, [], true, length, map, codes, decimal, OnOk, OnErr};
 ghost use Rattle.run_model.specs.Call.{is_waiting};
-ghost use Rattle.run_model.specs.Text.{spaced, BeginsWith, weight_token, need_token, op_tokens, request_tokens, reply_tokens, act_tokens, entry_text};
+ghost use Rattle.run_model.specs.Text.{spaced, BeginsWith, weight_token, need_token, op_tokens, request_tokens, reply_tokens, entry_text};
 
 use crate::tokens::{
-    all_or_nothing, put_at, put_change, put_numbers, put_row, put_signed, put_sums, put_token,
+    add_row, all_or_nothing, put_change, put_numbers, put_reply_at, put_row, put_two_words,
+    put_values,
 };
 use crate::{Act, Entry, Reply, Request};
 use tact_base::{Bytes, Need, NoMemory, Op, ShortText, Weight};
@@ -24,83 +25,104 @@ fn print_entry(entry: &Entry, out: &mut Bytes) -> Result<(), NoMemory>
     ensures ok { OnOk result (out.new ≡ out.old ++ entry_text entry.now ++ 10 ∷ []) }
     ensures err { OnErr result (BeginsWith out.old out.new) }
 {
-    let mut text = ShortText::new();
-    text.put_marked(b' ', entry.moment);
-    text.put_marked(b' ', u64::from(entry.replica));
-    text.put(b'e');
-    out.append(text.bytes())?;
-    print_act(&entry.act, out)?;
+    print_act(entry, out)?;
     out.push(b'\n')
 }
 
-fn print_act(act: &Act, out: &mut Bytes) -> Result<(), NoMemory>
-    ensures ok { OnOk result (out.new ≡ out.old ++ spaced (act_tokens act.now)) }
+// The line of an entry, without its line feed.
+#[tactic(auto, using(crate::proofs::TextLemmas::begins_grown, crate::proofs::TextLemmas::always_err))]
+fn print_act(entry: &Entry, out: &mut Bytes) -> Result<(), NoMemory>
+    ensures ok { OnOk result (out.new ≡ out.old ++ entry_text entry.now) }
     ensures err { OnErr result (BeginsWith out.old out.new) }
 {
-    match act {
+    match &entry.act {
         Act::Call {
             client,
             number,
             request,
             reply,
         } => {
-            put_row(b"call", &[u64::from(*client), *number], out)?;
+            put_begun(entry, b"call", &[u64::from(*client), *number], out)?;
             print_request(request, out)?;
-            put_token(b"=", out)?;
             print_reply(reply, out)
         }
         Act::Send { message } => {
-            put_row(b"send", &[u64::from(message.to), message.number], out)?;
+            put_begun(
+                entry,
+                b"send",
+                &[u64::from(message.to), message.number],
+                out,
+            )?;
             put_numbers(message.firsts.items(), out)
         }
-        Act::Take { message } => put_row(b"take", &[u64::from(message.from), message.number], out),
+        Act::Take { message } => {
+            put_begun(
+                entry,
+                b"take",
+                &[u64::from(message.from), message.number],
+                out,
+            )
+        }
         Act::Lend { to, conit, amount } => {
-            put_row(b"lend", &[u64::from(*to), u64::from(*conit), *amount], out)
+            put_begun(entry, b"lend", &[u64::from(*to), u64::from(*conit)], out)?;
+            put_numbers(&[*amount], out)
         }
         Act::Back {
             owner,
             conit,
             amount,
-        } => put_row(
-            b"back",
-            &[u64::from(*owner), u64::from(*conit), *amount],
-            out,
-        ),
-        Act::Restart => put_token(b"restart", out),
+        } => {
+            put_begun(entry, b"back", &[u64::from(*owner), u64::from(*conit)], out)?;
+            put_numbers(&[*amount], out)
+        }
+        Act::Restart => put_begun(entry, b"restart", &[], out),
     }
 }
 
+// What the line of an entry begins with: its replica and moment, the word of its act, and at most two numbers.
+fn put_begun(entry: &Entry, word: &[u8], numbers: &[u64], out: &mut Bytes) -> Result<(), NoMemory>
+    requires word { length word.now ≤ 7 }
+    requires few { length numbers.now ≤ 2 }
+    ensures ok { OnOk result (out.new ≡ out.old
+        ++ codes "e" ++ spaced (decimal entry.now.replica ∷ decimal entry.now.moment ∷ word.now ∷ map decimal numbers.now)) }
+    ensures err { OnErr result (out.new ≡ out.old) }
+{
+    let mut text = ShortText::new();
+    add_row(&mut text, word, numbers);
+    text.put_marked(b' ', entry.moment);
+    text.put_marked(b' ', u64::from(entry.replica));
+    text.put(b'e');
+    out.append(text.bytes())
+}
+
+// A reply, and the sign before it.
 fn print_reply(reply: &Reply, out: &mut Bytes) -> Result<(), NoMemory>
-    ensures ok { OnOk result (out.new ≡ out.old ++ spaced (reply_tokens reply.now)) }
+    ensures ok { OnOk result (out.new ≡ out.old ++ spaced (codes "=" ∷ reply_tokens reply.now)) }
     ensures err { OnErr result (BeginsWith out.old out.new) }
 {
     match reply {
-        Reply::Done { index, stamp } => put_row(b"done", &[*index, *stamp], out),
-        Reply::Granted => put_token(b"granted", out),
-        Reply::Released => put_token(b"released", out),
-        Reply::Value { value, sums } => {
-            put_token(b"value", out)?;
-            put_signed(*value, out)?;
-            put_sums(sums.items(), out)
-        }
+        Reply::Done { index, stamp } => put_two_words(b"=", b"done", &[*index, *stamp], out),
+        Reply::Granted => put_two_words(b"=", b"granted", &[], out),
+        Reply::Released => put_two_words(b"=", b"released", &[], out),
+        Reply::Value { value, sums } => put_values(*value, sums.items(), out),
         Reply::TooHeavy {
             conit,
             peer,
             weight,
             share,
-        } => { put_at(b"too-heavy", *conit, *peer, &[*weight, *share], out) }
+        } => { put_reply_at(b"too-heavy", *conit, *peer, &[*weight, *share], out) }
         Reply::NotHeld {
             conit,
             held,
             amount,
-        } => { put_row(b"not-held", &[u64::from(*conit), *held, *amount], out) }
+        } => put_two_words(b"=", b"not-held", &[u64::from(*conit), *held, *amount], out),
         _ => print_waiting(reply, out),
     }
 }
 
 fn print_waiting(reply: &Reply, out: &mut Bytes) -> Result<(), NoMemory>
     requires { is_waiting reply.now ≡ true }
-    ensures ok { OnOk result (out.new ≡ out.old ++ spaced (reply_tokens reply.now)) }
+    ensures ok { OnOk result (out.new ≡ out.old ++ spaced (codes "=" ∷ reply_tokens reply.now)) }
     ensures err { OnErr result (BeginsWith out.old out.new) }
 {
     match reply {
@@ -111,7 +133,7 @@ fn print_waiting(reply: &Reply, out: &mut Bytes) -> Result<(), NoMemory>
             weight,
             share,
         } => {
-            put_at(
+            put_reply_at(
                 b"wait-held",
                 *conit,
                 *peer,
@@ -127,7 +149,7 @@ fn print_waiting(reply: &Reply, out: &mut Bytes) -> Result<(), NoMemory>
             weight,
             share,
         } => {
-            put_at(
+            put_reply_at(
                 b"wait-share",
                 *conit,
                 *peer,
@@ -141,19 +163,19 @@ fn print_waiting(reply: &Reply, out: &mut Bytes) -> Result<(), NoMemory>
             out: lent,
             total,
             num,
-        } => { put_at(b"wait-lent", *conit, *holder, &[*lent, *total, *num], out) }
+        } => { put_reply_at(b"wait-lent", *conit, *holder, &[*lent, *total, *num], out) }
         Reply::WaitOrder {
             conit,
             replica,
             tentative,
             order,
-        } => { put_at(b"wait-order", *conit, *replica, &[*tentative, *order], out) }
+        } => { put_reply_at(b"wait-order", *conit, *replica, &[*tentative, *order], out) }
         Reply::WaitStale {
             conit,
             replica,
             moment,
             wanted,
-        } => { put_at(b"wait-stale", *conit, *replica, &[*moment, *wanted], out) }
+        } => { put_reply_at(b"wait-stale", *conit, *replica, &[*moment, *wanted], out) }
         _ => unreachable!(),
     }
 }
@@ -164,13 +186,11 @@ fn print_request(request: &Request, out: &mut Bytes) -> Result<(), NoMemory>
 {
     match request {
         Request::Write { weights, op } => {
-            put_token(b"write", out)?;
-            print_op(op, out)?;
+            print_op(b"write", op, out)?;
             print_weights(weights.items(), out)
         }
         Request::Held { weight, op } => {
-            put_token(b"held", out)?;
-            print_op(op, out)?;
+            print_op(b"held", op, out)?;
             print_weight(weight, out)
         }
         Request::Reserve { conit, amount } => {
@@ -186,14 +206,18 @@ fn print_request(request: &Request, out: &mut Bytes) -> Result<(), NoMemory>
     }
 }
 
-fn print_op(op: &Op, out: &mut Bytes) -> Result<(), NoMemory>
-    ensures ok { OnOk result (out.new ≡ out.old ++ spaced (op_tokens op.now)) }
+// The word of a request, and its operation.
+fn print_op(request: &[u8], op: &Op, out: &mut Bytes) -> Result<(), NoMemory>
+    requires { length request.now ≤ 5 }
+    ensures ok { OnOk result (out.new ≡ out.old ++ spaced (request.now ∷ op_tokens op.now)) }
     ensures err { OnErr result (BeginsWith out.old out.new) }
 {
     match op {
-        Op::Put { key, value } => { put_change(b"put", *key, *value, out) }
-        Op::Add { key, delta } => { put_change(b"add", *key, *delta, out) }
-        Op::Shift { from, to, amount } => put_row(b"shift", &[*from, *to, *amount], out),
+        Op::Put { key, value } => put_change(request, b"put", *key, *value, out),
+        Op::Add { key, delta } => put_change(request, b"add", *key, *delta, out),
+        Op::Shift { from, to, amount } => {
+            put_two_words(request, b"shift", &[*from, *to, *amount], out)
+        }
     }
 }
 

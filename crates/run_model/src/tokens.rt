@@ -1,7 +1,7 @@
 //! Tokens, appended to a text with a space before each. Where one of these calls fails, the text still
 //! begins with what it was.
 
-ghost use Rattle.std.specs.Prelude.{◌≡◌, ◌+◌, ◌*◌, ◌≤◌, ◌++◌, ◌∷◌, [], length, map, take, decimal, OnOk, OnErr};
+ghost use Rattle.std.specs.Prelude.{◌≡◌, ◌<◌, ◌+◌, ◌*◌, ◌≤◌, ◌++◌, ◌∷◌, [], codes, length, map, take, decimal, OnOk, OnErr};
 ghost use Rattle.std.specs.Fmt.{signed_decimal};
 ghost use Rattle.run_model.specs.Text.{spaced, BeginsWith};
 
@@ -38,13 +38,22 @@ pub fn put_row(word: &[u8], numbers: &[u64], out: &mut Bytes) -> Result<(), NoMe
         return put_numbers(numbers, out);
     }
     let mut row = ShortText::new();
-    add_numbers(&mut row, numbers);
-    row.put_word(b' ', word);
+    add_row(&mut row, word, numbers);
     out.append(row.bytes())
 }
 
+// Puts a word and numbers, with a space before each.
+pub(crate) fn add_row(row: &mut ShortText, word: &[u8], numbers: &[u64])
+    requires { length word.now + 21 * length numbers.now < row.old.room }
+    ensures items { row.new.items ≡ spaced (word.now ∷ map decimal numbers.now) ++ row.old.items }
+    ensures room { row.old.room ≤ row.new.room + (length word.now + 1 + 21 * length numbers.now) }
+{
+    add_numbers(row, numbers);
+    row.put_word(b' ', word);
+}
+
 // Puts numbers, with a space before each.
-fn add_numbers(row: &mut ShortText, numbers: &[u64])
+pub(crate) fn add_numbers(row: &mut ShortText, numbers: &[u64])
     requires { 21 * length numbers.now ≤ row.old.room }
     ensures items { row.new.items ≡ spaced (map decimal numbers.now) ++ row.old.items }
     ensures room { row.old.room ≤ row.new.room + 21 * length numbers.now }
@@ -56,58 +65,125 @@ fn add_numbers(row: &mut ShortText, numbers: &[u64])
     }
 }
 
-/// Appends a word, a key, and a number with its sign, with a space before each.
+/// Appends two words, a key, and a number with its sign, with a space before each.
 pub(crate) fn put_change(
+    first: &[u8],
     word: &[u8],
     key: u64,
     number: i64,
     out: &mut Bytes,
 ) -> Result<(), NoMemory>
-    requires { length word.now ≤ 16 }
-    ensures ok { OnOk result (out.new ≡ out.old ++ spaced (word.now ∷ decimal key ∷ signed_decimal number ∷ [])) }
+    requires first { length first.now ≤ 16 }
+    requires word { length word.now ≤ 16 }
+    ensures ok { OnOk result
+        (out.new ≡ out.old ++ spaced (first.now ∷ word.now ∷ decimal key ∷ signed_decimal number ∷ [])) }
     ensures err { OnErr result (BeginsWith out.old out.new) }
 {
     let mut row = ShortText::new();
     row.put_marked_signed(b' ', number);
     row.put_marked(b' ', key);
     row.put_word(b' ', word);
+    row.put_word(b' ', first);
     out.append(row.bytes())
 }
 
-// A reply's name, what it is about, and its numbers.
-pub(crate) fn put_at(
+/// Appends two words and numbers, with a space before each.
+pub(crate) fn put_two_words(
+    first: &[u8],
+    word: &[u8],
+    numbers: &[u64],
+    out: &mut Bytes,
+) -> Result<(), NoMemory>
+    requires first { length first.now ≤ 5 }
+    requires word { length word.now ≤ 10 }
+    requires few { length numbers.now ≤ 4 }
+    ensures ok { OnOk result (out.new ≡ out.old ++ spaced (first.now ∷ word.now ∷ map decimal numbers.now)) }
+    ensures err { OnErr result (BeginsWith out.old out.new) }
+{
+    let mut row = ShortText::new();
+    add_row(&mut row, word, numbers);
+    row.put_word(b' ', first);
+    out.append(row.bytes())
+}
+
+/// Appends `=`, a reply's name, what it is about, and its numbers, with a space before each.
+pub(crate) fn put_reply_at(
     word: &[u8],
     conit: u32,
     replica: u32,
     numbers: &[u64],
     out: &mut Bytes,
 ) -> Result<(), NoMemory>
+    requires { length word.now ≤ 10 }
     ensures ok { OnOk result
-        (out.new ≡ out.old ++ spaced (word.now ∷ map decimal (conit ∷ replica ∷ numbers.now))) }
+        (out.new ≡ out.old ++ spaced (codes "=" ∷ word.now ∷ map decimal (conit ∷ replica ∷ numbers.now))) }
     ensures err { OnErr result (BeginsWith out.old out.new) }
 {
-    put_row(word, &[u64::from(conit), u64::from(replica)], out)?;
+    let about = [u64::from(conit), u64::from(replica)];
+    put_two_words(b"=", word, &about, out)?;
     put_numbers(numbers, out)
+}
+
+/// Appends `= value`, a number and more numbers, with a space before each.
+pub(crate) fn put_values(value: i64, sums: &[i64], out: &mut Bytes) -> Result<(), NoMemory>
+    requires { length sums.now ≤ 4 }
+    ensures ok { OnOk result
+        (out.new ≡ out.old ++ spaced (codes "=" ∷ codes "value" ∷ map signed_decimal (value ∷ sums.now))) }
+    ensures err { OnErr result (BeginsWith out.old out.new) }
+{
+    let mut row = ShortText::new();
+    row.put_marked_signed(b' ', value);
+    row.put_word(b' ', b"value");
+    row.put_word(b' ', b"=");
+    out.append(row.bytes())?;
+    put_sums(sums, out)
+}
+
+// Appends at most four numbers with their signs, with a space before each.
+fn put_sums(sums: &[i64], out: &mut Bytes) -> Result<(), NoMemory>
+    requires { length sums.now ≤ 4 }
+    ensures ok { OnOk result (out.new ≡ out.old ++ spaced (map signed_decimal sums.now)) }
+    ensures err { OnErr result (out.new ≡ out.old) }
+{
+    let mut row = ShortText::new();
+    add_sums(&mut row, sums);
+    out.append(row.bytes())
+}
+
+// Puts numbers with their signs, with a space before each.
+fn add_sums(row: &mut ShortText, sums: &[i64])
+    requires { 22 * length sums.now ≤ row.old.room }
+    ensures items { row.new.items ≡ spaced (map signed_decimal sums.now) ++ row.old.items }
+{
+    let mut left = sums.len();
+    while left > 0 {
+        left -= 1;
+        row.put_marked_signed(b' ', sums[left]);
+    }
 }
 
 pub(crate) fn put_numbers(numbers: &[u64], out: &mut Bytes) -> Result<(), NoMemory>
     ensures ok { OnOk result (out.new ≡ out.old ++ spaced (map decimal numbers.now)) }
     ensures err { OnErr result (BeginsWith out.old out.new) }
 {
+    if numbers.len() <= ROW_NUMBERS {
+        return put_few(numbers, out);
+    }
     for number in numbers {
         put_number(*number, out)?;
     }
     Ok(())
 }
 
-pub(crate) fn put_sums(sums: &[i64], out: &mut Bytes) -> Result<(), NoMemory>
-    ensures ok { OnOk result (out.new ≡ out.old ++ spaced (map signed_decimal sums.now)) }
-    ensures err { OnErr result (BeginsWith out.old out.new) }
+// Appends at most four numbers at once, with a space before each.
+fn put_few(numbers: &[u64], out: &mut Bytes) -> Result<(), NoMemory>
+    requires { length numbers.now ≤ 4 }
+    ensures ok { OnOk result (out.new ≡ out.old ++ spaced (map decimal numbers.now)) }
+    ensures err { OnErr result (out.new ≡ out.old) }
 {
-    for sum in sums {
-        put_signed(*sum, out)?;
-    }
-    Ok(())
+    let mut row = ShortText::new();
+    add_numbers(&mut row, numbers);
+    out.append(row.bytes())
 }
 
 /// Appends a token with a space before it.
@@ -126,14 +202,5 @@ pub fn put_number(number: u64, out: &mut Bytes) -> Result<(), NoMemory>
 {
     let mut text = ShortText::new();
     text.put_marked(b' ', number);
-    out.append(text.bytes())
-}
-
-pub(crate) fn put_signed(number: i64, out: &mut Bytes) -> Result<(), NoMemory>
-    ensures ok { OnOk result (out.new ≡ out.old ++ 32 ∷ signed_decimal number) }
-    ensures err { OnErr result (BeginsWith out.old out.new) }
-{
-    let mut text = ShortText::new();
-    text.put_marked_signed(b' ', number);
     out.append(text.bytes())
 }

@@ -27,8 +27,8 @@ pub AreNeedsOf-in_range : (setup : Setup) (needs : List Need)
     → AreNeedsOf setup.conits needs
 AreNeedsOf-in_range setup needs are = (
   IsConitList-other_limits (λ (need : Need). need.conit) (λ _. true) need_in_limits needs are.listed
-  (λ k d inside.
-  let need = are.each k d inside in
-  need_limits_of (get_or needs k d).num (get_or needs k d).order (get_or needs k d).stale need.num need.order need.stale),
+      (λ k d inside.
+      let need = are.each k d inside in
+      need_limits_of (get_or needs k d).num (get_or needs k d).order (get_or needs k d).stale need.num need.order need.stale),
   All-weaker (IsNeedInRange setup) (λ (need : Need). need.conit < setup.conits) (λ need fits. fits.conit) needs are.each,
 )

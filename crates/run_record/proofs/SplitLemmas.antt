@@ -3,7 +3,9 @@ use Rattle.std.proofs.Common.{◌≡◌, ◌≢◌, ℕ, zero, suc, ◌+◌, ◌
 use Rattle.std.proofs.lemmas.List.{take_all, drop_all}
 use Rattle.memchr.specs.Find.{NoneBefore, Nowhere, Passes, is_byte}
 use Rattle.std.proofs.lemmas.Bool.Decides.{nat_tests}
-use Rattle.run_record.specs.Splitting.{with_front, pieces_of, tokens}
+use Rattle.std.specs.Prelude.{nat_eq, filter}
+use Rattle.run_record.specs.Splitting.{with_front, pieces_of, has_bytes, tokens}
+use Rattle.run_record.specs.Lines.{is_skipped}
 
 eqb_no : (a b : ℕ) → a ≢ b → eqb a b ≡ false
 eqb_no a b h = grind (arith, nat_tests)
@@ -67,3 +69,16 @@ pub tokens_none : (bs : List ℕ) → length bs ≡ 0 → tokens bs ≡ []
 unfolding tokens
 tokens_none [] h = refl
 tokens_none (b ∷ bs) h = absurd (omega arith)
+
+-- a line that begins with another byte than a space is skipped exactly where that byte is `#`
+first_tells : (byte : ℕ) (pieces : List (List ℕ)) → is_skipped (filter has_bytes (with_front byte pieces)) ≡ nat_eq byte 35
+first_tells byte [] = refl
+first_tells byte (piece ∷ pieces) = refl
+
+pub is_skipped-first : (line : List ℕ)
+    → 0 < length line
+    → nat_eq (get_or line 0 0) 32 ≡ false
+    → is_skipped (tokens line) ≡ nat_eq (get_or line 0 0) 35
+unfolding tokens
+is_skipped-first [] some apart = absurd (omega arith)
+is_skipped-first (byte ∷ line) some apart = rw apart (first_tells byte (pieces_of 32 line))

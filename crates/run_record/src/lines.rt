@@ -37,6 +37,16 @@ fn has_bad_byte(raw: &[u8]) -> bool
 pub fn is_skipped(raw: &[u8]) -> bool
     ensures { result ≡ is_skipped (tokens raw.now) }
 {
+    match raw {
+        [first, ..] if *first != b' ' => *first == b'#',
+        _ => is_skipped_later(raw),
+    }
+}
+
+// The same of a line that may begin with a space.
+fn is_skipped_later(raw: &[u8]) -> bool
+    ensures { result ≡ is_skipped (tokens raw.now) }
+{
     match next_token(raw) {
         None => true,
         Some((token, _)) => is_comment(token),

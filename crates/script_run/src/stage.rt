@@ -206,7 +206,7 @@ impl Stage {
             line_of(&entry, out)?;
             self.comment_on(&entry, out)?;
         }
-        self.entries.push(entry)
+        self.entries.push_amply(entry)
     }
 
     // Appends the comments on an entry that was made: how well each need of an answered read was met.

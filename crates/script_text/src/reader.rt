@@ -219,7 +219,7 @@ fn add_line(reader: &mut Reader, line: Line, next: Option<Config>) -> Result<(),
     let past = is_past(reader.past, &line);
     set_config(&mut reader.config, next);
     reader.past = past;
-    reader.lines.push(line)?;
+    reader.lines.push_amply(line)?;
     Ok(())
 }
 

@@ -71,7 +71,7 @@ impl Script {
         ensures ok { OnOk result (self.new ≡ self.old ++ line ∷ []) }
         ensures err { OnErr result (self.new ≡ self.old) }
     {
-        self.lines.push(line)
+        self.lines.push_amply(line)
     }
 
     /// The setup that the `start` line and the `bound` lines make.

@@ -27,8 +27,8 @@ insert_all-requires-clause-joined c =
     c.tentative_from.ensures (ap (λ n. c.args.place - n) (sym c.requires.committed))))
     c.requires.joined
 
-pub returns-clause-ops : goal.returns-clause-ops
-returns-clause-ops c =
+pub returns-else-new-eq1-clause-ops : goal.returns-else-new-eq1-clause-ops
+returns-else-new-eq1-clause-ops c =
     let late = tentative_past c.args.ordered.now.point c.args.ordered.now.writes in
     let image = c.args.image.now in
     c.insert_all.ensures.ops

@@ -23,7 +23,7 @@ returns-clause-reading c =
     let reading = c.requires.reading in
     let onward : setup_of (before ++ l ∷ []) ≡ setup_after (setup_of before) l = setup_of-push before l in
     let counts = counts_kept (setup_of before) (setup_of before) l c.requires.fits.in_range in
-    rw c.in_ok-push.ensures.ok (record {
+    rw c.in_ok-push_amply.ensures.ok (record {
       setup = next_is (setup_of before) l c.args.next c.args.reader.now.config c.set_config.new.config reading.setup c.set_config.ensures c.requires.next ∙ sym onward;
       past = c.is_past-past.ensures ∙ ap (λ (b : Bool). b || not (sets_up l)) reading.past ∙ sym (past-push before l);
       sent = c.in_ok-note_sent.ensures ∙ ap (λ sent. sent_after sent l) reading.sent

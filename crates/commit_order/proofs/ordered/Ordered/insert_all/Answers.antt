@@ -1,12 +1,13 @@
-use Rattle.std.proofs.Common.{◌≡◌, ℕ, ◌+◌, ◌-◌, ◌<◌, ◌≤◌, ◌^◌, false, List, ◌++◌, All, length, nat_le, sym, ap, ◌∙◌, subst, arith}
+use Rattle.std.proofs.Common.{◌≡◌, ℕ, ◌+◌, ◌-◌, ◌<◌, ◌≤◌, ◌^◌, false, List, [], ◌∷◌, ◌≢◌, ◌++◌, All, length, nat_le, sym, ap, ◌∙◌, subst, arith}
 use Rattle.std.proofs.lemmas.Bool.{lt-leb}
 use Rattle.std.specs.List.Sorted.{IsStrictlySortedBy}
-use Rattle.std.proofs.lemmas.List.Elements.{All-weaker}
+use Rattle.std.specs.declared.cmp.Ordering.TheVariants.{Equal}
+use Rattle.std.proofs.lemmas.List.Elements.{All-head, All-weaker}
 use Rattle.tact_base.specs.declared.write.Write.{Write}
 use Rattle.tact_base.specs.WriteOrder.{write_cmp, committed_to}
 use Rattle.commit_order.specs.Batches.{with_writes, first_place}
 use Rattle.commit_order.specs.Order.{OrderState, KeepsOrder}
-use Rattle.commit_order.proofs.BatchOrder.{AreNew, sorted-with_writes, length-with_writes, filter-with_writes, in_order-with_writes, stays, committed-first_place, first_place-within}
+use Rattle.commit_order.proofs.BatchOrder.{AreNew, one_write, sorted-with_writes, length-with_writes, filter-with_writes, in_order-with_writes, stays, committed-first_place, first_place-within}
 use Rattle.commit_order.proofs.Given.{held-sorted, first_place-is, with_writes-is}
 use Rattle.commit_order.proofs.ordered.Ordered.insert_all.Goals as goal
 
@@ -115,3 +116,11 @@ pub returns-clause-room : goal.returns-clause-room
 returns-clause-room c =
     let many = ap length c.insert_copies.ensures.items ∙ length-with_writes c.args.writes.now c.self.inside.writes.items in
     omega (arith, ap (λ (s : OrderState). s.room) c.self.view_is, c.insert_copies.ensures.room, many)
+
+pub returns-clause-alone : goal.returns-clause-alone
+returns-clause-alone c write alone =
+    let old = c.args.self.now in
+    let sorted = sorted_is _ old c.self.view_is c.self.invariant.sorted in
+    let new : AreNew (write ∷ []) old.writes = rw alone at c.requires.new in
+    rw (written_is c, c.place_of_first-place.ensures, alone)
+    (one_write write old.writes sorted (All-head (λ w. All (λ other. write_cmp other w ≢ Equal) old.writes) write [] new))

@@ -14,7 +14,7 @@ use Rattle.commit_order.specs.Batches.{with_writes}
 use Rattle.conit_weights.specs.Running.{conits_of}
 use Rattle.rollback_apply.specs.Image.{ImageState}
 use Rattle.replica_core.specs.Seen.{SeenState, HasImage, AreOnConits}
-use Rattle.replica_core.proofs.ImageSteps.{op_of, late-stays, tentative-joined, HasImage-admitted, sorted-with_writes, length-with_writes}
+use Rattle.replica_core.proofs.ImageSteps.{op_of, late-alone, late-stays, tentative-joined, HasImage-admitted, sorted-with_writes, length-with_writes}
 use Rattle.replica_core.proofs.SeenLemmas.{HasSums-admitted}
 use Rattle.replica_core.proofs.seen.Seen.insert_all.Goals as goal
 
@@ -77,6 +77,19 @@ follow-requires-clause-stays c =
     ∙ ap ops_of (subst (λ (n : ℕ). take n (tentative_past old.point old.writes) ≡ take n (tentative_past old.point made.new.self.writes)) (sym is)
     (late-stays old.writes made.new.self.writes sorted after old.point made.result same made.ensures.stays made.ensures.past))
     ∙ ap (λ (p : ℕ). ops_of (take front (tentative_past p made.new.self.writes))) (sym made.ensures.point)
+
+pub follow-requires-clause-alone : goal.follow-requires-clause-alone
+follow-requires-clause-alone c write alone =
+    let old = c.self.inside.ordered in
+    let made = c.insert_all-place in
+    let writes = c.args.writes.now in
+    let has = c.self.invariant.has_image in
+    let sorted = c.self.invariant.sorted in
+    let past = subst (λ (s : SeenState). All (λ (write : Write). s.point < write.stamp) writes) (sym c.self.view_is) c.requires.past in
+    let same = same_committed old.point writes old.writes made.new.self.writes made.ensures.writes past in
+    let after = still_sorted old.point writes old.writes made.new.self.writes made.ensures.writes past sorted in
+    rw (made.ensures.point, has.ops, has.committed)
+    (late-alone old.writes made.new.self.writes sorted after old.point made.result same made.ensures.stays write (made.ensures.alone write alone) made.ensures.past made.ensures.within)
 
 pub add_all-requires-clause-few : goal.add_all-requires-clause-few
 add_all-requires-clause-few c =
