@@ -36,10 +36,13 @@ pub(crate) fn admit(logs: &mut Logs, seen: &mut Seen, origin: u32, writes: &[Wri
     logs.extend(origin, have, writes);
 }
 
-/// Whether each write comes before the next.
+/// Whether there are writes, of which each comes before the next.
 pub(crate) fn are_in_order(writes: &[Write]) -> bool
     ensures { IsTrue result → IsStrictlySortedBy write_cmp writes.now }
 {
+    if writes.is_empty() {
+        return false;
+    }
     for place in 1..writes.len() {
         if !writes[place - 1].comes_before(&writes[place]) {
             return false;

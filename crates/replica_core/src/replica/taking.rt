@@ -157,7 +157,8 @@ impl Replica {
         }
     }
 
-    // The next writes of another origin, whatever their stamps: together where these rise, else one after another.
+    // The next writes of another origin, whatever their stamps: together where these rise, else one after another. Where
+    // there are none, nothing is done.
     fn add_next(&mut self, origin: u32, writes: &[Write])
         requires sized { length self.old.core.writes.logs ≡ self.old.core.setup.replicas }
         requires origin { origin < self.old.core.setup.replicas }
