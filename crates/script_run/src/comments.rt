@@ -1,6 +1,6 @@
 //! The comments of `play`: on a replica that is shown, on a need of a read, on a conit's true value, and on a loan or
 //! a return over its limit. Where one of the private calls fails, the text still begins with what it was.
-ghost use Rattle.std.specs.Prelude.{◌≡◌, ◌<◌, ◌∷◌, ◌++◌, [], List, All, length, codes, decimal, OnOk, OnErr};
+ghost use Rattle.std.specs.Prelude.{◌≡◌, ◌<◌, ◌≤◌, ◌+◌, ◌∷◌, ◌++◌, [], List, All, length, codes, decimal, OnOk, OnErr};
 ghost use Rattle.std.specs.Fmt.{signed_decimal};
 ghost use Rattle.std.specs.List.{flat_map};
 ghost use Rattle.run_model.specs.Histories.{part_of};
@@ -13,7 +13,7 @@ ghost use Rattle.script_run.specs.Comments.{TellsTruth, have_tokens, last_token,
 use reference_book::{Book, Errors};
 use replica_core::{LastOne, Replica};
 use run_model::{Config, all_or_nothing, put_number, put_row, put_token};
-use tact_base::{Bytes, Need, NoMemory, print_number, print_signed};
+use tact_base::{Bytes, Need, NoMemory, ShortText, print_number, print_signed};
 
 /// Appends the comment that shows a replica of a setup, with its line feed. It goes through no list of writes.
 /// `NoMemory` leaves `out` as it was.
@@ -181,10 +181,8 @@ fn print_need(errors: &Errors, need: &Need, out: &mut Bytes) -> Result<(), NoMem
     ensures ok { OnOk result (out.new ≡ out.old ++ need_comment errors.now need.now) }
     ensures err { OnErr result (BeginsWith out.old out.new) }
 {
-    out.append(b"#")?;
-    put_row(b"need", &[u64::from(need.conit)], out)?;
-    put_bounds(errors, need, out)?;
-    out.push(b'\n')
+    put_first_bound(errors, need, out)?;
+    put_other_bounds(errors, need, out)
 }
 
 #[tactic(auto, using(run_model::proofs::TextLemmas::begins_grown, run_model::proofs::TextLemmas::always_err))]
@@ -209,29 +207,43 @@ fn print_needs(
     Ok(())
 }
 
-// The three errors with their bounds.
-#[tactic(auto, using(run_model::proofs::TextLemmas::begins_grown, run_model::proofs::TextLemmas::always_err))]
-fn put_bounds(errors: &Errors, need: &Need, out: &mut Bytes) -> Result<(), NoMemory>
+// The beginning of the comment on a need: its conit, and the numerical error with its bound.
+fn put_first_bound(errors: &Errors, need: &Need, out: &mut Bytes) -> Result<(), NoMemory>
     ensures ok { OnOk result (out.new ≡ out.old
-        ++ spaced (codes "num" ∷ bounded_token errors.now.num need.now.num
-        ∷ codes "order" ∷ bounded_token errors.now.order need.now.order
-        ∷ codes "stale" ∷ bounded_token errors.now.age need.now.stale ∷ [])) }
-    ensures err { OnErr result (BeginsWith out.old out.new) }
+        ++ codes "#" ++ spaced (codes "need" ∷ decimal need.now.conit ∷ codes "num" ∷ bounded_token errors.now.num need.now.num ∷ [])) }
+    ensures err { OnErr result (out.new ≡ out.old) }
 {
-    put_bounded(b"num", errors.num, need.num, out)?;
-    put_bounded(b"order", errors.order, need.order, out)?;
-    put_bounded(b"stale", errors.age, need.stale, out)
+    let mut text = ShortText::new();
+    put_bounded(&mut text, b"num", errors.num, need.num);
+    text.put_marked(b' ', u64::from(need.conit));
+    text.put_word(b' ', b"need");
+    text.put(b'#');
+    out.append(text.bytes())
 }
 
-// A word, and an error with its bound.
-#[tactic(auto, using(run_model::proofs::TextLemmas::begins_grown, run_model::proofs::TextLemmas::always_err))]
-fn put_bounded(word: &[u8], error: u64, bound: u64, out: &mut Bytes) -> Result<(), NoMemory>
-    ensures ok { OnOk result (out.new ≡ out.old ++ spaced (word.now ∷ bounded_token error bound ∷ [])) }
-    ensures err { OnErr result (BeginsWith out.old out.new) }
+// The rest of it: the other errors with their bounds, and a line feed.
+fn put_other_bounds(errors: &Errors, need: &Need, out: &mut Bytes) -> Result<(), NoMemory>
+    ensures ok { OnOk result (out.new ≡ out.old
+        ++ spaced (codes "order" ∷ bounded_token errors.now.order need.now.order
+        ∷ codes "stale" ∷ bounded_token errors.now.age need.now.stale ∷ []) ++ 10 ∷ []) }
+    ensures err { OnErr result (out.new ≡ out.old) }
 {
-    put_row(word, &[error], out)?;
-    out.push(b'/')?;
-    print_number(out, bound)
+    let mut text = ShortText::new();
+    text.put(b'\n');
+    put_bounded(&mut text, b"stale", errors.age, need.stale);
+    put_bounded(&mut text, b"order", errors.order, need.order);
+    out.append(text.bytes())
+}
+
+// Puts a word, and an error with its bound.
+fn put_bounded(text: &mut ShortText, word: &[u8], error: u64, bound: u64)
+    requires { length word.now + 42 < text.old.room }
+    ensures items { text.new.items ≡ spaced (word.now ∷ bounded_token error bound ∷ []) ++ text.old.items }
+    ensures room { text.old.room ≤ text.new.room + (length word.now + 43) }
+{
+    text.put_marked(b'/', bound);
+    text.put_marked(b' ', error);
+    text.put_word(b' ', word);
 }
 
 #[tactic(auto, using(run_model::proofs::TextLemmas::begins_grown, run_model::proofs::TextLemmas::always_err))]
