@@ -1,0 +1,6 @@
+pub mod Passes
+pub mod Visits
+pub mod Roaming
+pub mod Trips
+pub mod Guards
+pub mod Travels

@@ -1,0 +1,89 @@
+-- What steps of roaming clients make, one after another: the entries of the replicas, the passes, and what each step
+-- answered.
+use Rattle.std.specs.Prelude.{◌≡◌, ◌≢◌, ℕ, ◌<◌, ◌≤◌, List, [], ◌∷◌, ◌++◌, fold, length, replicate, slice_get, slice_index_or, slice_set, Option, None, Some}
+use Rattle.tact_base.specs.Setup.{Setup}
+use Rattle.tact_base.specs.declared.limits.TheConstants.{MOMENT_MAX}
+use Rattle.run_model.specs.Histories.{EachAfter, moment_at, part_of, sent_in}
+use Rattle.run_model.specs.Ranges.{IsRequestInRange}
+use Rattle.run_model.specs.Replies.{reply_of}
+use Rattle.run_model.specs.ScriptRuns.{Played, calls, sends, takes_one, zeros}
+use Rattle.run_model.specs.declared.call.Request.{Request}
+use Rattle.run_model.specs.declared.entry.Entry.{Entry}
+use Rattle.run_model.specs.declared.entry.Message.{Message}
+use Rattle.session_guard.specs.Passes.{PassState, fresh_pass, haves_of, lack_of, pass_after}
+use Rattle.session_guard.specs.Visits.{IsWriteOrRead}
+use Rattle.session_guard.specs.declared.steps.Handed.{Handed}
+use Rattle.session_guard.specs.declared.steps.Outcome.{Outcome}
+use Rattle.session_guard.specs.declared.steps.Outcome.TheVariants.{Moved, Visited}
+use Rattle.session_guard.specs.declared.steps.Step.{Step}
+use Rattle.session_guard.specs.declared.steps.Step.TheVariants as step
+use Rattle.session_guard.specs.declared.steps.Visit.{Visit}
+use Rattle.session_guard.specs.declared.steps.Visit.TheVariants.{Answered}
+
+-- the entries, the passes by number, and the outcomes of the steps
+pub record Roamed : Type 0 where
+  pub entries : List Entry
+  pub passes : List PassState
+  pub outcomes : List Outcome
+
+-- so many passes with which nothing was done
+abbrev pub not_roamed : Setup → ℕ → Roamed
+not_roamed setup passes = record { entries = []; passes = replicate passes (fresh_pass setup.replicas); outcomes = [] }
+
+-- what was made, with the moment that is handed to what comes next
+abbrev pub played_at : List Entry → ℕ → Played
+played_at entries moment = record { history = entries; handed = moment }
+
+abbrev pub pass_at : List PassState → ℕ → PassState
+pass_at passes pass = slice_index_or passes pass (fresh_pass 0)
+
+-- a visit that is kept away makes no entry; another one makes the call that is due, and its reply changes the pass
+abbrev pub visited : Setup → Roamed → ℕ → ℕ → ℕ → Request → Option Visit → Roamed
+visited setup before moment pass replica request (Some lack) = record before { outcomes = before.outcomes ++ Visited lack ∷ [] }
+visited setup before moment pass replica request None =
+    let part = part_of before.entries replica in
+    let given = reply_of setup replica part (moment_at part moment) request in
+    record {
+      entries = (calls setup (played_at before.entries moment) replica pass request).history;
+      passes = slice_set before.passes pass (pass_after (haves_of setup replica part) replica (pass_at before.passes pass) given);
+      outcomes = before.outcomes ++ Visited (Answered given) ∷ [];
+    }
+
+-- a sending or a taking makes an entry
+abbrev pub moved : Roamed → Played → Roamed
+moved before played = record before { entries = played.history; outcomes = before.outcomes ++ Moved ∷ [] }
+
+-- the taking of a message by its receiver
+abbrev pub taken : Played → Option Message → Played
+taken played None = played
+taken played (Some message) = takes_one played message.to (Some message)
+
+-- one more step: a sending is given no firsts, and messages count from 0 over all sendings
+abbrev pub stepped : Setup → Roamed → ℕ → Step → Roamed
+stepped setup before moment (step.Visit pass replica request) =
+    visited setup before moment pass replica request (lack_of (haves_of setup replica (part_of before.entries replica)) (pass_at before.passes pass))
+stepped setup before moment (step.Send from to) = moved before (sends setup (played_at before.entries moment) from to (zeros setup))
+stepped setup before moment (step.Take message) = moved before (taken (played_at before.entries moment) (slice_get (sent_in before.entries) message))
+
+abbrev pub after_step : Setup → Roamed → Handed → Roamed
+after_step setup before handed = stepped setup before handed.moment handed.step
+
+-- all steps, one after another
+abbrev pub roamed : Setup → ℕ → List Handed → Roamed
+roamed setup passes steps = fold (after_step setup) (not_roamed setup passes) steps
+
+-- a step that may follow entries: of passes and replicas that there are, a write or a read, a sending to another one, a
+-- taking of what was sent
+abbrev pub MayStep : Setup → ℕ → List Entry → Step → Type 0
+MayStep setup passes entries (step.Visit pass replica request) =
+    (pass < passes) × (replica < setup.replicas) × IsRequestInRange setup request × IsWriteOrRead request
+MayStep setup passes entries (step.Send from to) = (from < setup.replicas) × (to < setup.replicas) × (to ≢ from)
+MayStep setup passes entries (step.Take message) = message < length (sent_in entries)
+
+-- and one that may follow others, handed a moment within the limit
+pub record MayFollow (setup : Setup) (passes : ℕ) (before : List Handed) (next : Handed) : Type 0 where
+  pub moment : next.moment ≤ MOMENT_MAX
+  pub step : MayStep setup passes (roamed setup passes before).entries next.step
+
+abbrev pub AreSteps : Setup → ℕ → List Handed → Type 0
+AreSteps setup passes steps = EachAfter (MayFollow setup passes) steps
