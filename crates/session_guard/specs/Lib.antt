@@ -3,4 +3,5 @@ pub mod Visits
 pub mod Roaming
 pub mod Trips
 pub mod Guards
-pub mod Travels
+pub mod Journeys
+pub mod Roams

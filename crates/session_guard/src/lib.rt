@@ -2,6 +2,7 @@
 //! writes, monotonic reads, monotonic writes and writes follow reads.
 #![tactic(auto)]
 
+mod client;
 mod counts;
 mod journey;
 mod pass;
