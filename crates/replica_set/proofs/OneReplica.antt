@@ -18,21 +18,21 @@ use Rattle.replica_core.specs.Stands.{Stands, IsSameReplica, GoesOn as CoreGoesO
 use Rattle.replica_set.specs.Sets.{SetState, IsAt, IsOneOf, IsSet, StandsFor, GoesOn, HoldsAt, entry_of}
 
 -- what is there after one place was set: there what was set, and elsewhere what was there
-set_cases : (cores : List Core) (place : ℕ) (new : Core) (P : ℕ → Core → Type 0)
+pub set_cases : {X : Type 0} (xs : List X) (place : ℕ) (new : X) (P : ℕ → X → Type 0)
     → P place new
-    → ((k : ℕ) (core : Core) → (k ≡ place → ⊥) → slice_get cores k ≡ Some core → P k core)
-    → (k : ℕ) (core : Core)
-    → slice_get (set cores place new) k ≡ Some core
-    → P k core
-set_cases cores place new P here elsewhere k core found =
-    let within : k < length cores = omega (arith, slice_get_within (set cores place new) k core found, length-set cores place new) in
-    let read : get_or (set cores place new) k core ≡ core = get_or_from_slice_get (set cores place new) k core core found in
+    → ((k : ℕ) (x : X) → (k ≡ place → ⊥) → slice_get xs k ≡ Some x → P k x)
+    → (k : ℕ) (x : X)
+    → slice_get (set xs place new) k ≡ Some x
+    → P k x
+set_cases xs place new P here elsewhere k x found =
+    let within : k < length xs = omega (arith, slice_get_within (set xs place new) k x found, length-set xs place new) in
+    let read : get_or (set xs place new) k x ≡ x = get_or_from_slice_get (set xs place new) k x x found in
     ⊎_elim
     (λ (same : k ≡ place).
-    let is : new ≡ core = sym (get_or-set_same cores place new core (omega (arith, within, same))) ∙ ap (λ i. get_or (set cores place new) i core) (sym same) ∙ read in
-    subst (λ i. P i core) (sym same) (subst (P place) is here))
+    let is : new ≡ x = sym (get_or-set_same xs place new x (omega (arith, within, same))) ∙ ap (λ i. get_or (set xs place new) i x) (sym same) ∙ read in
+    subst (λ i. P i x) (sym same) (subst (P place) is here))
     (λ (other : k ≡ place → ⊥).
-    elsewhere k core other (slice_get-get_or cores k core within ∙ ap Some (sym (get_or-set_other cores place k new core other) ∙ read)))
+    elsewhere k x other (slice_get-get_or xs k x within ∙ ap Some (sym (get_or-set_other xs place k new x other) ∙ read)))
     (cases_eq k place)
 
 -- what a replica keeps, and a set of replicas

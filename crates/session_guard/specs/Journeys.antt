@@ -1,40 +1,21 @@
 -- What is kept of the steps of roaming clients, and what one more step leaves.
-use Rattle.std.specs.Prelude.{◌≡◌, ℕ, ◌+◌, ◌<◌, ◌≤◌, List, [], ◌∷◌, ◌++◌, All, length, map, slice_get, slice_index, take, Option, Some}
-use Rattle.std.specs.Option.{option_and_then, option_map_or}
+use Rattle.std.specs.Prelude.{◌≡◌, ℕ, ◌+◌, ◌<◌, ◌≤◌, List, [], ◌∷◌, ◌++◌, length, map, slice_get, Option, Some}
+use Rattle.std.specs.Option.{option_and_then}
 use Rattle.tact_base.specs.Setup.{IsSetup, Setup}
 use Rattle.tact_base.specs.declared.limits.TheConstants.{CLIENTS}
-use Rattle.tact_base.specs.declared.write.Write.{Write}
-use Rattle.run_model.specs.Histories.{part_of, sent_by_act, sent_in}
+use Rattle.run_model.specs.Histories.{sent_by_act, sent_in}
 use Rattle.run_model.specs.Runs.{IsRun}
 use Rattle.run_model.specs.ScriptRuns.{zeros}
-use Rattle.run_model.specs.Taking.{have}
 use Rattle.run_model.specs.declared.entry.Entry.{Entry}
 use Rattle.run_model.specs.declared.entry.Message.{Message}
 use Rattle.replica_set.specs.Sets.{StandsFor}
-use Rattle.session_guard.specs.Guards.{IsGuarded, ReadsAt, WritesAt}
-use Rattle.session_guard.specs.Passes.{IsPass, PassState}
+use Rattle.session_guard.specs.Carried.{IsCarried}
 use Rattle.session_guard.specs.Roaming.{Roamed, stepped}
 use Rattle.session_guard.specs.Trips.{trip_of}
 use Rattle.session_guard.specs.declared.client.Client.{Client}
 use Rattle.session_guard.specs.declared.journey.Journey.{Journey}
 use Rattle.session_guard.specs.declared.steps.Outcome.{Outcome}
 use Rattle.session_guard.specs.declared.steps.Step.{Step}
-
--- how many writes of an origin the replica of the entry at a position had before it
-abbrev pub have_before : List Entry → ℕ → ℕ → ℕ
-have_before history position origin =
-    option_map_or (λ entry. have entry.replica (part_of (take position history) entry.replica) origin) (slice_get history position) 0
-
--- The numbers of a pass are those of a trip: of each origin none of the trip's writes is past them, and no read of it was
--- where more were; and the trip is guarded.
-pub record IsCarried (setup : Setup) (history : List Entry) (pass : PassState) (trip : List ℕ) : Type 0 where
-  pub is_pass : IsPass setup.replicas pass
-  pub within : All (λ position. position < length history) trip
-  pub writes : All (λ position. (write : Write) → WritesAt history position write
-      → (write.origin < setup.replicas) × (write.index < slice_index pass.writes write.origin)) trip
-  pub reads : All (λ position. ReadsAt history position → (origin : ℕ) → origin < setup.replicas
-      → have_before history position origin ≤ slice_index pass.reads origin) trip
-  pub guarded : IsGuarded setup history trip
 
 -- a client with its number, whose trip is the one through a history
 pub record IsClient (setup : Setup) (history : List Entry) (number : ℕ) (client : Client) : Type 0 where

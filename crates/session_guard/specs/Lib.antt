@@ -3,5 +3,7 @@ pub mod Visits
 pub mod Roaming
 pub mod Trips
 pub mod Guards
+pub mod Positions
+pub mod Carried
 pub mod Journeys
 pub mod Roams

@@ -1,0 +1,4 @@
+pub mod Positions
+pub mod SeenWrites
+pub mod Guarding
+pub mod TripLemmas
