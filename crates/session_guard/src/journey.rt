@@ -1,20 +1,21 @@
 //! The replicas that clients roam among, and all that was done.
-ghost use Rattle.std.specs.Prelude.{◌≡◌, ◌≢◌, ℕ, ◌<◌, ◌≤◌, [], false, IfErr, IfOk, OnErr, OnOk, length};
+ghost use Rattle.std.specs.Prelude.{◌≡◌, ◌<◌, ◌≤◌, None, [], IfOk, OnErr, length};
 ghost use Rattle.tact_base.specs.declared.limits.TheConstants.{CLIENTS, MOMENT_MAX};
-ghost use Rattle.run_model.specs.Histories.{part_of, sent_in};
+ghost use Rattle.run_model.specs.Histories.{part_of};
 ghost use Rattle.run_model.specs.Ranges.{IsRequestInRange};
 ghost use Rattle.session_guard.specs.Passes.{haves_of, lack_of};
-ghost use Rattle.session_guard.specs.Roaming.{not_roamed, pass_at};
+ghost use Rattle.session_guard.specs.Roaming.{MayStep, not_roamed, pass_at};
 ghost use Rattle.session_guard.specs.Visits.{IsWriteOrRead};
+ghost use Rattle.replica_core.specs.declared.fault.CoreFault.TheVariants as CoreFault;
 ghost use Rattle.session_guard.specs.declared.steps.Outcome.TheVariants.{Moved, Visited};
 ghost use Rattle.session_guard.specs.declared.steps.Step.TheVariants as step;
-ghost use Rattle.session_guard.specs.declared.steps.Visit.TheVariants.{Answered};
+ghost use Rattle.session_guard.specs.declared.roam.TheConstants.{STEPS_MAX};
 
 mod moving;
 
 use crate::client::Client;
 use crate::counts::haves_of;
-use crate::steps::{Visit, copied_reply, copied_request};
+use crate::steps::{Outcome, Step, Visit, copied_reply, copied_request};
 use replica_core::CoreFault;
 use replica_set::ReplicaSet;
 use run_model::{Act, Config, Entry, Reply, Request};
@@ -57,8 +58,36 @@ impl Journey {
         })
     }
 
-    /// A client visits a replica.
-    pub(crate) fn visit(
+    /// Goes on by a step.
+    pub(crate) fn step(&mut self, moment: u64, step: &Step) -> Result<Outcome, NoMemory>
+        requires keeps { Keeps self.old }
+        requires few { length self.old.entries.items < STEPS_MAX }
+        requires moment { moment ≤ MOMENT_MAX }
+        requires may { MayStep (setup_in self.old) (length self.old.clients.items) self.old.entries.items step.now }
+        ensures goes { IfOk result (GoesOnBy self.old self.new moment step.now) }
+        ensures err { OnErr result (Stays self.old self.new) }
+    {
+        match step {
+            Step::Visit {
+                pass,
+                replica,
+                request,
+            } => Ok(Outcome::Visited(
+                self.visit(moment, *pass, *replica, request)?,
+            )),
+            Step::Send { from, to } => {
+                self.send(moment, *from, *to)?;
+                Ok(Outcome::Moved)
+            }
+            Step::Take { message } => {
+                self.take(moment, *message)?;
+                Ok(Outcome::Moved)
+            }
+        }
+    }
+
+    // A client visits a replica.
+    fn visit(
         &mut self,
         moment: u64,
         pass: u32,
@@ -120,9 +149,12 @@ impl Journey {
         let position = self.entries.items().len() as u64;
         let client = &mut self.clients[pass as usize];
         client.stop_at(position)?;
-        let Ok(reply) = self.set.call(replica, moment, pass, request) else {
-            client.pass_by();
-            return Err(NoMemory);
+        let reply = match self.set.call(replica, moment, pass, request) {
+            Ok(reply) => reply,
+            Err(fault) => {
+                client.pass_by();
+                return Err(want_of(fault));
+            }
         };
         client.settle(replica, haves.items(), &reply);
         self.entries.push(Entry {
@@ -136,5 +168,15 @@ impl Journey {
             },
         });
         Ok(Visit::Answered(reply))
+    }
+}
+
+/// The want of memory that a fault is of a replica that isn't full.
+pub(crate) fn want_of(fault: CoreFault) -> NoMemory
+    requires { fault ≡ CoreFault.NoMemory }
+{
+    match fault {
+        CoreFault::NoMemory => NoMemory,
+        CoreFault::Full { .. } => unreachable!(),
     }
 }

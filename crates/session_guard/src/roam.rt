@@ -1,10 +1,10 @@
 //! Roaming clients and the replicas that they visit, step by step.
 ghost use Rattle.std.specs.Prelude.{◌≡◌, ◌<◌, ◌≤◌, ◌∷◌, ◌++◌, [], IfOk, OnErr, OnOk, length};
 ghost use Rattle.tact_base.specs.declared.limits.TheConstants.{CLIENTS, MOMENT_MAX};
+ghost use Rattle.run_model.specs.Histories.{sent_in};
 ghost use Rattle.run_model.specs.Promises.{IsKept};
 ghost use Rattle.run_model.specs.Runs.{IsRun};
-ghost use Rattle.session_guard.specs.Guards.{IsGuarded};
-ghost use Rattle.session_guard.specs.Roaming.{MayStep, pass_at, roamed};
+ghost use Rattle.session_guard.specs.Roaming.{MayStep, pass_at};
 ghost use Rattle.session_guard.specs.Roams.{AreAllGuarded, entries_of, roamed_by, with_step};
 ghost use Rattle.session_guard.specs.Trips.{trip_of};
 
@@ -70,7 +70,7 @@ impl Roam {
         ensures err { OnErr result (self.new ≡ self.old) }
     {
         self.steps.reserve(1)?;
-        let outcome = go(&mut self.journey, moment, step)?;
+        let outcome = self.journey.step(moment, step)?;
         self.steps.push(Handed {
             moment,
             step: step.copied(),
@@ -113,33 +113,5 @@ impl Roam {
         ensures { result.now ≡ self.now.steps }
     {
         self.steps.items()
-    }
-}
-
-// Goes on by a step.
-fn go(journey: &mut Journey, moment: u64, step: &Step) -> Result<Outcome, NoMemory>
-    requires keeps { Keeps journey.old }
-    requires few { length journey.old.entries.items < STEPS_MAX }
-    requires moment { moment ≤ MOMENT_MAX }
-    requires may { MayStep (setup_in journey.old) (length journey.old.clients.items) journey.old.entries.items step.now }
-    ensures goes { IfOk result (GoesOnBy journey.old journey.new moment step.now) }
-    ensures err { OnErr result (Stays journey.old journey.new) }
-{
-    match step {
-        Step::Visit {
-            pass,
-            replica,
-            request,
-        } => Ok(Outcome::Visited(
-            journey.visit(moment, *pass, *replica, request)?,
-        )),
-        Step::Send { from, to } => {
-            journey.send(moment, *from, *to)?;
-            Ok(Outcome::Moved)
-        }
-        Step::Take { message } => {
-            journey.take(moment, *message)?;
-            Ok(Outcome::Moved)
-        }
     }
 }

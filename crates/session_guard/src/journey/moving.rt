@@ -1,19 +1,20 @@
 //! Messages that are sent and taken.
-ghost use Rattle.std.specs.Prelude.{◌≡◌, ◌≢◌, ◌<◌, ◌≤◌, false, IfErr, IfOk, OnErr, OnOk, Some, length, slice_get};
+ghost use Rattle.std.specs.Prelude.{◌≡◌, ◌≢◌, ◌<◌, ◌≤◌, IfOk, OnErr, OnOk, Some, length, slice_get};
 ghost use Rattle.tact_base.specs.declared.limits.TheConstants.{MOMENT_MAX};
 ghost use Rattle.run_model.specs.Histories.{sent_in};
+ghost use Rattle.session_guard.specs.declared.roam.TheConstants.{STEPS_MAX};
 ghost use Rattle.session_guard.specs.declared.steps.Outcome.TheVariants.{Moved};
 ghost use Rattle.session_guard.specs.declared.steps.Step.TheVariants as step;
 
-use super::Journey;
+use super::{Journey, want_of};
 use run_model::{Act, Entry, Message};
 use tact_base::NoMemory;
 
 impl Journey {
     ghost use Rattle.session_guard.specs.Journeys.{GoesOnBy, Keeps, Stays, setup_in};
 
-    /// One sends to another.
-    pub(crate) fn send(&mut self, moment: u64, from: u32, to: u32) -> Result<(), NoMemory>
+    // One sends to another.
+    pub(super) fn send(&mut self, moment: u64, from: u32, to: u32) -> Result<(), NoMemory>
         requires keeps { Keeps self.old }
         requires few { length self.old.entries.items < STEPS_MAX }
         requires moment { moment ≤ MOMENT_MAX }
@@ -26,8 +27,9 @@ impl Journey {
         self.entries.reserve(1)?;
         self.sends.reserve(1)?;
         let at = moment.max(self.set.at(from).last());
-        let Ok(message) = self.set.send(from, moment, to, &self.zeros) else {
-            return Err(NoMemory);
+        let message = match self.set.send(from, moment, to, &self.zeros) {
+            Ok(message) => message,
+            Err(fault) => return Err(want_of(fault)),
         };
         self.sends.push(self.entries.items().len() as u64);
         self.entries.push(Entry {
@@ -38,8 +40,8 @@ impl Journey {
         Ok(())
     }
 
-    /// The message of a number is taken by its receiver.
-    pub(crate) fn take(&mut self, moment: u64, number: u64) -> Result<(), NoMemory>
+    // The message of a number is taken by its receiver.
+    pub(super) fn take(&mut self, moment: u64, number: u64) -> Result<(), NoMemory>
         requires keeps { Keeps self.old }
         requires few { length self.old.entries.items < STEPS_MAX }
         requires moment { moment ≤ MOMENT_MAX }
@@ -51,9 +53,9 @@ impl Journey {
         let message = self.message(number)?;
         let replica = message.to;
         let at = moment.max(self.set.at(replica).last());
-        let Ok(()) = self.set.take(replica, moment, &message) else {
-            return Err(NoMemory);
-        };
+        if let Err(fault) = self.set.take(replica, moment, &message) {
+            return Err(want_of(fault));
+        }
         self.entries.push(Entry {
             replica,
             moment: at,
