@@ -1,0 +1,103 @@
+//! One client that goes from a replica to another and back, step by step.
+
+ghost use Rattle.std.specs.Prelude.{◌≡◌};
+
+use crate::asking::{Ask, done, lacks, request, told};
+use run_model::Config;
+use session_guard::{Outcome, Roam, Step, Visit};
+use std::alloc::Global;
+use std::process::Abort;
+use std::test::Fail;
+
+/// Two replicas with one conit, and one pass.
+#[derive(Drop)]
+struct Tour {
+    roam: Roam,
+    ghost replicas: { roam.setup.replicas ≡ 2 },
+    ghost passes: { roam.passes ≡ 1 },
+}
+
+impl Tour {
+    fn new(alloc: Global) -> Result<Box<Tour>, Fail> {
+        let config = Config::new(alloc, 2, 1, &[10; 2], &[0, 10, 10, 0])?;
+        let tour = Tour {
+            roam: Roam::new(alloc, &config, 1)?,
+        };
+        Ok(Box::new(alloc, tour)?)
+    }
+
+    /// The client visits a replica, with this outcome.
+    fn visit(
+        &mut self,
+        rt: &impl Abort,
+        replica: u32,
+        ask: Ask,
+        said: Visit,
+    ) -> Result<(), Fail> {
+        assert!(rt; replica < 2);
+        assert!(rt; self.roam.steps().len() < 100);
+        let step = Step::Visit {
+            pass: 0,
+            replica,
+            request: request(ask)?,
+        };
+        assert_eq!(rt; self.roam.step(1, &step)?, Outcome::Visited(said));
+        Ok(())
+    }
+
+    /// One sends to the other, which takes the message.
+    fn tell(&mut self, rt: &impl Abort, from: u32, to: u32) -> Result<(), Fail> {
+        assert!(rt; from < 2 && to < 2 && from != to);
+        assert!(rt; self.roam.steps().len() < 100);
+        let message = self.roam.sent();
+        assert_eq!(rt; self.roam.step(2, &Step::Send { from, to })?, Outcome::Moved);
+        self.take(rt, message)
+    }
+
+    fn take(&mut self, rt: &impl Abort, message: u64) -> Result<(), Fail> {
+        assert!(rt; message < self.roam.sent());
+        assert!(rt; self.roam.steps().len() < 100);
+        assert_eq!(rt; self.roam.step(3, &Step::Take { message })?, Outcome::Moved);
+        Ok(())
+    }
+
+    /// What the pass has, and where the trip stopped.
+    fn assert_pass(&self, rt: &impl Abort, reads: [u64; 2], writes: [u64; 2], trip: &[u64]) {
+        let pass = self.roam.pass(0);
+        assert!(rt; pass.reads().items() == reads.as_slice());
+        assert!(rt; pass.writes().items() == writes.as_slice());
+        assert!(rt; self.roam.trip(0).items() == trip);
+    }
+}
+
+// It reads its write at the other replica once that has it.
+fn follow_a_write(rt: &impl Abort, tour: &mut Tour) -> Result<(), Fail> {
+    tour.visit(rt, 0, Ask::Add, done(0, 1))?;
+    tour.visit(rt, 1, Ask::Read, lacks(0, 1))?;
+    tour.tell(rt, 0, 1)?;
+    tour.visit(rt, 1, Ask::Read, told(1))?;
+    tour.assert_pass(rt, [1, 0], [1, 0], &[0, 3]);
+    Ok(())
+}
+
+// It writes there, and is kept away from the first one.
+fn write_there(rt: &impl Abort, tour: &mut Tour) -> Result<(), Fail> {
+    tour.visit(rt, 1, Ask::Add, done(0, 2))?;
+    tour.assert_pass(rt, [1, 0], [1, 1], &[0, 3, 4]);
+    tour.visit(rt, 0, Ask::Read, lacks(1, 1))?;
+    tour.visit(rt, 0, Ask::Add, lacks(1, 1))?;
+    tour.tell(rt, 1, 0)?;
+    tour.visit(rt, 0, Ask::Read, told(2))?;
+    tour.assert_pass(rt, [1, 1], [1, 1], &[0, 3, 4, 7]);
+    Ok(())
+}
+
+#[test]
+fn keeps_what_it_wrote_and_read(rt: HostRuntime) -> Result<(), Fail> {
+    let mut tour = Tour::new(rt.alloc())?;
+    follow_a_write(&rt, &mut tour)?;
+    write_there(&rt, &mut tour)?;
+    assert_eq!(rt; tour.roam.entries().len(), 8);
+    assert_eq!(rt; tour.roam.steps().len(), 11);
+    Ok(())
+}
