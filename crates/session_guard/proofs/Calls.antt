@@ -31,23 +31,31 @@ use Rattle.session_guard.specs.Passes.{PassState, haves_of, lack_of, pass_after,
 use Rattle.session_guard.specs.Trips.{is_granted, is_stop, trip_of}
 use Rattle.session_guard.specs.Visits.{IsWriteOrRead}
 use Rattle.session_guard.specs.declared.client.Client.{Client}
-use Rattle.session_guard.specs.declared.steps.Visit.{Visit}
+use Rattle.session_guard.specs.declared.steps.Visit.TheVariants as visit
 
 -- where nothing is found, each number of a range fails the test
+none_at_first : {A : Type 0} (first : A) (is : Bool) (rest : Option A)
+    → cond is (Some first) rest ≡ None
+    → (is ≡ false) × (rest ≡ None)
+none_at_first first true rest none = cc
+none_at_first first false rest none = (refl, none)
+
 none_found : (p : ℕ → Bool) (start len k : ℕ)
     → find p (range_with_len start len) ≡ None
     → start ≤ k
     → k < start + len
     → p k ≡ false
 none_found p start zero k none low high = absurd (omega arith)
-none_found p start (suc len) k none low high = go (p start) refl none
-  where
-    go : (is : Bool) → p start ≡ is → cond is (Some start) (find p (range_with_len (start + 1) len)) ≡ None → p k ≡ false
-    go true here none = cc
-    go false here none = ⊎_elim
-        (λ (same : k ≡ start). ap p same ∙ here)
-        (λ (other : k ≡ start → ⊥). none_found p (start + 1) len k none (omega (arith, low, other)) (omega (arith, high)))
-        (cases_eq k start)
+none_found p start (suc len) k none low high =
+    let both = none_at_first start (p start) (find p (range_with_len (start + 1) len)) none in
+    ⊎_elim
+    (λ (same : k ≡ start). ap p same ∙ both.0)
+    (λ (other : k ≡ start → ⊥). none_found p (start + 1) len k both.1 (omega (arith, low, other)) (omega (arith, high)))
+    (cases_eq k start)
+
+none_mapped : {A B : Type 0} (f : A → B) (o : Option A) → option_map f o ≡ None → o ≡ None
+none_mapped f None is = refl
+none_mapped f (Some x) is = cc
 
 -- a pass that lacks nothing of what a replica has
 pub has_enough : (setup : Setup) (replica : ℕ) (part : List Entry) (pass : PassState)
@@ -59,15 +67,12 @@ has_enough setup replica part pass none origin among =
     let haves = haves_of setup replica part in
     let sized : length haves ≡ setup.replicas = length-map (replicas_of setup) (have replica part) ∙ length-range_with_len 0 setup.replicas in
     let test = λ (o : ℕ). nat_lt (get_or haves o 0) (wanted pass o) in
-    let all : find test (range_with_len 0 (length haves)) ≡ None = no_map _ none in
+    let lack = λ (o : ℕ). visit.Behind o (get_or haves o 0) (wanted pass o) in
+    let all : find test (range_with_len 0 (length haves)) ≡ None = none_mapped lack (find test (range_with_len 0 (length haves))) none in
     let fails : nat_lt (get_or haves origin 0) (wanted pass origin) ≡ false =
     none_found test 0 (length haves) origin all (omega arith) (omega (arith, among, sized)) in
     let here : get_or haves origin 0 ≡ have replica part origin = get_or-map_range (have replica part) setup.replicas origin 0 among in
     omega (arith, ltb-false (get_or haves origin 0) (wanted pass origin) fails, here)
-  where
-    no_map : {f : ℕ → Visit} (o : Option ℕ) → option_map f o ≡ None → o ≡ None
-    no_map None is = refl
-    no_map (Some x) is = cc
 
 -- the write that a call accepted
 accepted_numbers : (replica moment : ℕ) (asked : Option (List Weight × Op)) (index stamp : ℕ) (write : Write)
@@ -109,10 +114,10 @@ module _ (setup : Setup) (history : List Entry) (run : IsRun setup history) (cli
   }
 
   stops : (given : Reply) → is_granted given ≡ true → is_stop number (called given).act ≡ true
-  stops given yes = ap₂ (λ (a b : Bool). a && b) (eq-eqb number number refl) yes
+  stops given granted = ap₂ (λ (a b : Bool). a && b) (eq-eqb number number refl) granted
 
   goes_by : (given : Reply) → is_granted given ≡ false → is_stop number (called given).act ≡ false
-  goes_by given no = ap₂ (λ (a b : Bool). a && b) (eq-eqb number number refl) no
+  goes_by given refused = ap₂ (λ (a b : Bool). a && b) (eq-eqb number number refl) refused
 
   -- where nothing was granted
   unchanged_trip : take (length (client.trip ++ length history ∷ []) - 1) (client.trip ++ length history ∷ []) ≡ client.trip
@@ -124,12 +129,12 @@ module _ (setup : Setup) (history : List Entry) (run : IsRun setup history) (cli
       → is_granted given ≡ false
       → pass_after haves replica client.pass given ≡ client.pass
       → IsClient setup (longer history (called given)) number (after given)
-  refused given no same =
+  refused given denied same =
       let trip : (after given).trip ≡ client.trip =
-      ap (λ (yes : Bool). cond yes (client.trip ++ length history ∷ []) (take (length (client.trip ++ length history ∷ []) - 1) (client.trip ++ length history ∷ []))) no
+      ap (λ (yes : Bool). cond yes (client.trip ++ length history ∷ []) (take (length (client.trip ++ length history ∷ []) - 1) (client.trip ++ length history ∷ []))) denied
       ∙ unchanged_trip in
       record {
-        trip = trip ∙ is_client.trip ∙ sym (trip_of-same history (called given) number (goes_by given no));
+        trip = trip ∙ is_client.trip ∙ sym (trip_of-same history (called given) number (goes_by given denied));
         carried = subst₂ (IsCarried setup (longer history (called given))) (sym same) (sym trip)
             (carried_on setup history (called given) client.pass client.pass client.trip is_client.carried is_client.carried.is_pass (IsNoLess-refl setup client.pass));
       }

@@ -101,8 +101,8 @@ module _ (history : List Entry) (entry : Entry) where
       → is_stop number entry.act ≡ false
       → IsClient setup history number client
       → IsClient setup (longer history entry) number client
-  client_goes_by setup number client no is = record {
-    trip = is.trip ∙ sym (trip_of-same history entry number no);
+  client_goes_by setup number client by is = record {
+    trip = is.trip ∙ sym (trip_of-same history entry number by);
     carried = carried_on setup history entry client.pass client.pass client.trip is.carried is.carried.is_pass (IsNoLess-refl setup client.pass);
   }
 

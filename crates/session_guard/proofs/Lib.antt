@@ -1,3 +1,5 @@
+pub mod PassLemmas
+pub mod CountLemmas
 pub mod Positions
 pub mod SeenWrites
 pub mod Guarding
@@ -5,4 +7,5 @@ pub mod TripLemmas
 pub mod Carrying
 pub mod Grown
 pub mod DoneReplies
+pub mod VisitLemmas
 pub mod Calls

@@ -18,7 +18,7 @@ use Rattle.session_guard.specs.Positions.{have_before}
 
 -- One more entry of a history.
 module _ (history : List Entry) (entry : Entry) where
-  abbrev longer : List Entry
+  abbrev pub longer : List Entry
   longer = history ++ entry ∷ []
 
   -- at a position before it

@@ -1,5 +1,5 @@
 -- The writes that a replica has seen in a run: of each origin the first that it accepted, as many as the replica has.
-use Rattle.std.proofs.Common.{◌≡◌, ℕ, ◌+◌, ◌<◌, ◌≤◌, ◌==◌, List, [], ◌∷◌, ◌++◌, length, get_or, flat_map, All, Contains, Option, None, Some, refl, sym, ap, ◌∙◌, subst, ⊎_elim, arith}
+use Rattle.std.proofs.Common.{◌≡◌, ℕ, ◌+◌, ◌<◌, ◌≤◌, ◌==◌, List, [], ◌∷◌, ◌++◌, length, get_or, flat_map, All, Contains, Option, None, Some, refl, sym, ap, ◌∙◌, subst, ⊎_elim, zero-add, arith}
 use Rattle.std.specs.List.{cons_option, filter_map, range_with_len}
 use Rattle.std.proofs.lemmas.Bool.{eq-eqb}
 use Rattle.std.proofs.lemmas.List.Elements.{All-contains}
@@ -39,7 +39,7 @@ Contains-filter_map {X} {Y} f (first ∷ rest) x y within is =
 
 -- numbers below a count
 Contains-range : (n k : ℕ) → k < n → Contains (range_with_len 0 n) k
-Contains-range n k within = (k, omega (arith, within, length-range_with_len 0 n), get_or-range_with_len 0 n k k within)
+Contains-range n k within = (k, omega (arith, within, length-range_with_len 0 n), get_or-range_with_len 0 n k k within ∙ zero-add k)
 
 Contains-from_range : (n k : ℕ) → Contains (range_with_len 0 n) k → k < n
 Contains-from_range n k found =

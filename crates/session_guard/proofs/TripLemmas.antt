@@ -39,7 +39,7 @@ module _ (history : List Entry) (entry : Entry) (client : ℕ) where
       ∙ ap₂ (λ (front : List ℕ) (yes : Bool). front ++ cond yes (n ∷ []) []) before last
 
   pub trip_of-stop : is_stop client entry.act ≡ true → trip_of (longer history entry) client ≡ trip_of history client ++ length history ∷ []
-  trip_of-stop yes = trip_of-push ∙ ap (λ (is : Bool). trip_of history client ++ cond is (length history ∷ []) []) yes
+  trip_of-stop stops = trip_of-push ∙ ap (λ (is : Bool). trip_of history client ++ cond is (length history ∷ []) []) stops
 
   pub trip_of-same : is_stop client entry.act ≡ false → trip_of (longer history entry) client ≡ trip_of history client
-  trip_of-same no = trip_of-push ∙ ap (λ (is : Bool). trip_of history client ++ cond is (length history ∷ []) []) no ∙ append-nil (trip_of history client)
+  trip_of-same goes_by = trip_of-push ∙ ap (λ (is : Bool). trip_of history client ++ cond is (length history ∷ []) []) goes_by ∙ append-nil (trip_of history client)

@@ -1,5 +1,5 @@
 //! A roaming client: its pass, and its trip.
-ghost use Rattle.std.specs.Prelude.{◌≡◌, ◌<◌, ◌≤◌, [], ◌∷◌, ◌++◌, IfOk, OnErr, OnOk, length};
+ghost use Rattle.std.specs.Prelude.{◌≡◌, ◌<◌, ◌≤◌, ◌-◌, [], ◌∷◌, ◌++◌, IfOk, OnErr, OnOk, if◌then◌else◌, length, take};
 ghost use Rattle.tact_base.specs.declared.limits.TheConstants.{REPLICAS_MAX, REPLICAS_MIN};
 ghost use Rattle.session_guard.specs.Passes.{fresh_pass, pass_after};
 ghost use Rattle.session_guard.specs.Trips.{is_granted};

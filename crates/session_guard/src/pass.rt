@@ -1,5 +1,6 @@
 //! What a client carries from replica to replica.
-ghost use Rattle.std.specs.Prelude.{◌≡◌, ◌<◌, ◌≤◌, IfOk, length};
+ghost use Rattle.std.specs.Prelude.{◌≡◌, ◌<◌, ◌≤◌, max, IfOk, length, map, slice_index};
+ghost use Rattle.std.specs.List.{range_with_len};
 ghost use Rattle.tact_base.specs.declared.limits.TheConstants.{REPLICAS_MAX, REPLICAS_MIN};
 ghost use Rattle.session_guard.specs.Passes.{fresh_pass, lack_of, pass_after, wanted};
 ghost use Rattle.session_guard.specs.Visits.{HasNextIndex};
@@ -105,7 +106,7 @@ impl Pass {
             Reply::Done { index, .. } => {
                 self.writes.set(replica as usize, index.saturating_add(1));
             }
-            Reply::Value { .. } => self.note_read(haves),
+            Reply::Value { .. } => raise_each(&mut self.reads, haves),
             Reply::Granted
             | Reply::Released
             | Reply::TooHeavy { .. }
@@ -117,17 +118,16 @@ impl Pass {
             | Reply::NotHeld { .. } => {}
         }
     }
+}
 
-    // Takes into account that a replica with so many writes of each origin was read of.
-    fn note_read(&mut self, haves: &[u64])
-        requires { length haves.now ≡ length self.old.reads }
-        ensures { self.new ≡ record self.old {
-          reads = map (λ origin. max (slice_index self.old.reads origin) (slice_index haves.now origin)) (range_with_len 0 (length haves.now));
-        } }
-    {
-        for origin in 0..haves.len() {
-            let most = haves[origin].max(self.reads.items()[origin]);
-            self.reads.set(origin, most);
-        }
+// Raises each number to that of another list.
+fn raise_each(numbers: &mut Numbers, haves: &[u64])
+    requires { length haves.now ≡ length numbers.old }
+    ensures raised { numbers.new ≡ map (λ origin. max (slice_index numbers.old origin) (slice_index haves.now origin)) (range_with_len 0 (length haves.now)) }
+    ensures sized { length numbers.new ≡ length numbers.old }
+{
+    for place in 0..haves.len() {
+        let most = haves[place].max(numbers.items()[place]);
+        numbers.set(place, most);
     }
 }

@@ -1,5 +1,5 @@
 //! A visit of a client at a replica.
-ghost use Rattle.std.specs.Prelude.{◌≡◌, ◌<◌, ◌≤◌, ◌+◌, ◌×◌, List, None, length, false, OnOk, OnErr, IfOk, IfErr, IsOk};
+ghost use Rattle.std.specs.Prelude.{◌≡◌, ◌<◌, ◌≤◌, ◌+◌, List, None, length, false, OnOk, OnErr, IfOk, IfErr, IsOk};
 ghost use Rattle.tact_base.specs.declared.limits.TheConstants.{CLIENTS, MOMENT_MAX};
 ghost use Rattle.run_model.specs.Histories.{calls_in, moment_at};
 ghost use Rattle.run_model.specs.Ranges.{IsRequestInRange};
