@@ -9,3 +9,5 @@ pub mod Grown
 pub mod DoneReplies
 pub mod VisitLemmas
 pub mod Calls
+pub mod Going
+pub mod SentOnes

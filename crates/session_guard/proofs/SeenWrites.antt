@@ -21,7 +21,7 @@ use Rattle.run_model.proofs.SoundRuns.{Grows-run, Sound-prefix, Sound-run}
 use Rattle.run_model.proofs.SoundViews.{Sound-log, Sound-stamps}
 
 -- what a map gives of an element, where it gives something
-Contains-filter_map : {X Y : Type 0} (f : X → Option Y) (xs : List X) (x : X) (y : Y)
+pub Contains-filter_map : {X Y : Type 0} (f : X → Option Y) (xs : List X) (x : X) (y : Y)
     → Contains xs x
     → f x ≡ Some y
     → Contains (filter_map f xs) y
