@@ -11,3 +11,5 @@ pub mod VisitLemmas
 pub mod Calls
 pub mod Going
 pub mod SentOnes
+pub mod ClientLemmas
+pub mod NewJourney
