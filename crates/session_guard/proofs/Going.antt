@@ -95,7 +95,16 @@ stays_same old new keeps set_is entries_are sends_are zeros_are clients_are = re
         (keeps.clients number client (ap (λ (cs : List Client). slice_get cs number) (sym clients_are) ∙ found));
   };
   setup = ap (λ (s : SetState). s.setup) set_is;
+  many = ap length clients_are;
   made = λ outcomes. same_made _ _ _ _ outcomes outcomes entries_are (ap (map pass_of) clients_are) refl;
+}
+
+pub stays_twice : (old mid new : Journey) → Stays old mid → Stays mid new → Stays old new
+stays_twice old mid new one two = record {
+  keeps = two.keeps;
+  setup = two.setup ∙ one.setup;
+  many = two.many ∙ one.many;
+  made = λ outcomes. two.made outcomes ∙ one.made outcomes;
 }
 
 -- A client that is kept away.
@@ -106,6 +115,7 @@ pub kept_away : (journey : Journey) (moment pass replica : ℕ) (asked : Request
 kept_away journey moment pass replica asked lack keeps is = record {
   keeps = keeps;
   setup = refl;
+  many = refl;
   made = λ outcomes. ap (visited (setup_in journey) (made_in journey outcomes) moment pass replica asked) is;
   grows = omega arith;
 }
@@ -167,6 +177,7 @@ sends_on old new keeps state from to moment message same among goes due set_is z
       keeps = moved_keeps old new keeps state same from moment among done goes set_is zeros_are entries_are clients_are (λ number. refl) tt
           (ap (map (message_at (longer old.entries.items one))) sends_are ∙ sends_more old.entries.items one old.sends.items message refl keeps.sends);
       setup = setup_is old new keeps state same from moment among done goes set_is zeros_are;
+      many = ap length clients_are;
       made = λ outcomes.
           ap (λ (m : Message). moved (made_in old outcomes) (played_at (old.entries.items ++ entry_of old.entries.items from moment (act.Send m) ∷ []) moment)) (sym due)
           ∙ moved_made old new keeps state same from moment among done goes set_is zeros_are entries_are clients_are (λ number. refl) tt
@@ -194,6 +205,7 @@ takes_on old new keeps state number moment message same among goes named was_sen
     record {
       keeps = moved_keeps old new keeps state same message.to moment among done goes set_is zeros_are entries_are clients_are (λ number. refl) was_sent sends;
       setup = setup_is old new keeps state same message.to moment among done goes set_is zeros_are;
+      many = ap length clients_are;
       made = λ outcomes.
           ap (λ (o : Option Message). moved (made_in old outcomes) (taken (played_at old.entries.items moment) o)) named
           ∙ moved_made old new keeps state same message.to moment among done goes set_is zeros_are entries_are clients_are (λ number. refl) was_sent sends (outcomes ++ Moved ∷ []);
@@ -273,6 +285,7 @@ module _ (old new : Journey) (keeps : Keeps old) (state : SetState) (same : stat
   calls_on = record {
     keeps = call_keeps;
     setup = ap (λ (s : SetState). s.setup) set_is ∙ same;
+    many = ap length clients_are ∙ length-set old.clients.items pass after;
     made = call_made;
     grows = omega (arith, ap length entries_are, length_push old.entries.items called);
   }

@@ -13,3 +13,4 @@ pub mod Going
 pub mod SentOnes
 pub mod ClientLemmas
 pub mod NewJourney
+pub mod Roaming

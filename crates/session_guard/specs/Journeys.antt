@@ -53,6 +53,7 @@ pub record Keeps (journey : Journey) : Type 0 where
 pub record GoesOnBy (old new : Journey) (moment : ℕ) (step : Step) (outcome : Outcome) : Type 0 where
   pub keeps : Keeps new
   pub setup : setup_in new ≡ setup_in old
+  pub many : length new.clients.items ≡ length old.clients.items
   pub made : (outcomes : List Outcome) → stepped (setup_in old) (made_in old outcomes) moment step ≡ made_in new (outcomes ++ outcome ∷ [])
   pub grows : length new.entries.items ≤ length old.entries.items + 1
 
@@ -60,4 +61,5 @@ pub record GoesOnBy (old new : Journey) (moment : ℕ) (step : Step) (outcome : 
 pub record Stays (old new : Journey) : Type 0 where
   pub keeps : Keeps new
   pub setup : setup_in new ≡ setup_in old
+  pub many : length new.clients.items ≡ length old.clients.items
   pub made : (outcomes : List Outcome) → made_in new outcomes ≡ made_in old outcomes
