@@ -10,7 +10,7 @@ ghost use Rattle.session_guard.specs.Trips.{trip_of};
 
 use crate::journey::Journey;
 use crate::pass::Pass;
-use crate::steps::{Handed, Outcome, Step};
+use crate::steps::{Handed, Outcome, Step, keep};
 use run_model::{Config, Entry};
 use std::alloc::Global;
 use std::marker::Model;
@@ -71,10 +71,7 @@ impl Roam {
     {
         self.steps.reserve(1)?;
         let outcome = self.journey.step(moment, step)?;
-        self.steps.push(Handed {
-            moment,
-            step: step.copied(),
-        });
+        keep(&mut self.steps, moment, step);
         Ok(outcome)
     }
 

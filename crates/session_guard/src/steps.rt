@@ -1,7 +1,8 @@
 //! What roaming clients do, and what they are answered.
-ghost use Rattle.std.specs.Prelude.{◌≡◌};
+ghost use Rattle.std.specs.Prelude.{◌≡◌, ◌<◌, ◌∷◌, ◌++◌, []};
 
 use run_model::{Reply, Request};
+use tact_base::RoomyList;
 
 /// What a visit of a client at a replica comes to.
 #[derive(Debug, Drop, PartialEq, Eq)]
@@ -49,28 +50,28 @@ pub enum Outcome {
     Moved,
 }
 
-impl Step {
-    /// The same step. Takes no memory.
-    pub(crate) fn copied(&self) -> Step
-        ensures { result ≡ self.now }
-    {
-        match self {
-            Step::Visit {
-                pass,
-                replica,
-                request,
-            } => Step::Visit {
-                pass: *pass,
-                replica: *replica,
-                request: copied_request(request),
-            },
-            Step::Send { from, to } => Step::Send {
-                from: *from,
-                to: *to,
-            },
-            Step::Take { message } => Step::Take { message: *message },
-        }
-    }
+/// Puts a step at the end of others, with the moment that was handed to it. Takes no memory.
+pub(crate) fn keep(steps: &mut RoomyList<Handed>, moment: u64, step: &Step)
+    requires { 0 < steps.old.room }
+    ensures { steps.new.items ≡ steps.old.items ++ record { moment = moment; step = step.now } ∷ [] }
+{
+    let step = match step {
+        Step::Visit {
+            pass,
+            replica,
+            request,
+        } => Step::Visit {
+            pass: *pass,
+            replica: *replica,
+            request: copied_request(request),
+        },
+        Step::Send { from, to } => Step::Send {
+            from: *from,
+            to: *to,
+        },
+        Step::Take { message } => Step::Take { message: *message },
+    };
+    steps.push(Handed { moment, step });
 }
 
 /// The same request. Takes no memory.
