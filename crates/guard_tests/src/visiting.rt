@@ -7,6 +7,7 @@ use replica_core::{CoreFault, Replica};
 use run_model::Config;
 use session_guard::{Pass, Visit, visit};
 use std::alloc::Global;
+use std::process::Abort;
 use std::test::Fail;
 
 /// Replica 0 of two, and a pass.
@@ -33,8 +34,21 @@ impl Stop {
         Ok(visit(&mut self.replica, &mut self.pass, 5, 3, &request))
     }
 
-    fn restart(&mut self) -> Result<(), Fail> {
-        self.replica.restart(0)?;
+    /// It begins anew, as often as it may.
+    fn fill(&mut self) -> Result<(), Fail> {
+        for _ in 0..20_000 {
+            self.replica.restart(0)?;
+        }
+        Ok(())
+    }
+
+    /// It answers that it is full.
+    fn assert_full(&mut self, rt: &impl Abort) -> Result<(), Fail> {
+        let full = CoreFault::Full {
+            count: 20_000,
+            clock: 0,
+        };
+        assert_eq!(rt; self.ask(Ask::Read)?, Err(full));
         Ok(())
     }
 }
@@ -51,13 +65,6 @@ fn takes_no_memory_where_it_was_reserved(rt: HostRuntime) -> Result<(), Fail> {
 #[test]
 fn is_full_after_20_000_entries(rt: HostRuntime) -> Result<(), Fail> {
     let mut stop = Stop::new(rt.alloc())?;
-    for _ in 0..20_000 {
-        stop.restart()?;
-    }
-    let full = CoreFault::Full {
-        count: 20_000,
-        clock: 0,
-    };
-    assert_eq!(rt; stop.ask(Ask::Read)?, Err(full));
-    Ok(())
+    stop.fill()?;
+    stop.assert_full(&rt)
 }
