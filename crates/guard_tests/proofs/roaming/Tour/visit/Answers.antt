@@ -1,5 +1,9 @@
-use Rattle.std.proofs.Common.{arith}
+use Rattle.std.proofs.Common.{◌<◌, arith}
 use Rattle.guard_tests.proofs.roaming.Tour.visit.Goals as goal
 
 pub step-requires-clause-may : goal.step-requires-clause-may
-step-requires-clause-may c = (omega arith, omega arith, c.in_ok-request.ensures.in_range c.args.self.now.roam.setup, c.in_ok-request.ensures.kind)
+step-requires-clause-may g c =
+    let tour = c.args.self.now in
+    let pass : 0 < tour.roam.passes = omega arith in
+    let replica : c.args.replica < tour.roam.setup.replicas = omega arith in
+    (pass, replica, c.in_ok-request.ensures.in_range tour.roam.setup, c.in_ok-request.ensures.kind)
