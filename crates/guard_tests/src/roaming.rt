@@ -27,13 +27,7 @@ impl Tour {
     }
 
     /// The client visits a replica, with this outcome.
-    fn visit(
-        &mut self,
-        rt: &impl Abort,
-        replica: u32,
-        ask: Ask,
-        said: Visit,
-    ) -> Result<(), Fail> {
+    fn visit(&mut self, rt: &impl Abort, replica: u32, ask: Ask, said: Visit) -> Result<(), Fail> {
         assert!(rt; replica < 2);
         assert!(rt; self.roam.steps().len() < 100);
         let step = Step::Visit {
@@ -50,7 +44,10 @@ impl Tour {
         assert!(rt; from < 2 && to < 2 && from != to);
         assert!(rt; self.roam.steps().len() < 100);
         let message = self.roam.sent();
-        assert_eq!(rt; self.roam.step(2, &Step::Send { from, to })?, Outcome::Moved);
+        assert_eq!(rt;
+            self.roam.step(2, &Step::Send { from, to })?,
+            Outcome::Moved
+        );
         self.take(rt, message)
     }
 

@@ -66,9 +66,13 @@ module _ (setup : Setup) (history : List Entry) (run : IsRun setup history) wher
       let joined = Contains-from_in_order (flat_map log (replicas_of setup)) write found in
       let stands = Contains-from_flat_map log (replicas_of setup) write joined in
       let origin = stands.0 in
-      let place = stands.2 in
-      (origin, Contains-from_range setup.replicas origin stands.1, place.0, place.1,
-      IsPrefix-reads (log origin) (own (part_of history origin)) place.0 write (log_begins front replica origin prefix) place.1 ∙ place.2)
+      let place = stands.2 in (
+        origin,
+        Contains-from_range setup.replicas origin stands.1,
+        place.0,
+        place.1,
+        IsPrefix-reads (log origin) (own (part_of history origin)) place.0 write (log_begins front replica origin prefix) place.1 ∙ place.2,
+      )
 
   -- and what stands there it has seen
   pub seen_has : (front : List Entry) (replica origin k : ℕ) (write : Write)

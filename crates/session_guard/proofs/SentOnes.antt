@@ -51,9 +51,10 @@ sent_one history sends number are below = go (sent_in history) refl
   where
     go : (messages : List Message) → messages ≡ sent_in history → (message : Message) × IsSentOne history sends number message
     go [] is = absurd (omega (arith, below, ap length is))
-    go (first ∷ rest) is =
-        (get_or (first ∷ rest) number first,
-        sent_one_of history sends (first ∷ rest) number first (are ∙ ap (map Some) (sym is)) is (omega (arith, below, ap length is)))
+    go (first ∷ rest) is = (
+      get_or (first ∷ rest) number first,
+      sent_one_of history sends (first ∷ rest) number first (are ∙ ap (map Some) (sym is)) is (omega (arith, below, ap length is)),
+    )
 
 -- an act that sends a message
 act_sends : (done : Act) (message : Message) → sent_by_act done ≡ Some message → done ≡ act.Send message

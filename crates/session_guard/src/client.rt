@@ -18,7 +18,6 @@ pub(crate) struct Client {
 }
 
 impl Client {
-
     /// A client that did nothing, among `n` replicas.
     pub(crate) fn new(alloc: Global, n: u32) -> Result<Client, NoMemory>
         requires some { REPLICAS_MIN ≤ n }

@@ -72,9 +72,7 @@ impl Journey {
                 pass,
                 replica,
                 request,
-            } => Ok(Outcome::Visited(
-                self.visit(moment, *pass, *replica, request)?,
-            )),
+            } => Ok(Outcome::Visited(self.visit(moment, *pass, *replica, request)?)),
             Step::Send { from, to } => {
                 self.send(moment, *from, *to)?;
                 Ok(Outcome::Moved)

@@ -9,11 +9,7 @@ use tact_base::RoomyList;
 pub enum Visit {
     /// The replica lacks writes that the client has read of, or made: of the origin, the least one, it has so many, and
     /// more are wanted. Nothing was asked.
-    Behind {
-        origin: u32,
-        have: u64,
-        wanted: u64,
-    },
+    Behind { origin: u32, have: u64, wanted: u64 },
     /// The replica answered.
     Answered(Reply),
 }
