@@ -4,3 +4,7 @@ pub mod EntryPieces
 pub mod SpelledBytes
 pub mod PieceLaws
 pub mod Putting
+pub mod PieceLists
+pub mod Journals
+pub mod Following
+pub mod Reading
