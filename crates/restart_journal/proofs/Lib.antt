@@ -8,3 +8,5 @@ pub mod PieceLists
 pub mod Journals
 pub mod Following
 pub mod Reading
+pub mod Ending
+pub mod DueReplies

@@ -17,7 +17,7 @@ use Rattle.restart_journal.specs.Recovery.{IsBadAfter, IsJournalOf, IsForeignAt,
 use Rattle.restart_journal.specs.Steps.{IsInStep, HasStored, HasRead}
 use Rattle.restart_journal.proofs.PieceLists.{take_one_more, ends_before}
 
-abbrev CanBeSpelled : Entry → Type 0
+abbrev pub CanBeSpelled : Entry → Type 0
 CanBeSpelled entry = IsSpellable entry.act
 
 -- ---- each stored entry has a piece

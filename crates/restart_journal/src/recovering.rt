@@ -2,6 +2,7 @@
 
 ghost use Rattle.std.specs.Prelude.{◌≡◌, ◌≢◌, ℕ, ◌<◌, ◌≤◌, List, All, IsTrue, IfOk, IsErrOf, IsOkUnless, Err};
 ghost use Rattle.tact_io.specs.Faults.{HasRisen};
+ghost use Rattle.tact_base.specs.Setup.{IsSetup};
 ghost use Rattle.run_model.specs.declared.entry.Entry.{Entry};
 ghost use Rattle.replica_core.specs.Stands.{Stands};
 ghost use Rattle.restart_journal.specs.declared.fault.RecoverFault.TheVariants as fault;
@@ -67,7 +68,8 @@ fn read_all<J: Journal>(
     replica: u32,
     journal: &mut J,
 ) -> Result<Recovered, RecoverFault>
-    requires { replica < config.now.replicas }
+    requires replica { replica < config.now.replicas }
+    requires sound { IsSetup config.now }
     ensures setup { IfOk result (λ made. made.replica.core.setup ≡ config.now) }
     ensures replica { IfOk result (λ made. made.replica.core.replica ≡ replica) }
     ensures stands { IfOk result (λ made. Stands made.stored made.replica.core) }

@@ -1,6 +1,7 @@
 use Rattle.std.proofs.Common.{arith, sym, ap₂, ◌∙◌}
-use Rattle.std.proofs.lemmas.Result.{on_ok_weaker, if_err_weaker}
+use Rattle.std.proofs.lemmas.Result.{on_ok_weaker, IfErr-weaker}
 use Rattle.restart_journal.specs.PieceAt.{piece_in}
+use Rattle.restart_journal.specs.Steps.{IsNoneTold, IsNoneRead}
 use Rattle.restart_journal.proofs.Following.{unread_is_none, can_follow, none_is_read, has_read}
 use Rattle.restart_journal.proofs.recovered.Recovered.read.Goals as goal
 
@@ -24,6 +25,6 @@ returns-clause-ok c =
 pub returns-clause-err : goal.returns-clause-err
 returns-clause-err c =
     let read = ap₂ (λ r k. piece_in r k c.args.bytes.now) (sym c.replicas.ensures.count) (sym c.conits.ensures.count) ∙ sym c.in_ok-piece.ensures ∙ c.in-Some.is in
-    if_err_weaker c.follow.result
+    IfErr-weaker c.follow.result (IsNoneTold c.args.self.now c.in-Some.piece) (IsNoneRead c.args.self.now c.args.bytes.now)
     (none_is_read c.args.config.now c.replicas.ensures.sound c.args.bytes.now (λ i. omega (arith, c.type_inv.bytes i)) c.args.self.now c.requires.setup c.in-Some.piece read)
     c.follow.ensures.err
