@@ -48,9 +48,9 @@ module _ (made : Recovered) (piece : Piece) where
     pub full_is_none : is_full made.replica.core ≡ true → IsNoneTold made piece step.Foreign
     full_is_none full entry told may =
         let not_full : is_full made.replica.core ≡ false =
-            ap₂ (λ x y. x || y)
-            (lt-leb HISTORY_MAX made.replica.core.counts.count (omega (arith, may.1.room, stands.counts.count)))
-            (lt-leb STAMP_MAX made.replica.core.writes.clock (omega (arith, stands.writes.clock, may.1.clock_below))) in
+        ap₂ (λ x y. x || y)
+        (lt-leb HISTORY_MAX made.replica.core.counts.count (omega (arith, may.1.room, stands.counts.count)))
+        (lt-leb STAMP_MAX made.replica.core.writes.clock (omega (arith, stands.writes.clock, may.1.clock_below))) in
         false≢true (sym not_full ∙ full)
 
     pub fault_is_none : (fault : CoreFault) → IsFaultOf made.replica.core fault → IsNoneTold made piece (step_of fault)
@@ -78,13 +78,12 @@ module _ (old new : Recovered) (stands : IsInStep old) (replica moment : ℕ) (i
     (done : Act) (acts : List Entry → Act) (acted : acts old.stored ≡ done)
     (goes_on : GoesOn old.replica.core new.replica.core moment acts) (same : IsSameReplica old.replica.core new.replica.core)
     (stored : new.stored ≡ old.stored ++ entry_with replica moment done ∷ []) where
-
   has_stored : HasStored old new (entry_with replica moment done)
   has_stored =
       let at : moment_at old.stored moment ≡ moment = omega (arith, in_time) in
       let entry : entry_with old.replica.core.replica (moment_at old.stored moment) (acts old.stored) ≡ entry_with replica moment done = cc in
       let grown : old.stored ++ entry_with old.replica.core.replica (moment_at old.stored moment) (acts old.stored) ∷ [] ≡ new.stored =
-          ap (λ e. old.stored ++ e ∷ []) entry ∙ sym stored in
+      ap (λ e. old.stored ++ e ∷ []) entry ∙ sym stored in
       record {
         stored = stored;
         stands = subst (λ part. Stands part new.replica.core) grown (goes_on old.stored stands);
@@ -108,14 +107,13 @@ module _ (old mid new : Recovered) (stands : IsInStep old) (replica moment : ℕ
     (goes_on : GoesOn old.replica.core mid.replica.core moment acts) (same : IsSameReplica old.replica.core mid.replica.core)
     (kept : mid.stored ≡ old.stored) (there : new.replica ≡ mid.replica) (told : Told) (so : told_of done ≡ told)
     (result : Result (Unit {0}) StepFault) where
-
   pub made_and_put : OnOk result (new.stored ≡ mid.stored ++ entry_with replica moment done ∷ []) → OnOk result (HasFollowed old new (a_piece replica moment told))
   made_and_put stored =
       on_ok_weaker result
       (λ put. has_followed old new stands replica moment is in_time done acts acted
-          (subst (λ (r : ReplicaState). GoesOn old.replica.core r.core moment acts) (sym there) goes_on)
-          (subst (λ (r : ReplicaState). IsSameReplica old.replica.core r.core) (sym there) same)
-          (put ∙ ap (λ front. front ++ entry_with replica moment done ∷ []) kept) told so)
+      (subst (λ (r : ReplicaState). GoesOn old.replica.core r.core moment acts) (sym there) goes_on)
+      (subst (λ (r : ReplicaState). IsSameReplica old.replica.core r.core) (sym there) same)
+      (put ∙ ap (λ front. front ++ entry_with replica moment done ∷ []) kept) told so)
       stored
 
 -- ---- a piece is read

@@ -47,8 +47,8 @@ module _ (setup : Setup) (good : IsSetup setup) (replica : ℕ) where
       let can_x = All-head CanBeSpelled x xs can_a in
       let can_y = All-head CanBeSpelled y ys can_b in
       let one : x ≡ y =
-          one_entry setup front (piece_bytes x) x y (piece_is_bytes setup good x may_x.1.in_range can_x) good
-          (record { spelled = refl; spellable = can_x }) (record { spelled = heads.0; spellable = can_y }) may_x.1 may_y.1 in
+      one_entry setup front (piece_bytes x) x y (piece_is_bytes setup good x may_x.1.in_range can_x) good
+      (record { spelled = refl; spellable = can_x }) (record { spelled = heads.0; spellable = can_y }) may_x.1 may_y.1 in
       let next_x = subst (IsPart setup replica) (sym (append_assoc front (x ∷ []) xs)) part_a in
       let next_y = subst (λ z. IsPart setup replica ((front ++ z ∷ []) ++ ys)) (sym one) (subst (IsPart setup replica) (sym (append_assoc front (y ∷ []) ys)) part_b) in
       let others : xs ≡ ys = same_rest (front ++ x ∷ []) xs ys next_x next_y (All-tail CanBeSpelled x xs can_a) (All-tail CanBeSpelled y ys can_b) heads.1 in

@@ -174,7 +174,7 @@ module _ (setup : Setup) (good : IsSetup setup) where
     told origin =
         let of = told_writes message origin in
         let few : length of ≤ 64 =
-            omega (arith, length-filter (λ (write : Write). write.origin == origin) message.writes, count_by-le-length (λ (write : Write). write.origin == origin) message.writes, within.few) in
+        omega (arith, length-filter (λ (write : Write). write.origin == origin) message.writes, count_by-le-length (λ (write : Write). write.origin == origin) message.writes, within.few) in
         let is = told_of message origin in
         let count = is.count ∷ [] in
         let first = number_bytes is.first ++ count in

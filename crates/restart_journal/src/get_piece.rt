@@ -23,7 +23,11 @@ pub(crate) fn piece_in(
     ensures { IfOk result (λ found. found ≡ piece_in counts.replicas counts.conits bytes.now) }
 {
     match piece_at(alloc, counts, bytes) {
-        Ok((piece, end)) => Ok(if end == bytes.len() { Some(piece) } else { None }),
+        Ok((piece, end)) => Ok(if end == bytes.len() {
+            Some(piece)
+        } else {
+            None
+        }),
         Err(PartFault::Field(_)) => Ok(None),
         Err(PartFault::NoMemory) => Err(NoMemory),
     }

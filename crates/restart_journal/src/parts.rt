@@ -5,9 +5,7 @@ use run_record::ShortAct;
 #[derive(Debug, Drop)]
 pub(crate) enum Told {
     /// The replica took this message.
-    Take {
-        message: Message,
-    },
+    Take { message: Message },
     /// Any other act, as a record has it: of a sent message its receiver, its number and its firsts.
     Step(ShortAct),
 }

@@ -64,7 +64,12 @@ fn append_fields(entry: &Entry, out: &mut Bytes) -> Result<(), NoMemory>
             request,
             reply,
         } => append_call(*client, *number, request, reply, out),
-        Act::Send { message } => append_send(message.to, message.number, message.firsts.items(), out),
+        Act::Send { message } => append_send(
+            message.to,
+            message.number,
+            message.firsts.items(),
+            out,
+        ),
         Act::Take { message } => encode(message, out),
         Act::Lend { to, conit, amount } => append_loan(*to, *conit, *amount, out),
         Act::Back {

@@ -35,11 +35,7 @@ impl Recovered {
     ghost use Rattle.restart_journal.specs.Steps.{IsInStep, HasStored, HasFollowed, HasRead, IsNoneTold, IsNoneRead};
 
     // The replica of this number of a setup, which made no entry.
-    pub(crate) fn new(
-        alloc: Global,
-        config: &Config,
-        replica: u32,
-    ) -> Result<Recovered, NoMemory>
+    pub(crate) fn new(alloc: Global, config: &Config, replica: u32) -> Result<Recovered, NoMemory>
         requires { replica < config.now.replicas }
         ensures setup { IfOk result (λ made. made.replica.core.setup ≡ config.now) }
         ensures replica { IfOk result (λ made. made.replica.core.replica ≡ replica) }

@@ -37,7 +37,7 @@ returns-in_default-clause-told g c =
     let inv = c.loop-place.invariant in
     λ tells.
     let there : None ≡ slice_get (g.J.Journal.pieces c.args.journal.now) c.loop-place.place =
-        sym c.in_default.is ∙ c.in_ok-piece.ensures.found tells ∙ ap (λ ps. slice_get ps c.loop-place.place) (inv.stays tells) in
+    sym c.in_default.is ∙ c.in_ok-piece.ensures.found tells ∙ ap (λ ps. slice_get ps c.loop-place.place) (inv.stays tells) in
     whole_journal c.args.config.now c.args.replica c.loop-place.made inv.setup inv.replica inv.in_step inv.spellable (g.J.Journal.pieces c.args.journal.now) c.loop-place.place (inv.spelled tells) there
 
 pub returns-in-Err-Foreign-clause-told : goal.returns-in-Err-Foreign-clause-told
@@ -45,7 +45,7 @@ returns-in-Err-Foreign-clause-told g c =
     let inv = c.loop-place.invariant in
     λ tells.
     let there : Some c.in-Some.piece ≡ slice_get (g.J.Journal.pieces c.args.journal.now) c.loop-place.place =
-        sym c.in-Some.is ∙ c.in_ok-piece.ensures.found tells ∙ ap (λ ps. slice_get ps c.loop-place.place) (inv.stays tells) in
+    sym c.in-Some.is ∙ c.in_ok-piece.ensures.found tells ∙ ap (λ ps. slice_get ps c.loop-place.place) (inv.stays tells) in
     let none = rw c.in-Err-Foreign.field-0-is at c.in-Err-Foreign.ensures.err in
     let bad = subst (IsBadAfter c.loop-place.made.replica.core.setup c.loop-place.made.replica.core.replica c.loop-place.made.stored) c.items.ensures none in
     foreign_there c.args.config.now c.args.replica c.loop-place.made inv.setup inv.replica inv.in_step inv.spellable (g.J.Journal.pieces c.args.journal.now) c.loop-place.place c.in-Some.piece
@@ -87,7 +87,7 @@ returns-in-None-clause-told g c =
     λ tells.
     let so_far = subst (λ (n : ℕ). take n (g.J.Journal.pieces c.args.journal.now) ≡ map piece_bytes c.loop-place.made.stored) end (inv.spelled tells) in
     let there : None ≡ slice_get (g.J.Journal.pieces c.args.journal.now) HISTORY_MAX =
-        sym c.in-None.is ∙ c.in_ok-read.ensures.found tells ∙ ap (λ ps. slice_get ps HISTORY_MAX) (inv.stays tells) in
+    sym c.in-None.is ∙ c.in_ok-read.ensures.found tells ∙ ap (λ ps. slice_get ps HISTORY_MAX) (inv.stays tells) in
     whole_journal c.args.config.now c.args.replica c.loop-place.made inv.setup inv.replica inv.in_step inv.spellable (g.J.Journal.pieces c.args.journal.now) HISTORY_MAX so_far there
 
 pub returns-in-Some-2-clause-told : goal.returns-in-Some-2-clause-told
@@ -97,5 +97,5 @@ returns-in-Some-2-clause-told g c =
     λ tells.
     let so_far = subst (λ (n : ℕ). take n (g.J.Journal.pieces c.args.journal.now) ≡ map piece_bytes c.loop-place.made.stored) end (inv.spelled tells) in
     let there : Some c.in-Some-2.field-0 ≡ slice_get (g.J.Journal.pieces c.args.journal.now) HISTORY_MAX =
-        sym c.in-Some-2.is ∙ c.in_ok-read.ensures.found tells ∙ ap (λ ps. slice_get ps HISTORY_MAX) (inv.stays tells) in
+    sym c.in-Some-2.is ∙ c.in_ok-read.ensures.found tells ∙ ap (λ ps. slice_get ps HISTORY_MAX) (inv.stays tells) in
     full_there c.args.config.now c.args.replica c.loop-place.made inv.setup inv.replica inv.in_step inv.spellable (g.J.Journal.pieces c.args.journal.now) c.in-Some-2.field-0 so_far there

@@ -15,7 +15,7 @@ call-requires-clause-in_range c = request_in_range c.args.self.now.replica.core.
 pub returns-clause-ok : goal.returns-clause-ok
 returns-clause-ok c =
     let calls : calls_in c.args.self.now.stored c.args.client ≡ c.args.number =
-        sym (c.if-number-calls.false ∙ c.calls.ensures ∙ c.requires.in_step.counts.calls c.args.client c.requires.act.0) in
+    sym (c.if-number-calls.false ∙ c.calls.ensures ∙ c.requires.in_step.counts.calls c.args.client c.requires.act.0) in
     let reply : c.in_ok-due.due ≡ c.args.reply = sym (c.are_same_replies.ensures.0 c.if-not-are_same_replies.false) in
     let acts = λ (part : List Entry). act.Call c.args.client (calls_in part c.args.client) c.args.request c.in_ok-due.due in
     made_and_put c.args.self.now (record c.args.self.now { replica = c.call.new.self }) c.store.new.self c.requires.in_step c.args.replica c.args.moment c.requires.replica c.requires.in_time

@@ -12,7 +12,7 @@ returns-clause-ok c =
     let due = c.in_ok-message.ensures.due c.args.self.now.stored c.requires.in_step in
     let to : message.to ≡ c.args.to = ap (λ (m : Message). m.to) due in
     let firsts : message.firsts ≡ c.args.firsts =
-        sym c.items.ensures ∙ c.are_same.ensures.0 c.if-not-are_same.false ∙ c.items-else-message-number.ensures in
+    sym c.items.ensures ∙ c.are_same.ensures.0 c.if-not-are_same.false ∙ c.items-else-message-number.ensures in
     made_and_put c.args.self.now (record c.args.self.now { replica = c.send.new.self }) c.store.new.self c.requires.in_step c.args.replica c.args.moment c.requires.replica c.requires.in_time
     (act.Send message) (λ part. act.Send message) refl
     c.in_ok-message.ensures.goes_on c.in_ok-message.ensures.same refl c.store.ensures.same
