@@ -1,6 +1,6 @@
 -- A client that lacks nothing is answered by a replica, and goes on.
-use Rattle.std.proofs.Common.{◌≡◌, ℕ, zero, suc, ℤ, nat_lt, ◌+◌, ◌<◌, ◌≤◌, ◌==◌, ◌&&◌, ◌-◌, max, Bool, true, false, cond, List, [], ◌∷◌, ◌++◌, length, get_or, map, set, take, Option, None, Some, refl, sym, ap, ap₂, ◌∙◌, subst, subst₂, ⊎_elim, get_or-set_same, arith}
-use Rattle.std.specs.List.{find, range_with_len, slice_get}
+use Rattle.std.proofs.Common.{◌≡◌, ℕ, zero, suc, ℤ, nat_lt, ◌+◌, ◌<◌, ◌≤◌, ◌&&◌, ◌-◌, Bool, true, false, cond, List, [], ◌∷◌, ◌++◌, length, get_or, set, take, Option, None, Some, refl, sym, ap, ap₂, ◌∙◌, subst₂, ⊎_elim, get_or-set_same, arith}
+use Rattle.std.specs.List.{find, range_with_len}
 use Rattle.std.specs.Option.{option_map}
 use Rattle.std.proofs.Math.Seq.{take-append_seam}
 use Rattle.std.proofs.lemmas.Bool.{cases_eq, eq-eqb, ltb-false}
@@ -12,9 +12,9 @@ use Rattle.tact_base.specs.declared.conit_list.Weight.{Weight}
 use Rattle.tact_base.specs.declared.write.Op.{Op}
 use Rattle.tact_base.specs.declared.write.Write.{Write}
 use Rattle.run_model.specs.Histories.{part_of}
-use Rattle.run_model.specs.OwnWrites.{accepted_as, accepted_by, asked_write, own}
+use Rattle.run_model.specs.OwnWrites.{accepted_as, asked_write}
 use Rattle.run_model.specs.Runs.{IsDue, IsRun}
-use Rattle.run_model.specs.Taking.{have, log_of}
+use Rattle.run_model.specs.Taking.{have}
 use Rattle.run_model.specs.declared.call.Reply.{Reply}
 use Rattle.run_model.specs.declared.call.Reply.TheVariants as reply
 use Rattle.run_model.specs.declared.call.Request.{Request}
@@ -28,7 +28,7 @@ use Rattle.session_guard.proofs.TripLemmas.{trip_of-same, trip_of-stop}
 use Rattle.session_guard.specs.Carried.{IsCarried}
 use Rattle.session_guard.specs.Journeys.{IsClient}
 use Rattle.session_guard.specs.Passes.{PassState, haves_of, lack_of, pass_after, wanted}
-use Rattle.session_guard.specs.Trips.{is_granted, is_stop, trip_of}
+use Rattle.session_guard.specs.Trips.{is_granted, is_stop}
 use Rattle.session_guard.specs.Visits.{IsWriteOrRead}
 use Rattle.session_guard.specs.declared.client.Client.{Client}
 use Rattle.session_guard.specs.declared.steps.Visit.TheVariants as visit

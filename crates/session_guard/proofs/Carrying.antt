@@ -1,8 +1,8 @@
 -- What a pass says of a trip, when the history grows.
-use Rattle.std.proofs.Common.{◌≡◌, ℕ, ◌+◌, ◌<◌, ◌≤◌, max, List, [], ◌∷◌, ◌++◌, length, get_or, map, set, All, Some, refl, sym, ap, ◌∙◌, subst, ⊎_elim, get_or-set_same, get_or-set_other, arith}
+use Rattle.std.proofs.Common.{◌≡◌, ℕ, ◌<◌, ◌≤◌, max, List, [], ◌∷◌, ◌++◌, length, get_or, map, set, All, Some, ap, ◌∙◌, ⊎_elim, get_or-set_same, get_or-set_other, arith}
 use Rattle.std.specs.List.{range_with_len}
 use Rattle.std.proofs.lemmas.Bool.{cases_eq}
-use Rattle.std.proofs.lemmas.List.{length-map, length-set, length_push}
+use Rattle.std.proofs.lemmas.List.{length-map, length_push}
 use Rattle.std.proofs.lemmas.List.Elements.{All-nil, All-push}
 use Rattle.std.proofs.lemmas.List.FromFn.{length-range_with_len}
 use Rattle.std.proofs.lemmas.List.{length-replicate}
@@ -14,13 +14,12 @@ use Rattle.run_model.specs.Histories.{part_of}
 use Rattle.run_model.specs.OwnWrites.{accepted_by}
 use Rattle.run_model.specs.Runs.{IsDue, IsRun}
 use Rattle.run_model.specs.Taking.{have}
-use Rattle.run_model.specs.declared.call.Reply.TheVariants as reply
 use Rattle.run_model.specs.declared.entry.Entry.{Entry}
 use Rattle.session_guard.proofs.Guarding.{IsGuarded-same, IsGuarded-stop}
 use Rattle.session_guard.proofs.Positions.{ReadsAt-last, ReadsAt-same, WritesAt-last, WritesAt-same, have_before-last, have_before-same, longer}
 use Rattle.session_guard.specs.Carried.{IsCarried}
 use Rattle.session_guard.specs.Guards.{IsRead, ReadsAt, ReadsMonotonically, ReadsYourWrites, WritesAt, WritesFollowReads, WritesMonotonically}
-use Rattle.session_guard.specs.Passes.{IsPass, PassState, fresh_pass, haves_of, pass_after, wanted}
+use Rattle.session_guard.specs.Passes.{IsPass, PassState, fresh_pass, wanted}
 use Rattle.session_guard.specs.Positions.{have_before}
 
 -- what a pass says of a position, with numbers that are not less

@@ -1,10 +1,9 @@
 -- A client that stops, and goes on.
-use Rattle.std.proofs.Common.{◌≡◌, ℕ, ◌<◌, ◌-◌, Bool, cond, List, [], ◌∷◌, ◌++◌, length, get_or, set, take, Some, refl, sym, ap, ◌∙◌, arith}
+use Rattle.std.proofs.Common.{◌≡◌, ℕ, ◌<◌, ◌-◌, List, [], ◌∷◌, ◌++◌, length, get_or, set, take, Some, refl, ap, ◌∙◌, arith}
 use Rattle.std.specs.List.{slice_get}
 use Rattle.std.proofs.Math.Seq.{take-append_seam}
 use Rattle.std.proofs.lemmas.List.{length_push, set-get_or}
 use Rattle.std.proofs.lemmas.Option.{slice_get_read}
-use Rattle.session_guard.specs.Passes.{PassState}
 use Rattle.session_guard.specs.declared.client.Client.{Client}
 
 -- a client at its place

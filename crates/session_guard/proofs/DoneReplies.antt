@@ -1,8 +1,8 @@
 -- A write that a replica accepts has as index how many it accepted before.
-use Rattle.std.proofs.Common.{◌≡◌, ℕ, ◌+◌, ◌<◌, ◌≤◌, ◌^◌, List, [], length, Option, None, Some, unwrap_or, refl, sym, ap, ◌∙◌, subst, arith}
+use Rattle.std.proofs.Common.{◌≡◌, ℕ, List, length, Option, None, Some, unwrap_or, refl, sym, ap, ◌∙◌, arith}
 use Rattle.std.specs.Option.{option_map}
 use Rattle.tact_base.proofs.ListLemmas.{length-filter_map}
-use Rattle.tact_base.specs.Admission.{Hindrance, hindrance, lent as too_much_lent, stale, unordered}
+use Rattle.tact_base.specs.Admission.{Hindrance, lent as too_much_lent, stale, unordered}
 use Rattle.tact_base.specs.Setup.{Setup}
 use Rattle.tact_base.specs.declared.conit_list.Need.{Need}
 use Rattle.tact_base.specs.declared.write.Write.{Write}

@@ -1,14 +1,13 @@
 -- A journey goes on by a step.
-use Rattle.std.proofs.Common.{◌≡◌, ℕ, ◌+◌, ◌<◌, ◌≤◌, ◌==◌, ◌&&◌, ◌-◌, Bool, true, false, cond, List, [], ◌∷◌, ◌++◌, length, get_or, map, set, take, Contains, Option, None, Some, refl, sym, ap, ap₂, ◌∙◌, subst, subst₂, arith}
+use Rattle.std.proofs.Common.{◌≡◌, ℕ, ◌+◌, ◌<◌, ◌≤◌, ◌&&◌, ◌-◌, Bool, false, cond, List, [], ◌∷◌, ◌++◌, length, get_or, map, set, take, Contains, Option, None, Some, refl, sym, ap, ap₂, ◌∙◌, subst, subst₂, arith}
 use Rattle.std.specs.List.{slice_get}
 use Rattle.std.proofs.lemmas.Bool.{ne_eqb}
-use Rattle.std.proofs.lemmas.List.{get_or-map, length-map, length-set, length_push, map-set}
-use Rattle.std.proofs.lemmas.List.FromFn.{length-range_with_len}
+use Rattle.std.proofs.lemmas.List.{get_or-map, length-set, length_push, map-set}
 use Rattle.std.proofs.lemmas.Option.{get_or_from_slice_get, slice_get_within}
 use Rattle.tact_base.proofs.ListLemmas.{get_or-map_range, map_range_agree}
 use Rattle.tact_base.specs.Setup.{IsSetup, Setup, replicas_of}
 use Rattle.tact_base.specs.declared.write.Write.{Write}
-use Rattle.run_model.specs.Histories.{calls_in, moment_at, part_of, sent_by_act, sent_in}
+use Rattle.run_model.specs.Histories.{calls_in, moment_at, part_of, sent_in}
 use Rattle.run_model.specs.Messages.{message_of}
 use Rattle.run_model.specs.Replies.{reply_of}
 use Rattle.run_model.specs.Runs.{IsRun, WasSent}

@@ -1,10 +1,10 @@
 -- An entry that the replicas of a journey made is kept, and the journey goes on.
-use Rattle.std.proofs.Common.{◌≡◌, ℕ, ◌+◌, ◌<◌, ◌≤◌, ◌==◌, ◌&&◌, ◌||◌, Bool, true, false, nat_le, max, List, [], ◌∷◌, ◌++◌, length, get_or, map, set, Contains, Option, None, Some, refl, sym, ap, ap₂, ◌∙◌, subst, subst₂, ⊎_elim, arith}
+use Rattle.std.proofs.Common.{◌≡◌, ℕ, ◌<◌, ◌||◌, Bool, false, List, [], ◌∷◌, ◌++◌, length, map, Option, None, Some, refl, sym, ap, ap₂, ◌∙◌, subst, subst₂, arith}
 use Rattle.std.specs.List.{slice_get}
 use Rattle.std.specs.Option.{option_and_then}
-use Rattle.std.proofs.lemmas.Bool.{cases_eq, cases_lt, eq-eqb, lt-leb, ne_eqb}
-use Rattle.std.proofs.lemmas.List.{length-map, length-set, length_push, map-set, map_push}
-use Rattle.std.proofs.lemmas.Option.{get_or_from_slice_get, slice_get-get_or, slice_get_within}
+use Rattle.std.proofs.lemmas.Bool.{lt-leb}
+use Rattle.std.proofs.lemmas.List.{map_push}
+use Rattle.std.proofs.lemmas.Option.{slice_get_within}
 use Rattle.tact_base.specs.Setup.{IsSetup, Setup}
 use Rattle.tact_base.specs.declared.limits.TheConstants.{HISTORY_MAX, STAMP_MAX}
 use Rattle.run_model.specs.Histories.{part_of, sent_by_act, sent_in}
@@ -16,17 +16,16 @@ use Rattle.run_model.specs.declared.entry.Message.{Message}
 use Rattle.run_model.proofs.ClockBound.{clock-run}
 use Rattle.run_model.proofs.PartLemmas.{length-mine, sent_in-push_none, sent_in-push_some}
 use Rattle.replica_core.specs.States.{Core, is_full}
-use Rattle.replica_core.specs.Stands.{IsFaultOf, Stands}
+use Rattle.replica_core.specs.Stands.{IsFaultOf}
 use Rattle.replica_core.specs.declared.fault.CoreFault.{CoreFault}
 use Rattle.replica_core.specs.declared.fault.CoreFault.TheVariants as fault
 use Rattle.replica_set.specs.Sets.{IsAt, SetState, StandsFor}
-use Rattle.replica_set.proofs.OneReplica.{set_cases}
 use Rattle.replica_set.proofs.StandingRuns.{last_is_due, run_goes_on}
 use Rattle.session_guard.proofs.Carrying.{IsNoLess-refl, carried_on}
 use Rattle.session_guard.proofs.Positions.{last_entry, longer, same_entry}
 use Rattle.session_guard.proofs.TripLemmas.{trip_of-same}
 use Rattle.session_guard.specs.Journeys.{IsClient, Keeps, message_at, setup_in}
-use Rattle.session_guard.specs.Trips.{is_stop, trip_of}
+use Rattle.session_guard.specs.Trips.{is_stop}
 use Rattle.session_guard.specs.declared.client.Client.{Client}
 use Rattle.session_guard.specs.declared.journey.Journey.{Journey}
 use Rattle.session_guard.specs.declared.roam.TheConstants.{STEPS_MAX}

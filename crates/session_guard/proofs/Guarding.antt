@@ -1,7 +1,7 @@
 -- A replica that has as many writes as a pass asks for: with a stop there the trip stays guarded.
-use Rattle.std.proofs.Common.{◌≡◌, ℕ, ◌+◌, ◌<◌, ◌≤◌, max, List, [], ◌∷◌, ◌++◌, length, get_or, All, AllPairs, Contains, Option, None, Some, refl, sym, ap, ◌∙◌, subst, arith}
+use Rattle.std.proofs.Common.{◌≡◌, ℕ, ◌<◌, ◌≤◌, List, [], ◌∷◌, ◌++◌, length, get_or, All, AllPairs, Contains, Option, None, Some, refl, sym, subst, arith}
 use Rattle.std.specs.List.{slice_get}
-use Rattle.std.specs.Option.{IsSomeAnd, option_map_or}
+use Rattle.std.specs.Option.{option_map_or}
 use Rattle.std.proofs.lemmas.List.Quantifiers.{all_pairs_push}
 use Rattle.std.proofs.Math.ListN.{take}
 use Rattle.tact_base.proofs.ElementLemmas.{Contains-none}
@@ -9,18 +9,16 @@ use Rattle.tact_base.specs.Setup.{Setup}
 use Rattle.tact_base.specs.declared.write.Write.{Write}
 use Rattle.run_model.specs.Histories.{part_of}
 use Rattle.run_model.specs.Order.{seen}
-use Rattle.run_model.specs.OwnWrites.{accepted_by}
 use Rattle.run_model.specs.Runs.{IsDue, IsRun}
-use Rattle.run_model.specs.Taking.{clock, have}
+use Rattle.run_model.specs.Taking.{have}
 use Rattle.run_model.specs.declared.entry.Entry.{Entry}
 use Rattle.run_model.proofs.Accepted.{accepted_is_next}
 use Rattle.run_model.proofs.PrefixLemmas.{IsPrefix-refl, IsPrefix-take}
-use Rattle.session_guard.proofs.Positions.{ReadsAt-last, ReadsAt-same, WritesAt-last, WritesAt-same, entry_written, longer, seen_before-last, seen_before-same}
+use Rattle.session_guard.proofs.Positions.{ReadsAt-same, WritesAt-last, WritesAt-same, entry_written, longer, seen_before-last, seen_before-same}
 use Rattle.session_guard.proofs.SeenWrites.{accepted_stands, seen_has, seen_stamps, seen_stands}
 use Rattle.session_guard.specs.Carried.{IsCarried}
-use Rattle.session_guard.specs.Guards.{IsGuarded, IsRead, ReadsAt, ReadsMonotonically, ReadsYourWrites, WritesAt, WritesFollowReads, WritesMonotonically, seen_before}
+use Rattle.session_guard.specs.Guards.{IsGuarded, ReadsAt, ReadsMonotonically, ReadsYourWrites, WritesAt, WritesFollowReads, WritesMonotonically, seen_before}
 use Rattle.session_guard.specs.Passes.{PassState, wanted}
-use Rattle.session_guard.specs.Positions.{have_before}
 
 -- every two positions of a trip keep what they kept, when the history grows
 module _ (setup : Setup) (history : List Entry) (entry : Entry) (trip : List ℕ) (within : All (λ position. position < length history) trip) where

@@ -1,5 +1,5 @@
 -- What is kept of roaming clients is what their steps made, so their entries are a run and their trips are guarded.
-use Rattle.std.proofs.Common.{◌≡◌, ℕ, ◌+◌, ◌<◌, ◌≤◌, List, [], ◌∷◌, ◌++◌, length, get_or, map, Some, refl, sym, ap, ap₂, ◌∙◌, subst, subst₂, arith}
+use Rattle.std.proofs.Common.{◌≡◌, ℕ, ◌<◌, List, [], ◌∷◌, ◌++◌, length, get_or, Some, sym, ap, ap₂, ◌∙◌, subst, subst₂, arith}
 use Rattle.std.specs.List.{slice_get}
 use Rattle.std.proofs.lemmas.List.{length-map, length_push}
 use Rattle.std.proofs.lemmas.Option.{slice_get-get_or}
@@ -12,8 +12,7 @@ use Rattle.run_model.specs.declared.entry.Entry.{Entry}
 use Rattle.run_promises.proofs.Kept.{IsKept-run}
 use Rattle.session_guard.proofs.Going.{pass_there}
 use Rattle.session_guard.specs.Guards.{IsGuarded}
-use Rattle.session_guard.specs.Journeys.{GoesOnBy, IsClient, Keeps, Stays, made_in, setup_in}
-use Rattle.session_guard.specs.Passes.{PassState}
+use Rattle.session_guard.specs.Journeys.{GoesOnBy, Keeps, Stays, made_in, setup_in}
 use Rattle.session_guard.specs.Roaming.{Roamed, after_step, not_roamed, pass_at, roamed, stepped}
 use Rattle.session_guard.specs.Roams.{AreAllGuarded, HasRoamed, RoamState, entries_of, roamed_by, with_step}
 use Rattle.session_guard.specs.Trips.{trip_of}

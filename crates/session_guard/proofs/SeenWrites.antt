@@ -1,5 +1,5 @@
 -- The writes that a replica has seen in a run: of each origin the first that it accepted, as many as the replica has.
-use Rattle.std.proofs.Common.{◌≡◌, ℕ, ◌+◌, ◌<◌, ◌≤◌, ◌==◌, List, [], ◌∷◌, ◌++◌, length, get_or, flat_map, All, Contains, Option, None, Some, refl, sym, ap, ◌∙◌, subst, ⊎_elim, zero-add, arith}
+use Rattle.std.proofs.Common.{◌≡◌, ℕ, ◌<◌, ◌≤◌, ◌==◌, List, [], ◌∷◌, length, get_or, flat_map, Contains, Option, None, Some, refl, sym, ap, ◌∙◌, subst, ⊎_elim, zero-add, arith}
 use Rattle.std.specs.List.{cons_option, filter_map, range_with_len}
 use Rattle.std.proofs.lemmas.Bool.{eq-eqb}
 use Rattle.std.proofs.lemmas.List.Elements.{All-contains}
@@ -15,7 +15,7 @@ use Rattle.run_model.specs.OwnWrites.{accepted_by, own}
 use Rattle.run_model.specs.Runs.{IsRun}
 use Rattle.run_model.specs.Taking.{clock, have, log_of}
 use Rattle.run_model.specs.declared.entry.Entry.{Entry}
-use Rattle.run_model.proofs.PrefixLemmas.{IsPrefix-length, IsPrefix-reads, IsPrefix-trans}
+use Rattle.run_model.proofs.PrefixLemmas.{IsPrefix-reads, IsPrefix-trans}
 use Rattle.run_model.proofs.SoundKeeping.{own-prefix}
 use Rattle.run_model.proofs.SoundRuns.{Grows-run, Sound-prefix, Sound-run}
 use Rattle.run_model.proofs.SoundViews.{Sound-log, Sound-stamps}

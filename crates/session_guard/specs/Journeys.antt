@@ -1,5 +1,5 @@
 -- What is kept of the steps of roaming clients, and what one more step leaves.
-use Rattle.std.specs.Prelude.{◌≡◌, ℕ, ◌+◌, ◌<◌, ◌≤◌, List, [], ◌∷◌, ◌++◌, length, map, slice_get, Option, Some}
+use Rattle.std.specs.Prelude.{◌≡◌, ℕ, ◌+◌, ◌≤◌, List, [], ◌∷◌, ◌++◌, length, map, slice_get, Option, Some}
 use Rattle.std.specs.Option.{option_and_then}
 use Rattle.tact_base.specs.Setup.{IsSetup, Setup}
 use Rattle.tact_base.specs.declared.limits.TheConstants.{CLIENTS}

@@ -4,7 +4,7 @@ use Rattle.tact_base.specs.Setup.{Setup}
 use Rattle.run_model.specs.declared.entry.Entry.{Entry}
 use Rattle.session_guard.specs.Guards.{IsGuarded}
 use Rattle.session_guard.specs.Journeys.{Keeps, made_in, setup_in}
-use Rattle.session_guard.specs.Roaming.{AreSteps, Roamed, roamed}
+use Rattle.session_guard.specs.Roaming.{Roamed, roamed}
 use Rattle.session_guard.specs.Trips.{trip_of}
 use Rattle.session_guard.specs.declared.journey.Journey.{Journey}
 use Rattle.session_guard.specs.declared.roam.TheConstants.{STEPS_MAX}

@@ -1,5 +1,5 @@
 -- What a visit asks and answers, and what it leaves.
-use Rattle.std.specs.Prelude.{◌≡◌, ℕ, ◌+◌, ◌<◌, ◌^◌, List, length, map, Option, None, Some}
+use Rattle.std.specs.Prelude.{ℕ, ◌+◌, ◌<◌, ◌^◌, List, length, map, Option, None, Some}
 use Rattle.replica_core.specs.States.{Core, log_at, origins_of}
 use Rattle.run_model.specs.declared.call.Reply.{Reply}
 use Rattle.run_model.specs.declared.call.Reply.TheVariants as reply

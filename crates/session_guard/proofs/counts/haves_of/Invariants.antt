@@ -1,6 +1,3 @@
-use Rattle.std.proofs.Common.{◌≡◌, ℕ, List, length, map, take}
-use Rattle.std.specs.List.{range_with_len}
-use Rattle.replica_core.specs.States.{Core, log_at}
 use Rattle.session_guard.proofs.CountLemmas.{AreCounted}
 use Rattle.session_guard.proofs.counts.haves_of.Given as goal
 

@@ -1,4 +1,4 @@
-use Rattle.std.proofs.Common.{◌≡◌, ℕ, List, length, ap, ap₂, sym, ◌∙◌}
+use Rattle.std.proofs.Common.{ℕ, List, length, ap, ap₂, sym, ◌∙◌}
 use Rattle.session_guard.proofs.VisitLemmas.{length-haves_at, stands_next}
 use Rattle.session_guard.specs.Passes.{pass_after}
 use Rattle.session_guard.proofs.visiting.visit.Goals as goal

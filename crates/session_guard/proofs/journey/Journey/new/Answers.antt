@@ -1,5 +1,4 @@
 use Rattle.std.proofs.Common.{◌≡◌, ℕ, ap, replicate, ◌∙◌, arith}
-use Rattle.tact_base.specs.Setup.{Setup}
 use Rattle.session_guard.proofs.NewJourney.{fresh_client, opens, opens_fresh}
 use Rattle.session_guard.specs.declared.journey.Journey.{Journey}
 use Rattle.session_guard.proofs.journey.Journey.new.Goals as goal

@@ -1,4 +1,4 @@
-use Rattle.std.proofs.Common.{◌≡◌, ℕ, ap, sym, ◌∙◌, arith}
+use Rattle.std.proofs.Common.{ℕ, ap, sym, ◌∙◌, arith}
 use Rattle.std.proofs.Common.{get_or, Some}
 use Rattle.session_guard.proofs.PassLemmas.{lack_of-first, lack_of-none}
 use Rattle.session_guard.specs.declared.steps.Visit.TheVariants as visit

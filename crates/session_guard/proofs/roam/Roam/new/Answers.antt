@@ -5,7 +5,7 @@ use Rattle.session_guard.proofs.Roaming.{none_roamed}
 use Rattle.session_guard.specs.Passes.{fresh_pass}
 use Rattle.session_guard.specs.Roaming.{Roamed, not_roamed}
 use Rattle.session_guard.specs.Roams.{RoamState}
-use Rattle.session_guard.specs.Journeys.{made_in, setup_in}
+use Rattle.session_guard.specs.Journeys.{made_in}
 use Rattle.session_guard.specs.declared.client.Client.{Client}
 use Rattle.session_guard.specs.declared.journey.Journey.{Journey}
 use Rattle.session_guard.specs.declared.steps.Handed.{Handed}

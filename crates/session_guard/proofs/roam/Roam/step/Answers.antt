@@ -1,6 +1,6 @@
-use Rattle.std.proofs.Common.{◌≡◌, ◌<◌, ◌++◌, ◌∷◌, [], ℕ, List, length, refl, sym, ap, ap₂, ◌∙◌, subst, arith}
+use Rattle.std.proofs.Common.{◌≡◌, ◌<◌, ◌++◌, ◌∷◌, [], ℕ, List, length, sym, ap, ap₂, ◌∙◌, subst, arith}
 use Rattle.tact_base.specs.Setup.{Setup}
-use Rattle.session_guard.proofs.Roaming.{are_guarded, has_stayed, has_stepped, is_kept, is_run}
+use Rattle.session_guard.proofs.Roaming.{are_guarded, has_stayed, has_stepped, is_kept}
 use Rattle.session_guard.specs.Journeys.{GoesOnBy, Stays, setup_in}
 use Rattle.session_guard.specs.Roams.{HasRoamed, RoamState, with_step}
 use Rattle.session_guard.specs.declared.journey.Journey.{Journey}

@@ -1,4 +1,4 @@
-use Rattle.std.proofs.Common.{◌≡◌, ◌<◌, length, ap, ◌∙◌, arith}
+use Rattle.std.proofs.Common.{◌<◌, length, ap, ◌∙◌, arith}
 use Rattle.session_guard.proofs.ClientLemmas.{client_there}
 use Rattle.session_guard.proofs.Roaming.{trip_is}
 use Rattle.session_guard.specs.Roams.{RoamState, entries_of}
