@@ -1,7 +1,6 @@
 //! What a step draws.
 ghost use Rattle.std.specs.Prelude.{◌≡◌, ◌<◌, ◌∷◌, [], IfOk, length};
 ghost use Rattle.run_model.specs.Histories.{sent_in};
-ghost 
 ghost use Rattle.session_guard.specs.Roams.{entries_of};
 ghost use Rattle.drawn_visits.specs.DrawnVisits.{IsAmongFour, kind_drawn, read_drawn, send_drawn, take_drawn, weight_of, write_drawn};
 

@@ -2,8 +2,7 @@
 -- answered.
 use Rattle.std.specs.Prelude.{◌≢◌, ℕ, ◌<◌, ◌≤◌, List, [], ◌∷◌, ◌++◌, fold, length, replicate, slice_get, slice_index_or, slice_set, Option, None, Some}
 use Rattle.tact_base.specs.Setup.{Setup}
-use Rattle.tact_base.specs.declared.limits.TheConstants.{MOMENT_MAX}
-use Rattle.run_model.specs.Histories.{EachAfter, moment_at, part_of, sent_in}
+use Rattle.run_model.specs.Histories.{moment_at, part_of, sent_in}
 use Rattle.run_model.specs.Ranges.{IsRequestInRange}
 use Rattle.run_model.specs.Replies.{reply_of}
 use Rattle.run_model.specs.ScriptRuns.{Played, calls, sends, takes_one, zeros}
@@ -79,11 +78,3 @@ MayStep setup passes entries (step.Visit pass replica request) =
     (pass < passes) × (replica < setup.replicas) × IsRequestInRange setup request × IsWriteOrRead request
 MayStep setup passes entries (step.Send from to) = (from < setup.replicas) × (to < setup.replicas) × (to ≢ from)
 MayStep setup passes entries (step.Take message) = message < length (sent_in entries)
-
--- and one that may follow others, handed a moment within the limit
-pub record MayFollow (setup : Setup) (passes : ℕ) (before : List Handed) (next : Handed) : Type 0 where
-  pub moment : next.moment ≤ MOMENT_MAX
-  pub step : MayStep setup passes (roamed setup passes before).entries next.step
-
-abbrev pub AreSteps : Setup → ℕ → List Handed → Type 0
-AreSteps setup passes steps = EachAfter (MayFollow setup passes) steps
