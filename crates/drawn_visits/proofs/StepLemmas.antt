@@ -4,6 +4,7 @@ use Rattle.std.specs.List.{count_by}
 use Rattle.std.specs.Option.{option_map}
 use Rattle.std.proofs.lemmas.Bool.{eqb-false}
 use Rattle.std.proofs.lemmas.List.Elements.{All-nil}
+use Rattle.std.proofs.lemmas.List.Sums.{sum_by_push}
 use Rattle.tact_base.proofs.ListLemmas.{All-one}
 use Rattle.tact_base.specs.declared.write.Op.TheVariants.{Add}
 use Rattle.run_model.specs.Histories.{sent_in}
@@ -13,7 +14,7 @@ use Rattle.drawn_scripts.specs.Draws.{drawn, one_drawn, pick, some_drawn}
 use Rattle.drawn_scripts.proofs.DrawnLemmas.{picked_below, two_are_two}
 use Rattle.drawn_scripts.proofs.DrawsLemmas.{after_more, after_none}
 use Rattle.session_guard.specs.Roaming.{MayStep}
-use Rattle.session_guard.specs.Roams.{RoamState, entries_of, roamed_by}
+use Rattle.session_guard.specs.Roams.{RoamState, entries_of, roamed_by, with_step}
 use Rattle.session_guard.specs.declared.steps.Handed.{Handed}
 use Rattle.session_guard.specs.declared.steps.Outcome.{Outcome}
 use Rattle.session_guard.specs.declared.steps.Step.{Step}
@@ -31,8 +32,7 @@ write_may entries state =
     let s1 = (pick 4 state).1 in
     let s2 = (pick 4 s1).1 in
     let s3 = (pick 5 s2).1 in
-    let size = (pick 5 s2).0 in
-    (
+    let size = (pick 5 s2).0 in (
       picked_below 4 state (omega (arith)),
       picked_below 4 s1 (omega (arith)),
       (
@@ -50,8 +50,7 @@ read_may : (entries : List Entry) (state : ℕ) → MayStep four 4 entries (read
 unfolding read_drawn
 read_may entries state =
     let s1 = (pick 4 state).1 in
-    let s2 = (pick 4 s1).1 in
-    (
+    let s2 = (pick 4 s1).1 in (
       picked_below 4 state (omega (arith)),
       picked_below 4 s1 (omega (arith)),
       (omega (arith, picked_below 8 s2 (omega (arith))), record { each = All-nil (IsNeedInRange four); listed = refl }),
@@ -134,3 +133,22 @@ drawn_to_ends number roam behind draws is =
     ap (λ s. let one : RoamState = record { setup = s; passes = roam.passes; steps = roam.steps } in one) is.among.setup
     ∙ ap (λ (n : ℕ). let one : RoamState = record { setup = four; passes = n; steps = roam.steps } in one) is.among.passes
     ∙ ap (λ (after : List Handed × ℕ). let one : RoamState = record { setup = four; passes = 4; steps = after.0 } in one) (sym is.steps)
+
+-- one more step leaves four clients among four replicas, and one more outcome counts where it kept a client away
+pub among_more : (roam new : RoamState) (moment : ℕ) (next : Step)
+    → IsAmongFour roam
+    → new ≡ with_step roam moment next
+    → IsAmongFour new
+among_more roam new moment next is same = record {
+  setup = ap (λ (r : RoamState). r.setup) same ∙ is.setup;
+  passes = ap (λ (r : RoamState). r.passes) same ∙ is.passes;
+}
+
+pub counted_more : (before after : List Outcome) (outcome : Outcome) (behind : ℕ)
+    → behind ≡ count_by is_behind before
+    → after ≡ before ++ outcome ∷ []
+    → count_by is_behind after ≡ behind + cond (is_behind outcome) 1 0
+counted_more before after outcome behind counted same =
+    ap (count_by is_behind) same
+    ∙ sum_by_push (λ (o : Outcome). cond (is_behind o) 1 0) before outcome
+    ∙ ap (λ (n : ℕ). n + cond (is_behind outcome) 1 0) (sym counted)
