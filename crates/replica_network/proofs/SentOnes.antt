@@ -18,12 +18,11 @@ use Rattle.run_model.specs.declared.entry.Message.{Message}
 use Rattle.run_model.proofs.EntriesInRange.{sent_in_range}
 use Rattle.run_model.proofs.Sound.{IsSoundMessage}
 use Rattle.run_model.proofs.SoundRuns.{Sound-run}
-use Rattle.session_guard.proofs.SeenWrites.{Contains-filter_map}
-use Rattle.session_guard.specs.Journeys.{message_at}
+use Rattle.replica_network.specs.Keeping.{message_at}
+use Rattle.replica_network.proofs.FilteredMaps.{Contains-filter_map}
 
--- a message of a number, at a place
+-- a message of a number, and the place of the entry that sends it
 pub record IsSentOne (history : List Entry) (sends : List ℕ) (number : ℕ) (message : Message) : Type 0 where
-  pub placed : number < length sends
   pub named : slice_get (sent_in history) number ≡ Some message
   pub there : message_at history (get_or sends number 0) ≡ Some message
 
@@ -35,7 +34,6 @@ sent_one_of : (history : List Entry) (sends : List ℕ) (messages : List Message
 sent_one_of history sends messages number default are is below =
     let inside : number < length sends = omega (arith, below, ap length are, length-map sends (message_at history), length-map messages Some) in
     record {
-      placed = inside;
       named = ap (λ (ms : List Message). slice_get ms number) (sym is) ∙ slice_get-get_or messages number default below;
       there =
           sym (get_or-map (message_at history) sends number 0 None inside)
@@ -91,24 +89,28 @@ sender_at history place message is = go (slice_get history place) refl is
       sent = is;
     }
 
--- It was sent by the replica that it tells, and is in range.
-module _ (setup : Setup) (history : List Entry) (run : IsRun setup history) (sends : List ℕ) (number : ℕ) (message : Message) (one : IsSentOne history sends number message) where
-  sender : IsSender history (get_or sends number 0) message
-  sender = sender_at history (get_or sends number 0) message one.there
+-- The message of a number was sent by the replica that it tells, and is in range.
+module _ (setup : Setup) (history : List Entry) (run : IsRun setup history) (sends : List ℕ) (are : map (message_at history) sends ≡ map Some (sent_in history))
+    (number : ℕ) (message : Message) (named : slice_get (sent_in history) number ≡ Some message) where
+  sender : (place : ℕ) × IsSender history place message
+  sender =
+      let one = sent_one history sends number are (slice_get_within (sent_in history) number message named) in
+      let there = one.1.there ∙ sym one.1.named ∙ named in
+      (get_or sends number 0, sender_at history (get_or sends number 0) message there)
 
-  sent_there : Contains (sent_in (part_of history sender.entry.replica)) message
+  sent_there : Contains (sent_in (part_of history sender.1.entry.replica)) message
   sent_there =
-      let replica = sender.entry.replica in
-      Contains-filter_map (λ (e : Entry). sent_by_act e.act) (part_of history replica) sender.entry message
-      (Contains-filter (λ (e : Entry). e.replica == replica) history sender.entry sender.among (eq-eqb replica replica refl)) sender.sent
+      let replica = sender.1.entry.replica in
+      Contains-filter_map (λ (e : Entry). sent_by_act e.act) (part_of history replica) sender.1.entry message
+      (Contains-filter (λ (e : Entry). e.replica == replica) history sender.1.entry sender.1.among (eq-eqb replica replica refl)) sender.1.sent
 
-  from_is : message.from ≡ sender.entry.replica
-  from_is = (All-contains (IsSoundMessage history sender.entry.replica) (sent_in (part_of history sender.entry.replica)) message
-      ((Sound-run setup history run).sent sender.entry.replica) sent_there).from
+  from_is : message.from ≡ sender.1.entry.replica
+  from_is = (All-contains (IsSoundMessage history sender.1.entry.replica) (sent_in (part_of history sender.1.entry.replica)) message
+      ((Sound-run setup history run).sent sender.1.entry.replica) sent_there).from
 
-  pub one_was_sent : Contains (sent_in (part_of history message.from)) message
-  one_was_sent = subst (λ r. Contains (sent_in (part_of history r)) message) (sym from_is) sent_there
+  pub named_was_sent : Contains (sent_in (part_of history message.from)) message
+  named_was_sent = subst (λ r. Contains (sent_in (part_of history r)) message) (sym from_is) sent_there
 
-  pub one_in_range : IsMessageInRange setup message
-  one_in_range =
-      All-contains (IsMessageInRange setup) (sent_in (part_of history sender.entry.replica)) message (sent_in_range setup history run sender.entry.replica) sent_there
+  pub named_in_range : IsMessageInRange setup message
+  named_in_range =
+      All-contains (IsMessageInRange setup) (sent_in (part_of history sender.1.entry.replica)) message (sent_in_range setup history run sender.1.entry.replica) sent_there
