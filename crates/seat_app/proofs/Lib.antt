@@ -1,0 +1,2 @@
+pub mod ReferenceSteps
+pub mod NeverOversold
