@@ -1,2 +1,5 @@
 pub mod ReferenceSteps
 pub mod NeverOversold
+pub mod PeerOuts
+pub mod Leaving
+pub mod Amounts
