@@ -3,3 +3,5 @@ pub mod NeverOversold
 pub mod PeerOuts
 pub mod Leaving
 pub mod Amounts
+pub mod Deals
+pub mod BookedLemmas

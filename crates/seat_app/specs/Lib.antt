@@ -2,3 +2,6 @@ pub mod Seats
 pub mod Sales
 pub mod Careful
 pub mod Selling
+pub mod Networks
+pub mod Booked
+pub mod Bookings
