@@ -205,7 +205,7 @@ impl Seats {
         ensures { result ≡ over self.now value out amount }
     {
         let capacity = self.capacity;
-        if value > capacity as i64 - amount as i64 {
+        if value > capacity as i64 - out as i64 - amount as i64 {
             return Some(Sale::Over {
                 value,
                 out,
