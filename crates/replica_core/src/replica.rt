@@ -1,6 +1,6 @@
 //! The state of a replica, and what can be read of it.
 ghost use Rattle.std.specs.Prelude.{◌≡◌, ◌↔◌, ℕ, ◌*◌, ◌<◌, ◌≤◌, List, [], suc, length, map, drop, replicate, slice_index, IfOk, OnOk, OnErr, IsOk, IfErr, IsTrue, true, false, max};
-ghost use Rattle.tact_base.specs.declared.limits.TheConstants.{CLIENTS, HISTORY_MAX, MOMENT_MAX};
+ghost use Rattle.tact_base.specs.declared.limits.TheConstants.{CLIENTS, HISTORY_MAX, MOMENT_MAX, REPLICAS_MAX};
 ghost use Rattle.tact_base.specs.WriteOrder.{committed_to, tentative_past};
 ghost use Rattle.replica_core.specs.States.{IsKept, log_at, known_at, cover_at, entered, closed, is_full};
 ghost use Rattle.replica_core.specs.Stands.{Stands, GoesOn, IsSameReplica};
@@ -141,6 +141,14 @@ impl Replica {
         ensures { result ≡ self.now.core.replica }
     {
         self.replica
+    }
+
+    /// How many replicas its setup has. Takes no memory.
+    pub fn replicas(&self) -> u32
+        ensures count { result ≡ self.now.core.setup.replicas }
+        ensures few { result ≤ REPLICAS_MAX }
+    {
+        self.config.replicas()
     }
 
     /// How many writes of an origin it has. Takes no memory.

@@ -9,6 +9,18 @@ bound 0 0 100 0 100
 bound 1 0 100 100 0
 ";
 
+// What is out at both others is more than the need allows; the first is named at whom more than its part is.
+const LENT: &str = "start 3 1 10 5
+read 1 0 1 0:9:0:0
+read 1 0 1 0:10:0:0
+";
+
+const LENT_TEXT: &str = "e 1 0 call 0 0 read 1 0:9:0:0 = wait-lent 0 0 5 10 9
+e 1 0 call 0 1 read 1 0:10:0:0 = value 0 0
+# need 0 num 0/10 order 0/0 stale 0/0
+end 2
+";
+
 // Weights of the two signs count apart, and a read is told how well its need was met.
 const SIGNS: &str = "start 3 1 10 5
 write 0 0 add 7 1 0:5:1
@@ -159,6 +171,7 @@ end 5
 #[test]
 fn reads_are_told(rt: HostRuntime) -> Result<(), Fail> {
     for (script, header, lines) in [
+        (LENT, THREE, LENT_TEXT),
         (SIGNS, THREE, SIGNS_TEXT),
         (LATER_REPEAT, TWO, LATER_REPEAT_TEXT),
         (GAP, TWO_OF_HUNDRED, GAP_TEXT),

@@ -60,8 +60,7 @@ fn change(
     ensures goes { IfOk result (λ sale. GoesOnBy seats.now (λ before. changed seats.now before moment replica change) network.old network.new (Traded sale)) }
     ensures err { OnErr result (network.new ≡ network.old) }
 {
-    let replicas = network.config().replicas();
-    if let Some(lack) = seats.lack(network.at(replica), replicas, change) {
+    if let Some(lack) = seats.lack(network.at(replica), change) {
         return Ok(lack);
     }
     let reply = network.call(moment, replica, CLIENT, &seats.request(KEY, change))?;
