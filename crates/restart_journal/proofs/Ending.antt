@@ -8,7 +8,7 @@ use Rattle.tact_io.specs.declared.fault.OutFault.TheVariants as out
 use Rattle.restart_journal.specs.declared.fault.RecoverFault.{RecoverFault}
 use Rattle.restart_journal.specs.declared.fault.RecoverFault.TheVariants as fault
 use Rattle.restart_journal.specs.declared.recovered.Recovered.{Recovered}
-use Rattle.restart_journal.specs.Recovery.{TellsOf}
+use Rattle.restart_journal.specs.Recovery.{IsAtPlace, TellsOf}
 use Rattle.restart_journal.specs.StepFaults.{read_fault}
 
 -- nothing is said of its pieces then
@@ -16,6 +16,11 @@ pub tells_nothing : (setup : Setup) (replica : ℕ) (pieces : List (List ℕ)) (
     → TellsOf setup replica pieces (Err (read_fault given))
 tells_nothing setup replica pieces out.Failed = tt
 tells_nothing setup replica pieces out.NoMemory = tt
+
+-- and no place
+pub names_no_place : (given : OutFault) → IsAtPlace (read_fault given)
+names_no_place out.Failed = tt
+names_no_place out.NoMemory = tt
 
 -- a count that rose from a later number rose from an earlier one
 rose_from : (before between after : ℕ) → before ≤ between → between ≤ after → HasRisen between after → HasRisen before after

@@ -42,3 +42,10 @@ TellsOf setup replica pieces (Ok made) = IsJournalOf setup replica pieces made.s
 TellsOf setup replica pieces (Err (Foreign place)) = IsForeignAt setup replica pieces place
 TellsOf setup replica pieces (Err (Full place)) = IsFullAt setup replica pieces place
 TellsOf setup replica pieces (Err fault) = Unit {0}
+
+-- where a fault may stand, whatever the journal tells: a foreign piece where a replica's entries can, one too many right
+-- past them
+abbrev pub IsAtPlace : RecoverFault → Type 0
+IsAtPlace (Foreign place) = place < HISTORY_MAX
+IsAtPlace (Full place) = place ≡ HISTORY_MAX
+IsAtPlace fault = Unit {0}

@@ -1,13 +1,13 @@
 //! The replica that a journal gives back.
 
-ghost use Rattle.std.specs.Prelude.{◌≡◌, ◌≢◌, ℕ, ◌<◌, ◌≤◌, List, All, IsTrue, IfOk, IsErrOf, IsOkUnless, Err};
+ghost use Rattle.std.specs.Prelude.{◌≡◌, ◌≢◌, ℕ, ◌<◌, ◌≤◌, List, All, IsTrue, IfErr, IfOk, IsErrOf, IsOkUnless, Err};
 ghost use Rattle.tact_io.specs.Faults.{HasRisen};
 ghost use Rattle.tact_base.specs.Setup.{IsSetup};
 ghost use Rattle.run_model.specs.declared.entry.Entry.{Entry};
 ghost use Rattle.replica_core.specs.Stands.{Stands};
 ghost use Rattle.restart_journal.specs.declared.fault.RecoverFault.TheVariants as fault;
 ghost use Rattle.restart_journal.specs.Pieces.{CanBePut};
-ghost use Rattle.restart_journal.specs.Recovery.{IsJournalOf, IsForeignAt, IsFullAt, TellsOf};
+ghost use Rattle.restart_journal.specs.Recovery.{IsAtPlace, IsJournalOf, IsForeignAt, IsFullAt, TellsOf};
 
 use crate::fault::{RecoverFault, StepFault};
 use crate::recovered::Recovered;
@@ -36,6 +36,7 @@ pub fn recover<J: Journal>(
     ensures replica { IfOk result (λ made. made.replica.core.replica ≡ replica) }
     ensures stands { IfOk result (λ made. Stands made.stored made.replica.core) }
     ensures stored { IfOk result (λ made. All CanBePut made.stored) }
+    ensures placed { IfErr result IsAtPlace }
 
     // Of a journal that tells its pieces it answers what holds of them: they are those of the entries, or one is bad, or
     // they are too many.
@@ -74,6 +75,7 @@ fn read_all<J: Journal>(
     ensures replica { IfOk result (λ made. made.replica.core.replica ≡ replica) }
     ensures stands { IfOk result (λ made. Stands made.stored made.replica.core) }
     ensures stored { IfOk result (λ made. All CanBePut made.stored) }
+    ensures placed { IfErr result IsAtPlace }
     ensures told { IsTrue J.tells → TellsOf config.now replica (J.pieces journal.old) result }
     ensures stays { IsTrue J.tells → J.pieces journal.new ≡ J.pieces journal.old }
     ensures room_pieces { J.spare_pieces journal.new ≡ J.spare_pieces journal.old }

@@ -7,7 +7,7 @@ use Rattle.restart_journal.specs.Pieces.{piece_bytes}
 use Rattle.restart_journal.specs.Recovery.{IsBadAfter}
 use Rattle.restart_journal.specs.StepFaults.{read_fault}
 use Rattle.restart_journal.specs.Steps.{HasRead}
-use Rattle.restart_journal.proofs.Ending.{tells_nothing, fault_rose}
+use Rattle.restart_journal.proofs.Ending.{tells_nothing, names_no_place, fault_rose}
 use Rattle.restart_journal.proofs.Reading.{can_be_put, its_part, whole_journal, foreign_there, full_there, spellable_then, spelled_then}
 use Rattle.restart_journal.proofs.recovering.read_all.Goals as goal
 
@@ -15,6 +15,11 @@ pub returns-in_err-piece-clause-told : goal.returns-in_err-piece-clause-told
 returns-in_err-piece-clause-told g c =
     let given = err_from_is_err_and c.from_residual-in_err-piece.result c.from_residual-in_err-piece.ensures.1 in
     λ tells. rw (given.1, given.2) (tells_nothing c.args.config.now c.args.replica (g.J.Journal.pieces c.args.journal.now) c.in_err-piece.field-0.0)
+
+pub returns-in_err-piece-clause-placed : goal.returns-in_err-piece-clause-placed
+returns-in_err-piece-clause-placed g c =
+    let given = err_from_is_err_and c.from_residual-in_err-piece.result c.from_residual-in_err-piece.ensures.1 in
+    rw (given.1, given.2) (names_no_place c.in_err-piece.field-0.0)
 
 pub returns-in_err-piece-clause-failed : goal.returns-in_err-piece-clause-failed
 returns-in_err-piece-clause-failed g c =
@@ -73,6 +78,11 @@ pub returns-in_err-read-clause-told : goal.returns-in_err-read-clause-told
 returns-in_err-read-clause-told g c =
     let given = err_from_is_err_and c.from_residual-in_err-read.result c.from_residual-in_err-read.ensures.1 in
     λ tells. rw (given.1, given.2) (tells_nothing c.args.config.now c.args.replica (g.J.Journal.pieces c.args.journal.now) c.in_err-read.field-0.0)
+
+pub returns-in_err-read-clause-placed : goal.returns-in_err-read-clause-placed
+returns-in_err-read-clause-placed g c =
+    let given = err_from_is_err_and c.from_residual-in_err-read.result c.from_residual-in_err-read.ensures.1 in
+    rw (given.1, given.2) (names_no_place c.in_err-read.field-0.0)
 
 pub returns-in-None-clause-stored : goal.returns-in-None-clause-stored
 returns-in-None-clause-stored g c =
