@@ -36,7 +36,9 @@ fn a_node_is_full_after_20_000_reads(rt: HostRuntime) -> Result<(), Fail> {
     read_often(&rt, &mut client);
     let value = client.value(&rt);
     let count = count_of_full(&rt, &mut client);
+    let ended = client.finish(&rt, rt.alloc());
     assert_eq!(rt; value, 0);
     assert_eq!(rt; count, 20_000);
+    assert_eq!(rt; ended.stored.pairs().len(), 20_000);
     Ok(())
 }

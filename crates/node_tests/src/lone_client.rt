@@ -12,8 +12,7 @@ use std::process::Abort;
 use std::sync::Wait;
 use tact_io::FreeGate;
 
-/// A node whose only client is client 0, with that client's session.
-#[derive(Drop)]
+/// A node whose only client is client 0, with that client's session. It is to be finished.
 pub struct LoneClient<'d> {
     pub node: Node<'d, FreeGate>,
     roster: Roster,

@@ -74,7 +74,7 @@ impl<'n, 'd> Spender<'n, 'd> {
     }
 
     // What a write that weighs 1 is answered.
-    fn write<R: Wait + Abort>(&mut self, rt: &R) -> Reply {
+    fn write<R: Wait + Abort>(mut self, rt: &R) -> Reply {
         match self.node.call(rt, &mut self.session, 3, light_write(rt)) {
             Ok(reply) => reply,
             Err(_) => panic!(rt; "a write is answered"),
@@ -91,6 +91,7 @@ fn spent<'n, 'd, R: Wait + Abort>(rt: &R, mut spender: Spender<'n, 'd>) -> (u64,
 // Client 0 has a session.
 fn is_taken(rt: &impl Abort, node: &Node<'_, FreeGate>, roster: &mut Roster)
     requires { IsRosterOf node.now roster.old }
+    ensures { IsRosterOf node.now roster.new }
 {
     let Err(fault) = node.session(roster, 0) else {
         panic!(rt; "two sessions of a client")
@@ -122,16 +123,14 @@ fn two_threads_spend_what_they_reserved(rt: HostRuntime) -> Result<(), Fail> {
     let (node, mut roster) = node_of(&rt, rt.alloc(), &desk, &config, first);
     let one = Spender::new(&rt, &node, &mut roster, 0);
     let other = Spender::new(&rt, &node, &mut roster, 1);
-    let ((first, mut one), (second, _)) = thread::join(
-        &rt,
-        || spent(&rt, one),
-        || spent(&rt, other),
-    );
+    let ((first, one), (second, _)) = thread::join(&rt, || spent(&rt, one), || spent(&rt, other));
     waits(&rt, one.write(&rt));
     is_taken(&rt, &node, &mut roster);
+    let ended = node.end(&rt, roster);
     assert!(rt;
         matches!((first, second), (0, 1) | (1, 0)),
         "{first}, {second}"
     );
+    assert_eq!(rt; ended.stored.pairs().len(), 5);
     Ok(())
 }
