@@ -1,8 +1,7 @@
 -- Trades keep the setup that they are made in.
 use Rattle.std.proofs.Common.{◌≡◌, ℕ, ℤ, List, [], ◌∷◌, fold, Option, None, Some, pos, refl, ◌∙◌}
-use Rattle.std.specs.List.{slice_get}
 use Rattle.std.specs.Prelude.{neg_ℤ}
-use Rattle.run_model.specs.Histories.{part_of, sent_in}
+use Rattle.run_model.specs.Histories.{part_of}
 use Rattle.seat_app.specs.Booked.{Booked, after_trade, changed_unless, not_booked, traded}
 use Rattle.seat_app.specs.Bookings.{BookingState, network_of}
 use Rattle.seat_app.specs.Seats.{SeatsState, lack_after}
