@@ -5,3 +5,4 @@ pub mod Leaving
 pub mod Amounts
 pub mod Deals
 pub mod BookedLemmas
+pub mod SameSetup

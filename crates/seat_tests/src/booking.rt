@@ -26,7 +26,8 @@ impl Office {
 
     fn sell(&mut self, rt: &impl Abort, replica: u32, amount: u64, said: Sale) -> Result<(), Fail> {
         assert!(rt; replica < 2);
-        assert!(rt; 1 <= amount && amount <= 10);
+        assert!(rt; 1 <= amount);
+        assert!(rt; amount <= 10);
         assert!(rt; self.booking.trades().len() < 100);
         let trade = Trade::Sell { replica, amount };
         assert_eq!(rt; self.booking.step(1, &trade)?, Outcome::Traded(said));
@@ -41,7 +42,8 @@ impl Office {
         said: Sale,
     ) -> Result<(), Fail> {
         assert!(rt; replica < 2);
-        assert!(rt; 1 <= amount && amount <= 10);
+        assert!(rt; 1 <= amount);
+        assert!(rt; amount <= 10);
         assert!(rt; self.booking.trades().len() < 100);
         let trade = Trade::Cancel { replica, amount };
         assert_eq!(rt; self.booking.step(1, &trade)?, Outcome::Traded(said));
@@ -50,7 +52,9 @@ impl Office {
 
     /// One sends to the other, which takes the message.
     fn tell(&mut self, rt: &impl Abort, from: u32, to: u32) -> Result<(), Fail> {
-        assert!(rt; from < 2 && to < 2 && from != to);
+        assert!(rt; from < 2);
+        assert!(rt; to < 2);
+        assert!(rt; from != to);
         assert!(rt; self.booking.trades().len() < 100);
         let message = self.booking.sent();
         let trade = Trade::Send { from, to };

@@ -25,14 +25,33 @@ impl Counter {
         Ok(Box::new(alloc, counter)?)
     }
 
-    fn sell(&mut self, rt: &impl Abort, amount: u64) -> Result<Sale, CoreFault> {
-        assert!(rt; 1 <= amount && amount <= 10);
-        Seats::new(0, 10).sell(&mut self.replica, 5, 3, 7, amount)
+    fn sell(&mut self, rt: &impl Abort, amount: u64, said: Sale) -> Result<(), Fail> {
+        assert!(rt; 1 <= amount);
+        assert!(rt; amount <= 10);
+        let sale = Seats::new(0, 10).sell(&mut self.replica, 5, 3, 7, amount)?;
+        assert_eq!(rt; sale, said);
+        Ok(())
     }
 
-    fn cancel(&mut self, rt: &impl Abort, amount: u64) -> Result<Sale, CoreFault> {
-        assert!(rt; 1 <= amount && amount <= 10);
-        Seats::new(0, 10).cancel(&mut self.replica, 5, 3, 7, amount)
+    fn cancel(&mut self, rt: &impl Abort, amount: u64, said: Sale) -> Result<(), Fail> {
+        assert!(rt; 1 <= amount);
+        assert!(rt; amount <= 10);
+        let sale = Seats::new(0, 10).cancel(&mut self.replica, 5, 3, 7, amount)?;
+        assert_eq!(rt; sale, said);
+        Ok(())
+    }
+
+    /// It answers that it is full, whatever is asked.
+    fn assert_full(&mut self, rt: &impl Abort) {
+        let full = CoreFault::Full {
+            count: 20_000,
+            clock: 0,
+        };
+        let seats = Seats::new(0, 10);
+        let sold = seats.sell(&mut self.replica, 5, 3, 7, 10);
+        assert_eq!(rt; sold, Err(full));
+        let cancelled = seats.cancel(&mut self.replica, 5, 3, 7, 10);
+        assert_eq!(rt; cancelled, Err(full));
     }
 
     /// It begins anew, as often as it may.
@@ -58,16 +77,10 @@ fn sells_up_to_the_capacity_and_cancels_down_to_none(rt: HostRuntime) -> Result<
         out: 4,
         amount: 3,
     };
-    assert_eq!(rt; counter.sell(&rt, 7)?, over);
-    assert_eq!(rt;
-        counter.sell(&rt, 6)?,
-        Sale::Accepted { index: 0, stamp: 1 }
-    );
-    assert_eq!(rt; counter.cancel(&rt, 3)?, under);
-    assert_eq!(rt;
-        counter.cancel(&rt, 2)?,
-        Sale::Accepted { index: 1, stamp: 2 }
-    );
+    counter.sell(&rt, 7, over)?;
+    counter.sell(&rt, 6, Sale::Accepted { index: 0, stamp: 1 })?;
+    counter.cancel(&rt, 3, under)?;
+    counter.cancel(&rt, 2, Sale::Accepted { index: 1, stamp: 2 })?;
     assert_eq!(rt; counter.replica.get(7), 4);
     assert_eq!(rt; counter.replica.count(), 2);
     Ok(())
@@ -77,10 +90,7 @@ fn sells_up_to_the_capacity_and_cancels_down_to_none(rt: HostRuntime) -> Result<
 fn takes_no_memory_where_it_was_reserved(rt: HostRuntime) -> Result<(), Fail> {
     let mut counter = Counter::new(rt.alloc())?;
     counter.replica.reserve(1)?;
-    assert_eq!(rt;
-        counter.sell(&rt, 1)?,
-        Sale::Accepted { index: 0, stamp: 1 }
-    );
+    counter.sell(&rt, 1, Sale::Accepted { index: 0, stamp: 1 })?;
     assert_eq!(rt; counter.replica.spare(), 0);
     Ok(())
 }
@@ -89,11 +99,6 @@ fn takes_no_memory_where_it_was_reserved(rt: HostRuntime) -> Result<(), Fail> {
 fn is_full_before_it_is_over(rt: HostRuntime) -> Result<(), Fail> {
     let mut counter = Counter::new(rt.alloc())?;
     counter.fill()?;
-    let full = CoreFault::Full {
-        count: 20_000,
-        clock: 0,
-    };
-    assert_eq!(rt; counter.sell(&rt, 10), Err(full));
-    assert_eq!(rt; counter.cancel(&rt, 10), Err(full));
+    counter.assert_full(&rt);
     Ok(())
 }
