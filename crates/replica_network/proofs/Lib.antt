@@ -1,0 +1,5 @@
+pub mod FilteredMaps
+pub mod Longer
+pub mod SentOnes
+pub mod SendPlaces
+pub mod Going

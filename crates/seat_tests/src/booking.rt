@@ -1,0 +1,143 @@
+//! Ten places that are sold at two replicas, trade by trade.
+
+ghost use Rattle.std.specs.Prelude.{◌≡◌};
+
+use run_model::{Act, Config, Entry, Reply, Request};
+use seat_app::{Booking, Outcome, Sale, Seats, Trade};
+use std::alloc::Global;
+use std::process::Abort;
+use std::test::Fail;
+
+/// Two replicas with one conit, on which each allows the other 4.
+#[derive(Drop)]
+struct Office {
+    booking: Booking,
+    ghost replicas: { booking.setup.replicas ≡ 2 },
+}
+
+impl Office {
+    fn new(alloc: Global) -> Result<Box<Office>, Fail> {
+        let config = Config::new(alloc, 2, 1, &[4; 2], &[0, 4, 4, 0])?;
+        let office = Office {
+            booking: Booking::new(alloc, &config, Seats::new(0, 10))?,
+        };
+        Ok(Box::new(alloc, office)?)
+    }
+
+    fn sell(&mut self, rt: &impl Abort, replica: u32, amount: u64, said: Sale) -> Result<(), Fail> {
+        assert!(rt; replica < 2);
+        assert!(rt; 1 <= amount && amount <= 10);
+        assert!(rt; self.booking.trades().len() < 100);
+        let trade = Trade::Sell { replica, amount };
+        assert_eq!(rt; self.booking.step(1, &trade)?, Outcome::Traded(said));
+        Ok(())
+    }
+
+    fn cancel(
+        &mut self,
+        rt: &impl Abort,
+        replica: u32,
+        amount: u64,
+        said: Sale,
+    ) -> Result<(), Fail> {
+        assert!(rt; replica < 2);
+        assert!(rt; 1 <= amount && amount <= 10);
+        assert!(rt; self.booking.trades().len() < 100);
+        let trade = Trade::Cancel { replica, amount };
+        assert_eq!(rt; self.booking.step(1, &trade)?, Outcome::Traded(said));
+        Ok(())
+    }
+
+    /// One sends to the other, which takes the message.
+    fn tell(&mut self, rt: &impl Abort, from: u32, to: u32) -> Result<(), Fail> {
+        assert!(rt; from < 2 && to < 2 && from != to);
+        assert!(rt; self.booking.trades().len() < 100);
+        let message = self.booking.sent();
+        let trade = Trade::Send { from, to };
+        assert_eq!(rt; self.booking.step(2, &trade)?, Outcome::Moved);
+        self.take(rt, message)
+    }
+
+    fn take(&mut self, rt: &impl Abort, message: u64) -> Result<(), Fail> {
+        assert!(rt; message < self.booking.sent());
+        assert!(rt; self.booking.trades().len() < 100);
+        let trade = Trade::Take { message };
+        assert_eq!(rt; self.booking.step(3, &trade)?, Outcome::Moved);
+        Ok(())
+    }
+
+    /// What each replica sees, and what is sold in all.
+    fn assert_sold(&self, rt: &impl Abort, values: [i64; 2], all: i64) {
+        assert_eq!(rt; self.booking.value(0), values[0]);
+        assert_eq!(rt; self.booking.value(1), values[1]);
+        assert_eq!(rt; sold_in(self.booking.entries()), all);
+    }
+}
+
+// The sum of the nweights of all accepted writes.
+fn sold_in(entries: &[Entry]) -> i64 {
+    let mut all = 0_i64;
+    for entry in entries {
+        if let Act::Call {
+            request: Request::Write { weights, .. },
+            reply: Reply::Done { .. },
+            ..
+        } = &entry.act
+        {
+            for weight in weights.items() {
+                all = all.wrapping_add(weight.nweight);
+            }
+        }
+    }
+    all
+}
+
+// Each sells what it may, without a word between them.
+fn sell_apart(rt: &impl Abort, office: &mut Office) -> Result<(), Fail> {
+    let waits = Reply::WaitShare {
+        conit: 0,
+        peer: 1,
+        missing: 3,
+        reserved: 0,
+        weight: 2,
+        share: 4,
+    };
+    let over = Sale::Over {
+        value: 4,
+        out: 4,
+        amount: 3,
+        capacity: 10,
+    };
+    let under = Sale::Under {
+        value: 4,
+        out: 4,
+        amount: 1,
+    };
+    office.sell(rt, 0, 3, Sale::Accepted { index: 0, stamp: 1 })?;
+    office.sell(rt, 0, 2, Sale::Waiting(waits))?;
+    office.sell(rt, 1, 4, Sale::Accepted { index: 0, stamp: 1 })?;
+    office.sell(rt, 1, 3, over)?;
+    office.cancel(rt, 1, 1, under)?;
+    office.assert_sold(rt, [3, 4], 7);
+    Ok(())
+}
+
+// They tell each other, and one cancels what it sold.
+fn cancel_together(rt: &impl Abort, office: &mut Office) -> Result<(), Fail> {
+    office.tell(rt, 0, 1)?;
+    office.tell(rt, 1, 0)?;
+    office.assert_sold(rt, [7, 7], 7);
+    office.cancel(rt, 0, 3, Sale::Accepted { index: 1, stamp: 2 })?;
+    office.assert_sold(rt, [4, 7], 4);
+    Ok(())
+}
+
+#[test]
+fn sells_at_both_and_never_too_many(rt: HostRuntime) -> Result<(), Fail> {
+    let mut office = Office::new(rt.alloc())?;
+    sell_apart(&rt, &mut office)?;
+    cancel_together(&rt, &mut office)?;
+    assert_eq!(rt; office.booking.entries().len(), 8);
+    assert_eq!(rt; office.booking.trades().len(), 10);
+    Ok(())
+}

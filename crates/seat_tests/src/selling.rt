@@ -1,0 +1,99 @@
+//! Sales and cancellations at one replica.
+
+ghost use Rattle.std.specs.Prelude.{◌≡◌};
+
+use replica_core::{CoreFault, Replica};
+use run_model::Config;
+use seat_app::{Sale, Seats};
+use std::alloc::Global;
+use std::process::Abort;
+use std::test::Fail;
+
+/// Replica 0 of two, which has 4 of 10 out at its peer.
+#[derive(Drop)]
+struct Counter {
+    replica: Replica,
+    ghost conits: { replica.core.setup.conits ≡ 1 },
+}
+
+impl Counter {
+    fn new(alloc: Global) -> Result<Box<Counter>, Fail> {
+        let config = Config::new(alloc, 2, 1, &[10; 2], &[0, 4, 10, 0])?;
+        let counter = Counter {
+            replica: Replica::new(alloc, &config, 0)?,
+        };
+        Ok(Box::new(alloc, counter)?)
+    }
+
+    fn sell(&mut self, rt: &impl Abort, amount: u64) -> Result<Sale, CoreFault> {
+        assert!(rt; 1 <= amount && amount <= 10);
+        Seats::new(0, 10).sell(&mut self.replica, 5, 3, 7, amount)
+    }
+
+    fn cancel(&mut self, rt: &impl Abort, amount: u64) -> Result<Sale, CoreFault> {
+        assert!(rt; 1 <= amount && amount <= 10);
+        Seats::new(0, 10).cancel(&mut self.replica, 5, 3, 7, amount)
+    }
+
+    /// It begins anew, as often as it may.
+    fn fill(&mut self) -> Result<(), Fail> {
+        for _ in 0..20_000 {
+            self.replica.restart(0)?;
+        }
+        Ok(())
+    }
+}
+
+#[test]
+fn sells_up_to_the_capacity_and_cancels_down_to_none(rt: HostRuntime) -> Result<(), Fail> {
+    let mut counter = Counter::new(rt.alloc())?;
+    let over = Sale::Over {
+        value: 0,
+        out: 4,
+        amount: 7,
+        capacity: 10,
+    };
+    let under = Sale::Under {
+        value: 6,
+        out: 4,
+        amount: 3,
+    };
+    assert_eq!(rt; counter.sell(&rt, 7)?, over);
+    assert_eq!(rt;
+        counter.sell(&rt, 6)?,
+        Sale::Accepted { index: 0, stamp: 1 }
+    );
+    assert_eq!(rt; counter.cancel(&rt, 3)?, under);
+    assert_eq!(rt;
+        counter.cancel(&rt, 2)?,
+        Sale::Accepted { index: 1, stamp: 2 }
+    );
+    assert_eq!(rt; counter.replica.get(7), 4);
+    assert_eq!(rt; counter.replica.count(), 2);
+    Ok(())
+}
+
+#[test]
+fn takes_no_memory_where_it_was_reserved(rt: HostRuntime) -> Result<(), Fail> {
+    let mut counter = Counter::new(rt.alloc())?;
+    counter.replica.reserve(1)?;
+    assert_eq!(rt;
+        counter.sell(&rt, 1)?,
+        Sale::Accepted { index: 0, stamp: 1 }
+    );
+    assert_eq!(rt; counter.replica.spare(), 0);
+    Ok(())
+}
+
+#[test]
+fn is_full_before_it_is_over(rt: HostRuntime) -> Result<(), Fail> {
+    let mut counter = Counter::new(rt.alloc())?;
+    counter.fill()?;
+    let full = CoreFault::Full {
+        count: 20_000,
+        clock: 0,
+    };
+    assert_eq!(rt; counter.sell(&rt, 10), Err(full));
+    assert_eq!(rt; counter.cancel(&rt, 10), Err(full));
+    Ok(())
+}
