@@ -7,7 +7,7 @@ use Rattle.run_model.specs.Promises.{IsKept}
 use Rattle.run_model.specs.Runs.{IsRun}
 use Rattle.run_model.specs.declared.entry.Entry.{Entry}
 use Rattle.run_promises.proofs.Kept.{IsKept-run}
-use Rattle.seat_app.specs.Networks.{NetworkState}
+use Rattle.replica_network.specs.Networks.{NetworkState}
 use Rattle.seat_app.specs.Booked.{Booked, after_trade, booked, not_booked, traded}
 use Rattle.seat_app.specs.Bookings.{BookingState, GoesOnBy, HasBooked, SellsCarefully, booked_by, entries_of, network_of, with_trade}
 use Rattle.seat_app.specs.Careful.{IsCareful, IsNeverOversold}

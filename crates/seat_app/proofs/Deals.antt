@@ -16,7 +16,7 @@ use Rattle.run_model.specs.declared.call.Request.{Request}
 use Rattle.run_model.specs.declared.entry.Entry.{Entry}
 use Rattle.run_model.specs.declared.entry.Message.{Message}
 use Rattle.run_model.proofs.PrefixLemmas.{EachAfter-push}
-use Rattle.seat_app.specs.Networks.{NetworkState, after_call, after_send, after_take, played_at, taken}
+use Rattle.replica_network.specs.Networks.{NetworkState, after_call, after_send, after_take, played_at, taken}
 use Rattle.seat_app.specs.Booked.{Booked, changed, changed_unless, moved, traded}
 use Rattle.seat_app.specs.Bookings.{GoesOnBy, SellsCarefully}
 use Rattle.seat_app.specs.Careful.{IsCareful, IsCarefulEntry, LeavesRoom, nweights_by}

@@ -4,7 +4,7 @@ use Rattle.tact_base.specs.Setup.{Setup}
 use Rattle.tact_base.specs.declared.limits.TheConstants.{WEIGHT_MAX}
 use Rattle.run_model.specs.Histories.{moment_at, part_of, sent_in}
 use Rattle.run_model.specs.Replies.{reply_of}
-use Rattle.seat_app.specs.Networks.{NetworkState, after_call, after_send, after_take}
+use Rattle.replica_network.specs.Networks.{NetworkState, after_call, after_send, after_take}
 use Rattle.seat_app.specs.Sales.{sale_of}
 use Rattle.seat_app.specs.Seats.{SeatsState, lack_after, request_of}
 use Rattle.seat_app.specs.declared.sale.Sale.{Sale}

@@ -3,7 +3,7 @@ use Rattle.std.specs.Prelude.{◌≡◌, ℕ, ◌+◌, ◌<◌, ◌≤◌, List,
 use Rattle.tact_base.specs.Setup.{IsSetup, Setup}
 use Rattle.run_model.specs.Runs.{IsRun}
 use Rattle.run_model.specs.declared.entry.Entry.{Entry}
-use Rattle.seat_app.specs.Networks.{NetworkState}
+use Rattle.replica_network.specs.Networks.{NetworkState}
 use Rattle.seat_app.specs.Booked.{Booked, booked}
 use Rattle.seat_app.specs.Careful.{IsCareful}
 use Rattle.seat_app.specs.Seats.{SeatsState}

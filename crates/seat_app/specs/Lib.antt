@@ -2,6 +2,5 @@ pub mod Seats
 pub mod Sales
 pub mod Careful
 pub mod Selling
-pub mod Networks
 pub mod Booked
 pub mod Bookings

@@ -8,10 +8,9 @@ ghost use Rattle.seat_app.specs.Seats.{out_of};
 
 use replica_core::Replica;
 
-/// What all peers have of the bound on a conit of a replica, which is one of so many. Takes no memory.
-pub(crate) fn all_out(replica: &Replica, replicas: u32, conit: u32) -> u64
-    requires replicas { replicas ≡ replica.now.core.setup.replicas }
-    requires conit { conit < replica.now.core.setup.conits }
+/// What all peers of a replica have of its bound on a conit. Takes no memory.
+pub(crate) fn all_out(replica: &Replica, conit: u32) -> u64
+    requires { conit < replica.now.core.setup.conits }
     ensures all { result ≡ all_out replica.now.core.budgets conit }
     ensures of_part { (part : List Entry) → Stands part replica.now.core
         → result ≡ out_of replica.now.core.setup replica.now.core.replica part conit }
@@ -20,7 +19,7 @@ pub(crate) fn all_out(replica: &Replica, replicas: u32, conit: u32) -> u64
     let own = replica.number();
     let budgets = replica.budgets();
     let mut out = 0;
-    for peer in 0..replicas {
+    for peer in 0..replica.replicas() {
         if peer != own {
             out += budgets.out(peer, conit);
         }

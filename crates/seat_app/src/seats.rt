@@ -57,7 +57,7 @@ impl Seats {
         self.conit
     }
 
-    /// Sells so many places at a replica, one of so many, and a moment: a write adds them to the key and to the conit's value, and weighs 1
+    /// Sells so many places at a replica and a moment: a write adds them to the key and to the conit's value, and weighs 1
     /// in the order. `Over` comes exactly where, and the replica isn't full, the value that it sees passes the capacity with
     /// them and with all that is out at its peers; then nothing is asked. So no more places than there are can be sold,
     /// whatever the peers sold unseen (this project's own rule).
@@ -67,13 +67,11 @@ impl Seats {
     pub fn sell(
         &self,
         replica: &mut Replica,
-        replicas: u32,
         moment: u64,
         client: u32,
         key: u64,
         amount: u64,
     ) -> Result<Sale, CoreFault>
-        requires replicas { replicas ≡ replica.old.core.setup.replicas }
         requires moment { moment ≤ MOMENT_MAX }
         requires client { client < CLIENTS }
         requires key { key ≤ KEY_MAX }
@@ -97,23 +95,21 @@ impl Seats {
         ensures enough { 0 < replica.old.spare → is_full replica.old.core ≡ false → IsOk result }
         ensures err { OnErr result (replica.new ≡ replica.old) }
     {
-        self.change(replica, replicas, moment, client, key, amount as i64)
+        self.change(replica, moment, client, key, amount as i64)
     }
 
-    /// Cancels so many places at a replica, one of so many, and a moment, as `sell` sells them: a write takes them from the key and from the
+    /// Cancels so many places at a replica and a moment, as `sell` sells them: a write takes them from the key and from the
     /// conit's value. `Under` comes exactly where, and the replica isn't full, the value that it sees is below them with all
     /// that is out at its peers. So no fewer places than none can be sold, whatever the peers cancelled unseen. The faults
     /// are those of `sell`.
     pub fn cancel(
         &self,
         replica: &mut Replica,
-        replicas: u32,
         moment: u64,
         client: u32,
         key: u64,
         amount: u64,
     ) -> Result<Sale, CoreFault>
-        requires replicas { replicas ≡ replica.old.core.setup.replicas }
         requires moment { moment ≤ MOMENT_MAX }
         requires client { client < CLIENTS }
         requires key { key ≤ KEY_MAX }
@@ -137,20 +133,18 @@ impl Seats {
         ensures enough { 0 < replica.old.spare → is_full replica.old.core ≡ false → IsOk result }
         ensures err { OnErr result (replica.new ≡ replica.old) }
     {
-        self.change(replica, replicas, moment, client, key, -(amount as i64))
+        self.change(replica, moment, client, key, -(amount as i64))
     }
 
-    // Asks a replica, one of so many, for so many places more or, below 0, fewer.
+    // Asks a replica for so many places more or, below 0, fewer.
     fn change(
         &self,
         replica: &mut Replica,
-        replicas: u32,
         moment: u64,
         client: u32,
         key: u64,
         change: i64,
     ) -> Result<Sale, CoreFault>
-        requires replicas { replicas ≡ replica.old.core.setup.replicas }
         requires moment { moment ≤ MOMENT_MAX }
         requires client { client < CLIENTS }
         requires key { key ≤ KEY_MAX }
@@ -173,16 +167,15 @@ impl Seats {
         ensures err { OnErr result (replica.new ≡ replica.old) }
     {
         replica.may_enter()?;
-        if let Some(lack) = self.lack(replica, replicas, change) {
+        if let Some(lack) = self.lack(replica, change) {
             return Ok(lack);
         }
         let reply = replica.call(moment, client, &self.request(key, change))?;
         Ok(sale_of(reply))
     }
 
-    /// What keeps a change away from a replica, one of so many. Takes no memory.
-    pub(crate) fn lack(&self, replica: &Replica, replicas: u32, change: i64) -> Option<Sale>
-        requires replicas { replicas ≡ replica.now.core.setup.replicas }
+    /// What keeps a change away from a replica. Takes no memory.
+    pub(crate) fn lack(&self, replica: &Replica, change: i64) -> Option<Sale>
         requires few { unsigned_abs change ≤ WEIGHT_MAX }
         requires conit { self.now.conit < replica.now.core.setup.conits }
         ensures lack { result ≡ lack_at self.now replica.now.core change }
@@ -190,7 +183,7 @@ impl Seats {
             → result ≡ lack_after self.now replica.now.core.setup replica.now.core.replica part change }
     {
         let value = replica.value(self.conit);
-        let out = all_out(replica, replicas, self.conit);
+        let out = all_out(replica, self.conit);
         let amount = change.unsigned_abs();
         if change < 0 {
             return under(value, out, amount);
@@ -205,7 +198,7 @@ impl Seats {
         ensures { result ≡ over self.now value out amount }
     {
         let capacity = self.capacity;
-        if value > capacity as i64 - amount as i64 {
+        if value > capacity as i64 - out as i64 - amount as i64 {
             return Some(Sale::Over {
                 value,
                 out,

@@ -14,7 +14,7 @@ within : (c : After-out-out)
 within c =
     let setup = c.budgets-budgets.ensures.setup in
     outs-within c.budgets-budgets.result.now c.args.conit c.loop-peer.peer c.out-out.ensures.kept
-    (omega (arith, c.requires.conit, ap (λ (s : Setup). s.conits) setup)) (omega (arith, c.requires.replicas, ap (λ (s : Setup). s.replicas) setup, c.loop-peer-test.true))
+    (omega (arith, c.requires, ap (λ (s : Setup). s.conits) setup)) (omega (arith, c.replicas-peer-end.ensures.count, ap (λ (s : Setup). s.replicas) setup, c.loop-peer-test.true))
     (λ same. c.if-peer-own.true (same ∙ c.budgets-budgets.ensures.replica ∙ sym c.number-own.ensures))
 
 pub overflow_add-out : goal.overflow_add-out
@@ -30,7 +30,7 @@ loop-peer-preserved c =
       | then-peer-own w ↦
           let other : peer ≡ budgets.replica → ⊥ = λ same. w.if-peer-own.true (same ∙ sym own) in
           let all = outs-within budgets c.args.conit peer w.out-out.ensures.kept
-          (omega (arith, c.requires.conit, ap (λ (s : Setup). s.conits) setup)) (omega (arith, c.requires.replicas, ap (λ (s : Setup). s.replicas) setup, c.loop-peer-test.true)) other in
+          (omega (arith, c.requires, ap (λ (s : Setup). s.conits) setup)) (omega (arith, c.replicas-peer-end.ensures.count, ap (λ (s : Setup). s.replicas) setup, c.loop-peer-test.true)) other in
           record {
             so_far = omega (arith, outs-peer budgets c.args.conit peer other, c.loop-peer.invariant.so_far, w.out-out.ensures.out, w.out-is);
             few = omega (arith, all, c.loop-peer.invariant.so_far, w.out-out.ensures.out, w.out-is);
@@ -46,7 +46,7 @@ pub returns-clause-all : goal.returns-clause-all
 returns-clause-all c =
     let budgets = c.budgets-budgets.result.now in
     c.loop-peer.invariant.so_far
-    ∙ outs-all budgets c.args.conit c.loop-peer.peer (omega (arith, c.requires.replicas, ap (λ (s : Setup). s.replicas) c.budgets-budgets.ensures.setup, c.loop-peer-test.false, c.loop-peer.auto.peer-end))
+    ∙ outs-all budgets c.args.conit c.loop-peer.peer (omega (arith, c.replicas-peer-end.ensures.count, ap (λ (s : Setup). s.replicas) c.budgets-budgets.ensures.setup, c.loop-peer-test.false, c.loop-peer.auto.peer-end))
     ∙ ap (λ (b : BudgetState). all_out b c.args.conit) (sym c.budgets-budgets.ensures.budgets)
 
 pub returns-clause-of_part : goal.returns-clause-of_part
@@ -54,4 +54,4 @@ returns-clause-of_part c = λ part stands.
     let budgets = c.budgets-budgets.ensures in
     returns-clause-all c
     ∙ all_out-part c.args.replica.now.core part c.args.conit stands (ap (λ (b : BudgetState). b.setup) budgets.budgets ∙ budgets.setup)
-    (ap (λ (b : BudgetState). b.replica) budgets.budgets ∙ budgets.replica) c.requires.conit
+    (ap (λ (b : BudgetState). b.replica) budgets.budgets ∙ budgets.replica) c.requires
