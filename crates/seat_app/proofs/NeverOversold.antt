@@ -1,5 +1,6 @@
 -- A careful run never sells too many places, nor fewer than none.
-use Rattle.std.proofs.Common.{◌≡◌, ◌==◌, ℕ, zero, suc, ◌<◌, ◌≤◌, unsigned_abs, ℤ, pos, negsuc, ◌+ℤ◌, ◌-ℤ◌, ◌≤ℤ◌, ◌<ℤ◌, List, [], ◌∷◌, ◌++◌, length, get_or, map, flat_map, sum, All, Option, None, Some, refl, sym, subst, arith}
+use Rattle.std.proofs.Common.{◌≡◌, ◌==◌, ℕ, zero, suc, ◌<◌, ◌≤◌, unsigned_abs, ℤ, pos, negsuc, ◌+ℤ◌, ◌-ℤ◌, ◌≤ℤ◌, ◌<ℤ◌, List, [], ◌∷◌, ◌++◌, length}
+use Rattle.std.proofs.Common.{get_or, map, flat_map, sum, All, Option, None, Some, refl, sym, subst, arith}
 use Rattle.std.specs.Option.{option_to_list}
 use Rattle.std.proofs.lemmas.Bool.{eqb-true}
 use Rattle.std.proofs.lemmas.Int.{ints}
@@ -85,11 +86,13 @@ module _ (setup : Setup) (seats : SeatsState) (before : List Entry) (entry : Ent
           let asked = acted_is_asked setup entry.replica entry.moment entry.act write lawful.due.in_range.act is in
           let d : Weight = record { conit = 0; nweight = pos 0; oweight = 0 } in
           let on = weights_on (write ∷ []) seats.conit in
+          let all = flat_map (λ (w : Write). w.weights) (write ∷ []) in
+          let here = λ (weight : Weight). weight.conit == seats.conit in
           let each = subst (All (λ (weight : Weight). weight.conit < setup.conits)) (sym (append-nil write.weights))
           (All-weaker (IsWeightInRange setup) (λ (weight : Weight). weight.conit < setup.conits) (λ weight fits. fits.conit) write.weights asked.weights.each) in
-          let below = All-filter (λ (weight : Weight). weight.conit == seats.conit) (λ (weight : Weight). weight.conit < setup.conits) (flat_map (λ (w : Write). w.weights) (write ∷ [])) each 0 d some in
-          let here = filter_passes (λ (weight : Weight). weight.conit == seats.conit) (flat_map (λ (w : Write). w.weights) (write ∷ [])) 0 d some in
-          omega (arith, below, eqb-true (get_or on 0 d).conit seats.conit here)
+          let below = All-filter here (λ (weight : Weight). weight.conit < setup.conits) all each 0 d some in
+          let passes = filter_passes here all 0 d some in
+          omega (arith, below, eqb-true (get_or on 0 d).conit seats.conit passes)
 
   -- what the replica sees is off by at most what it has out
   off : seats.conit < setup.conits

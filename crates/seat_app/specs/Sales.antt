@@ -1,5 +1,5 @@
 -- What a sale or a cancellation came to: it was kept away, or a reply was given.
-use Rattle.std.specs.Prelude.{ℕ, List, [], ◌∷◌, Option, None, Some}
+use Rattle.std.specs.Prelude.{ℕ, List, Option, None, Some}
 use Rattle.tact_base.specs.Setup.{Setup}
 use Rattle.run_model.specs.Histories.{calls_in, moment_at}
 use Rattle.run_model.specs.Replies.{reply_of}

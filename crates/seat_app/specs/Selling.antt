@@ -36,4 +36,5 @@ TellsDue old handed asked told =
 -- its entry is careful
 abbrev pub IsDueCareful : SeatsState → Core → ℕ → ℕ → Request → Type 0
 IsDueCareful seats old handed client asked =
-    (part : List Entry) → Stands part old → IsCarefulEntry old.setup seats part (entry_due old.setup old.replica part handed client asked)
+    (part : List Entry) → Stands part old
+    → IsCarefulEntry old.setup seats part (entry_due old.setup old.replica part handed client asked)

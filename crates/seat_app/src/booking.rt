@@ -38,8 +38,8 @@ impl Model for Booking {
 }
 
 impl Booking {
-    /// The replicas of a setup, at which nothing was sold. They keep what they have in memory of `alloc`. `NoMemory` is the
-    /// only error.
+    /// The replicas of a setup, at which nothing was sold. They keep what they have in memory of `alloc`. `NoMemory` is
+    /// the only error.
     pub fn new(alloc: Global, config: &Config, seats: Seats) -> Result<Booking, NoMemory>
         requires { seats.conit < config.now.conits }
         ensures { IfOk result (λ booking. booking ≡ record { setup = config.now; seats = seats; trades = [] }) }
@@ -51,19 +51,20 @@ impl Booking {
         })
     }
 
-    /// Makes one trade at a moment: places are sold or cancelled at a replica, as `Seats::sell` and `Seats::cancel` have it,
-    /// with the key 0 and the client 0; a replica sends to another, with zeros as the firsts; or what was sent is taken. The
-    /// moment of an entry is the greater of the handed one and that of the replica's last entry.
+    /// Makes one trade at a moment: places are sold or cancelled at a replica, as `Seats::sell` and `Seats::cancel`
+    /// have it, with the key 0 and the client 0; a replica sends to another, with zeros as the firsts; or what was
+    /// sent is taken. The moment of an entry is the greater of the handed one and that of the replica's last entry.
     ///
-    /// Whatever is lost, repeated or reordered, the entries are a run that keeps its promises, each replica accepts only what
-    /// leaves room, and at every point of it, of all writes that all replicas accepted, the places that are sold are between
-    /// 0 and the capacity. `NoMemory` is the only error, and leaves all as it was.
+    /// Whatever is lost, repeated or reordered, the entries are a run that keeps its promises, each replica accepts
+    /// only what leaves room, and at every point, of all writes that all replicas accepted, the places that are sold
+    /// are between 0 and the capacity. `NoMemory` is the only error, and leaves all as it was.
     pub fn step(&mut self, moment: u64, trade: &Trade) -> Result<Outcome, NoMemory>
         requires moment { moment ≤ MOMENT_MAX }
         requires may { MayTrade (network_of self.old) trade.now }
         requires few { length self.old.trades < TRADES_MAX }
         ensures traded { OnOk result (self.new ≡ with_trade self.old moment trade.now) }
-        ensures outcome { IfOk result (λ outcome. (booked_by self.new).outcomes ≡ (booked_by self.old).outcomes ++ outcome ∷ []) }
+        ensures outcome { IfOk result (λ outcome.
+            (booked_by self.new).outcomes ≡ (booked_by self.old).outcomes ++ outcome ∷ []) }
         ensures run { IsRun self.new.setup (entries_of self.new) }
         ensures kept { IsKept self.new.setup (entries_of self.new) }
         ensures careful { IsCareful self.new.setup self.new.seats (entries_of self.new) }

@@ -21,7 +21,8 @@ pub(crate) fn deal(
     requires few { length network.old.entries < HISTORY_MAX }
     requires moment { moment ≤ MOMENT_MAX }
     requires may { MayTrade network.old trade.now }
-    ensures goes { IfOk result (GoesOnBy seats.now (λ before. traded seats.now before moment trade.now) network.old network.new) }
+    ensures goes { IfOk result (GoesOnBy seats.now (λ before. traded seats.now before moment trade.now)
+        network.old network.new) }
     ensures err { OnErr result (network.new ≡ network.old) }
 {
     match *trade {
@@ -57,7 +58,8 @@ fn change(
     requires moment { moment ≤ MOMENT_MAX }
     requires replica { replica < network.old.setup.replicas }
     requires size { unsigned_abs change ≤ WEIGHT_MAX }
-    ensures goes { IfOk result (λ sale. GoesOnBy seats.now (λ before. changed seats.now before moment replica change) network.old network.new (Traded sale)) }
+    ensures goes { IfOk result (λ sale. GoesOnBy seats.now (λ before. changed seats.now before moment replica change)
+        network.old network.new (Traded sale)) }
     ensures err { OnErr result (network.new ≡ network.old) }
 {
     if let Some(lack) = seats.lack(network.at(replica), change) {

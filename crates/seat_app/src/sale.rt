@@ -7,16 +7,16 @@ use run_model::Reply;
 /// What a sale or a cancellation of places comes to at a replica.
 #[derive(Debug, Drop, PartialEq, Eq)]
 pub enum Sale {
-    /// With this amount, and all that its peers may have sold unseen, more than the capacity might be sold: the value that
-    /// it sees, and what of its bound is out at them. Nothing was asked.
+    /// With this amount, and all that its peers may have sold unseen, more than the capacity might be sold: the value
+    /// that it sees, and what of its bound is out at them. Nothing was asked.
     Over {
         value: i64,
         out: u64,
         amount: u64,
         capacity: u64,
     },
-    /// Without this amount, and all that its peers may have cancelled unseen, fewer than none might be sold: the value that
-    /// it sees, and what of its bound is out at them. Nothing was asked.
+    /// Without this amount, and all that its peers may have cancelled unseen, fewer than none might be sold: the value
+    /// that it sees, and what of its bound is out at them. Nothing was asked.
     Under {
         value: i64,
         out: u64,

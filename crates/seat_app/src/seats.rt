@@ -1,10 +1,6 @@
 //! Places of one capacity, and their sale at a replica.
 ghost use Rattle.std.specs.Prelude.{◌≡◌, ◌+◌, ◌<◌, ◌≤◌, List, [], ◌∷◌, None, false, pos, neg_ℤ, unsigned_abs, IfErr, IfOk, IsOk, OnErr, OnOk};
-ghost use Rattle.tact_base.specs.Sums.{net_sum};
 ghost use Rattle.tact_base.specs.declared.limits.TheConstants.{ALPHA_MAX, AMOUNT_MAX, CLIENTS, KEY_MAX, MOMENT_MAX, WEIGHT_MAX};
-ghost use Rattle.split_budget.specs.Budgets.{all_out};
-ghost use Rattle.run_model.specs.Order.{value};
-ghost use Rattle.run_model.specs.Ranges.{IsRequestInRange};
 ghost use Rattle.run_model.specs.declared.entry.Entry.{Entry};
 ghost use Rattle.replica_core.specs.States.{is_full};
 ghost use Rattle.replica_core.specs.Stands.{IsFaultOf, IsSameReplica, Stands};
@@ -57,13 +53,13 @@ impl Seats {
         self.conit
     }
 
-    /// Sells so many places at a replica and a moment: a write adds them to the key and to the conit's value, and weighs 1
-    /// in the order. `Over` comes exactly where, and the replica isn't full, the value that it sees passes the capacity with
-    /// them and with all that is out at its peers; then nothing is asked. So no more places than there are can be sold,
-    /// whatever the peers sold unseen (this project's own rule).
+    /// Sells so many places at a replica and a moment: a write adds them to the key and to the conit's value, and
+    /// weighs 1 in the order. `Over` comes exactly where, and the replica isn't full, the value that it sees passes
+    /// the capacity with them and with all that is out at its peers; then nothing is asked. So no more places than
+    /// there are can be sold, whatever the peers sold unseen (this project's own rule).
     ///
-    /// `Full` comes exactly where 20,000 entries were made or the clock stands at 2^40. `NoMemory` doesn't come where the
-    /// sale is `Over`, nor where there is room for a write (`spare`). Both leave the replica as it was.
+    /// `Full` comes exactly where 20,000 entries were made or the clock stands at 2^40. `NoMemory` doesn't come where
+    /// the sale is `Over`, nor where there is room for a write (`spare`). Both leave the replica as it was.
     pub fn sell(
         &self,
         replica: &mut Replica,
@@ -82,26 +78,30 @@ impl Seats {
         ensures lack { IfOk result (λ sale. lack_in sale ≡ over_at self.now replica.old.core amount) }
         ensures over { IfOk result (OnLack (replica.new ≡ replica.old)) }
 
-        ensures goes_on { IfOk result (OnReply (EntersDue replica.old.core replica.new.core moment client (request_of self.now key (pos amount)))) }
-        ensures due { IfOk result (λ sale. OnReply (TellsDue replica.old.core moment (request_of self.now key (pos amount)) sale) sale) }
-        ensures careful { IfOk result (OnReply (IsDueCareful self.now replica.old.core moment client (request_of self.now key (pos amount)))) }
+        ensures goes_on { IfOk result (OnReply (EntersDue replica.old.core replica.new.core moment client
+            (request_of self.now key (pos amount)))) }
+        ensures due { IfOk result (λ sale. OnReply (TellsDue replica.old.core moment
+            (request_of self.now key (pos amount)) sale) sale) }
+        ensures careful { IfOk result (OnReply (IsDueCareful self.now replica.old.core moment client
+            (request_of self.now key (pos amount)))) }
 
         ensures same { IsSameReplica replica.old.core replica.new.core }
         ensures spare { replica.old.spare ≤ replica.new.spare + 1 }
         ensures not_full { OnOk result (is_full replica.old.core ≡ false) }
 
         ensures fault { IfErr result (IsFaultOf replica.old.core) }
-        ensures order { OnErr result (is_full replica.old.core ≡ false → over_at self.now replica.old.core amount ≡ None) }
+        ensures order { OnErr result (is_full replica.old.core ≡ false
+            → over_at self.now replica.old.core amount ≡ None) }
         ensures enough { 0 < replica.old.spare → is_full replica.old.core ≡ false → IsOk result }
         ensures err { OnErr result (replica.new ≡ replica.old) }
     {
         self.change(replica, moment, client, key, amount as i64)
     }
 
-    /// Cancels so many places at a replica and a moment, as `sell` sells them: a write takes them from the key and from the
-    /// conit's value. `Under` comes exactly where, and the replica isn't full, the value that it sees is below them with all
-    /// that is out at its peers. So no fewer places than none can be sold, whatever the peers cancelled unseen. The faults
-    /// are those of `sell`.
+    /// Cancels so many places at a replica and a moment, as `sell` sells them: a write takes them from the key and
+    /// from the conit's value. `Under` comes exactly where, and the replica isn't full, the value that it sees is
+    /// below them with all that is out at its peers. So no fewer places than none can be sold, whatever the peers
+    /// cancelled unseen. The faults are those of `sell`.
     pub fn cancel(
         &self,
         replica: &mut Replica,
@@ -120,16 +120,20 @@ impl Seats {
         ensures lack { IfOk result (λ sale. lack_in sale ≡ under_at self.now replica.old.core amount) }
         ensures under { IfOk result (OnLack (replica.new ≡ replica.old)) }
 
-        ensures goes_on { IfOk result (OnReply (EntersDue replica.old.core replica.new.core moment client (request_of self.now key (neg_ℤ (pos amount))))) }
-        ensures due { IfOk result (λ sale. OnReply (TellsDue replica.old.core moment (request_of self.now key (neg_ℤ (pos amount))) sale) sale) }
-        ensures careful { IfOk result (OnReply (IsDueCareful self.now replica.old.core moment client (request_of self.now key (neg_ℤ (pos amount))))) }
+        ensures goes_on { IfOk result (OnReply (EntersDue replica.old.core replica.new.core moment client
+            (request_of self.now key (neg_ℤ (pos amount))))) }
+        ensures due { IfOk result (λ sale. OnReply (TellsDue replica.old.core moment
+            (request_of self.now key (neg_ℤ (pos amount))) sale) sale) }
+        ensures careful { IfOk result (OnReply (IsDueCareful self.now replica.old.core moment client
+            (request_of self.now key (neg_ℤ (pos amount))))) }
 
         ensures same { IsSameReplica replica.old.core replica.new.core }
         ensures spare { replica.old.spare ≤ replica.new.spare + 1 }
         ensures not_full { OnOk result (is_full replica.old.core ≡ false) }
 
         ensures fault { IfErr result (IsFaultOf replica.old.core) }
-        ensures order { OnErr result (is_full replica.old.core ≡ false → under_at self.now replica.old.core amount ≡ None) }
+        ensures order { OnErr result (is_full replica.old.core ≡ false
+            → under_at self.now replica.old.core amount ≡ None) }
         ensures enough { 0 < replica.old.spare → is_full replica.old.core ≡ false → IsOk result }
         ensures err { OnErr result (replica.new ≡ replica.old) }
     {
@@ -153,16 +157,20 @@ impl Seats {
         ensures lack { IfOk result (λ sale. lack_in sale ≡ lack_at self.now replica.old.core change) }
         ensures kept_away { IfOk result (OnLack (replica.new ≡ replica.old)) }
 
-        ensures goes_on { IfOk result (OnReply (EntersDue replica.old.core replica.new.core moment client (request_of self.now key change))) }
-        ensures due { IfOk result (λ sale. OnReply (TellsDue replica.old.core moment (request_of self.now key change) sale) sale) }
-        ensures careful { IfOk result (OnReply (IsDueCareful self.now replica.old.core moment client (request_of self.now key change))) }
+        ensures goes_on { IfOk result (OnReply (EntersDue replica.old.core replica.new.core moment client
+            (request_of self.now key change))) }
+        ensures due { IfOk result (λ sale. OnReply (TellsDue replica.old.core moment
+            (request_of self.now key change) sale) sale) }
+        ensures careful { IfOk result (OnReply (IsDueCareful self.now replica.old.core moment client
+            (request_of self.now key change))) }
 
         ensures same { IsSameReplica replica.old.core replica.new.core }
         ensures spare { replica.old.spare ≤ replica.new.spare + 1 }
         ensures not_full { OnOk result (is_full replica.old.core ≡ false) }
 
         ensures fault { IfErr result (IsFaultOf replica.old.core) }
-        ensures order { OnErr result (is_full replica.old.core ≡ false → lack_at self.now replica.old.core change ≡ None) }
+        ensures order { OnErr result (is_full replica.old.core ≡ false
+            → lack_at self.now replica.old.core change ≡ None) }
         ensures enough { 0 < replica.old.spare → is_full replica.old.core ≡ false → IsOk result }
         ensures err { OnErr result (replica.new ≡ replica.old) }
     {

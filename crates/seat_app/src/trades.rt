@@ -10,8 +10,8 @@ pub const KEY: u64 = 0;
 
 pub const CLIENT: u32 = 0;
 
-/// A trade: places are sold or cancelled at a replica, a replica sends to another, or the message of a number is taken by
-/// its receiver, counted from 0 over all sendings.
+/// A trade: places are sold or cancelled at a replica, a replica sends to another, or the message of a number is taken
+/// by its receiver, counted from 0 over all sendings.
 #[derive(Clone, Copy, Debug, PartialEq, Eq)]
 pub enum Trade {
     Sell { replica: u32, amount: u64 },

@@ -45,8 +45,10 @@ loop-peer-preserved c =
 pub returns-clause-all : goal.returns-clause-all
 returns-clause-all c =
     let budgets = c.budgets-budgets.result.now in
+    let last : c.loop-peer.peer ≡ budgets.setup.replicas =
+    omega (arith, c.replicas-peer-end.ensures.count, ap (λ (s : Setup). s.replicas) c.budgets-budgets.ensures.setup, c.loop-peer-test.false, c.loop-peer.auto.peer-end) in
     c.loop-peer.invariant.so_far
-    ∙ outs-all budgets c.args.conit c.loop-peer.peer (omega (arith, c.replicas-peer-end.ensures.count, ap (λ (s : Setup). s.replicas) c.budgets-budgets.ensures.setup, c.loop-peer-test.false, c.loop-peer.auto.peer-end))
+    ∙ outs-all budgets c.args.conit c.loop-peer.peer last
     ∙ ap (λ (b : BudgetState). all_out b c.args.conit) (sym c.budgets-budgets.ensures.budgets)
 
 pub returns-clause-of_part : goal.returns-clause-of_part
