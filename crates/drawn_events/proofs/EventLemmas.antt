@@ -1,16 +1,18 @@
 -- What a step draws may follow the events so far.
 use Rattle.std.proofs.Common.{◌≡◌, ℕ, ◌+◌, ◌<◌, ◌≤◌, ◌==◌, Bool, true, false, nat_lt, cond, List, [], ◌∷◌, ◌++◌, length, replicate, Option, None, Some, refl, sym, ap, ◌∙◌, subst, arith}
+use Rattle.std.specs.Option.{option_map}
 use Rattle.std.proofs.lemmas.Bool.{eqb-false}
 use Rattle.run_model.proofs.PrefixLemmas.{EachAfter-nil, EachAfter-push}
-use Rattle.drawn_scripts.specs.Draws.{drawn, some_drawn, two_drawn}
+use Rattle.drawn_scripts.specs.Draws.{drawn, one_drawn, pick, some_drawn, two_drawn}
 use Rattle.drawn_scripts.proofs.DrawnLemmas.{picked_below, two_are_two}
 use Rattle.drawn_scripts.proofs.DrawsLemmas.{after_more, after_none}
 use Rattle.primary_commit.specs.Happenings.{Happened}
 use Rattle.primary_commit.specs.Networks.{MayFollow, network_after, peer_at}
 use Rattle.primary_commit.specs.Peers.{PeerState}
 use Rattle.primary_commit.specs.declared.primary.Event.{Event}
+use Rattle.primary_commit.specs.declared.primary.Event.TheVariants as event
 use Rattle.primary_commit.proofs.Agreement.{Holds-none, Holds-on}
-use Rattle.drawn_events.specs.DrawnEvents.{IsAmongFour, accept_drawn, counts_of, event_drawn, events_after, firsts_given, one_taken, post_drawn, step_drawn, take_drawn}
+use Rattle.drawn_events.specs.DrawnEvents.{IsAmongFour, accept_drawn, counts_of, event_drawn, events_after, firsts_given, post_drawn, step_drawn, take_drawn}
 
 -- each peer has a log of each of the four
 pub four_logs : (happened : Happened) (replica : ℕ)
@@ -44,13 +46,13 @@ post_may events state =
     (two.first_in, two.second_in, two.others, length-firsts (peer_at (network_after 4 events) (two_drawn state).0.1) _)
 
 take_may : (events : List Event) (state : ℕ) → MayFollowIfAny events (take_drawn (length (network_after 4 events).notices) state).0
-unfolding take_drawn
+unfolding take_drawn one_drawn
 take_may events state = go (posted == 0) refl
   where
     posted : ℕ
     posted = length (network_after 4 events).notices
 
-    go : (none : Bool) → (posted == 0) ≡ none → MayFollowIfAny events (cond none (drawn None) (some_drawn (one_taken posted)) state).0
+    go : (none : Bool) → (posted == 0) ≡ none → MayFollowIfAny events (option_map event.Take (cond none (drawn None) (some_drawn (pick posted)) state).0)
     go true is = tt
     go false is = picked_below posted state (omega (arith, eqb-false posted 0 is))
 

@@ -1,8 +1,9 @@
 -- The events that a number draws: four peers that accept, post and take at random, and no other choice.
-use Rattle.std.specs.Prelude.{◌≡◌, ℕ, ◌==◌, pos, nat_lt, List, [], ◌++◌, length, map, replicate, Option, None, if◌then◌else◌}
+use Rattle.std.specs.Prelude.{◌≡◌, ℕ, ◌==◌, pos, nat_lt, List, [], ◌++◌, length, map, replicate, Option, if◌then◌else◌}
 use Rattle.std.specs.List.{range_with_len}
+use Rattle.std.specs.Option.{option_map}
 use Rattle.tact_base.specs.declared.write.Op.TheVariants.{Put}
-use Rattle.drawn_scripts.specs.Draws.{Drawing, drawn, ◌>>=◌, after_steps, listed, pick, some_drawn, two_drawn}
+use Rattle.drawn_scripts.specs.Draws.{Drawing, drawn, ◌>>=◌, after_steps, listed, one_drawn, pick, some_drawn, two_drawn}
 use Rattle.primary_commit.specs.Happenings.{Happened}
 use Rattle.primary_commit.specs.Networks.{AreEvents, Network, network_after, peer_at}
 use Rattle.primary_commit.specs.Peers.{PeerState, have}
@@ -34,14 +35,11 @@ post_drawn network = do
   kind ← pick 2
   drawn (event.Post two.0 two.1 (firsts_given (peer_at network two.1) kind) (place_given (peer_at network two.1) kind))
 
--- the taking of one of so many notices that were posted; where there is none, nothing is drawn
-abbrev pub one_taken : ℕ → Drawing Event
-one_taken posted = do
-  place ← pick posted
-  drawn (event.Take place)
-
+-- the taking of one of so many notices that were posted
 unfoldable pub take_drawn : ℕ → Drawing (Option Event)
-take_drawn posted = if posted == 0 then drawn None else some_drawn (one_taken posted)
+take_drawn posted = do
+  notice ← one_drawn posted
+  drawn (option_map event.Take notice)
 
 -- what a step does, by a number below ten
 abbrev pub event_drawn : Network → ℕ → Drawing (Option Event)

@@ -75,12 +75,8 @@ fn post_event(alloc: Global, draws: &mut Draws, primary: &Primary) -> Result<Eve
 fn take_event(draws: &mut Draws, posted: u64) -> Option<Event>
     ensures { take_drawn posted draws.old ≡ (result, draws.new) }
 {
-    if posted == 0 {
-        return None;
-    }
-    Some(Event::Take {
-        notice: draws.pick(posted),
-    })
+    let notice = draws.one_of(posted)?;
+    Some(Event::Take { notice })
 }
 
 /// The event of a step of a kind, among these peers; none, where it would take a notice of none.

@@ -1,5 +1,5 @@
 -- Numbers drawn one after another from a state of 64 bits, by a linear congruence (Knuth's MMIX).
-use Rattle.std.specs.Prelude.{ℕ, ◌+◌, ◌*◌, ◌^◌, ◌/◌, ◌%◌, List, [], ◌∷◌, fold, Option, None, Some}
+use Rattle.std.specs.Prelude.{ℕ, ◌+◌, ◌*◌, ◌^◌, ◌/◌, ◌%◌, ◌==◌, List, [], ◌∷◌, fold, Option, None, Some, if◌then◌else◌}
 use Rattle.std.specs.List.{range_with_len}
 
 -- the state after a draw
@@ -35,6 +35,10 @@ abbrev pub some_drawn : {A : Type 0} → Drawing A → Drawing (Option A)
 some_drawn drawing = do
   thing ← drawing
   drawn (Some thing)
+
+-- a number below a count, where there is one; else nothing is drawn
+unfoldable pub one_drawn : ℕ → Drawing (Option ℕ)
+one_drawn count = if count == 0 then drawn None else some_drawn (pick count)
 
 abbrev pub listed : {A : Type 0} → Option A → List A
 listed None = []

@@ -1,6 +1,6 @@
 //! Numbers drawn one after another.
-ghost use Rattle.std.specs.Prelude.{◌≡◌, ◌≢◌, ◌<◌};
-ghost use Rattle.drawn_scripts.specs.Draws.{after_draw, pick, two_drawn};
+ghost use Rattle.std.specs.Prelude.{◌≡◌, ◌≢◌, ◌<◌, IfSome};
+ghost use Rattle.drawn_scripts.specs.Draws.{after_draw, one_drawn, pick, two_drawn};
 
 use std::marker::Model;
 
@@ -52,5 +52,17 @@ impl Draws {
         let first = self.pick(4) as u32;
         let step = self.pick(3) as u32;
         (first, (first + 1 + step) % 4)
+    }
+
+    /// Draws a number below `count`, where that isn't 0; else nothing is drawn. Takes no memory.
+    #[tactic(auto, unfolding(crate::specs::Draws::one_drawn))]
+    pub fn one_of(&mut self, count: u64) -> Option<u64>
+        ensures drawn { one_drawn count self.old ≡ (result, self.new) }
+        ensures below { IfSome result (λ one. one < count) }
+    {
+        if count == 0 {
+            return None;
+        }
+        Some(self.pick(count))
     }
 }

@@ -15,7 +15,9 @@ fn draws_go_on_from_their_number(rt: HostRuntime) {
         let all = [(); 4].map(|_| draws.pick(4294967296));
         assert_eq!(rt; all, drawn);
     }
-    assert_eq!(rt; Draws::new(0).pick(10), 4);
+    let mut draws = Draws::new(0);
+    assert_eq!(rt; draws.one_of(0), None, "nothing is drawn");
+    assert_eq!(rt; draws.one_of(10), Some(4));
 }
 
 #[test]
