@@ -23,7 +23,6 @@ use Rattle.replica_network.proofs.FilteredMaps.{Contains-filter_map}
 
 -- a message of a number, and the place of the entry that sends it
 pub record IsSentOne (history : List Entry) (sends : List ℕ) (number : ℕ) (message : Message) : Type 0 where
-  pub placed : number < length sends
   pub named : slice_get (sent_in history) number ≡ Some message
   pub there : message_at history (get_or sends number 0) ≡ Some message
 
@@ -35,7 +34,6 @@ sent_one_of : (history : List Entry) (sends : List ℕ) (messages : List Message
 sent_one_of history sends messages number default are is below =
     let inside : number < length sends = omega (arith, below, ap length are, length-map sends (message_at history), length-map messages Some) in
     record {
-      placed = inside;
       named = ap (λ (ms : List Message). slice_get ms number) (sym is) ∙ slice_get-get_or messages number default below;
       there =
           sym (get_or-map (message_at history) sends number 0 None inside)

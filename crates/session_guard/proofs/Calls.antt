@@ -21,9 +21,9 @@ use Rattle.run_model.specs.declared.call.Request.{Request}
 use Rattle.run_model.specs.declared.entry.Act.TheVariants as act
 use Rattle.run_model.specs.declared.entry.Entry.{Entry}
 use Rattle.run_model.proofs.Accepted.{log_of-same}
+use Rattle.replica_network.proofs.Longer.{longer}
 use Rattle.session_guard.proofs.Carrying.{IsNoLess-refl, carried_on, carried_with_stop, read_at, reads_more, reads_sized, writes_more}
 use Rattle.session_guard.proofs.DoneReplies.{done_index}
-use Rattle.session_guard.proofs.Positions.{longer}
 use Rattle.session_guard.proofs.TripLemmas.{trip_of-same, trip_of-stop}
 use Rattle.session_guard.specs.Carried.{IsCarried}
 use Rattle.session_guard.specs.Journeys.{IsClient}

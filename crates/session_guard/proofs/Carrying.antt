@@ -15,8 +15,9 @@ use Rattle.run_model.specs.OwnWrites.{accepted_by}
 use Rattle.run_model.specs.Runs.{IsDue, IsRun}
 use Rattle.run_model.specs.Taking.{have}
 use Rattle.run_model.specs.declared.entry.Entry.{Entry}
+use Rattle.replica_network.proofs.Longer.{longer}
 use Rattle.session_guard.proofs.Guarding.{IsGuarded-same, IsGuarded-stop}
-use Rattle.session_guard.proofs.Positions.{ReadsAt-last, ReadsAt-same, WritesAt-last, WritesAt-same, have_before-last, have_before-same, longer}
+use Rattle.session_guard.proofs.Positions.{ReadsAt-last, ReadsAt-same, WritesAt-last, WritesAt-same, have_before-last, have_before-same}
 use Rattle.session_guard.specs.Carried.{IsCarried}
 use Rattle.session_guard.specs.Guards.{IsRead, ReadsAt, ReadsMonotonically, ReadsYourWrites, WritesAt, WritesFollowReads, WritesMonotonically}
 use Rattle.session_guard.specs.Passes.{IsPass, PassState, fresh_pass, wanted}

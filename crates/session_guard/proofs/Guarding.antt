@@ -14,7 +14,8 @@ use Rattle.run_model.specs.Taking.{have}
 use Rattle.run_model.specs.declared.entry.Entry.{Entry}
 use Rattle.run_model.proofs.Accepted.{accepted_is_next}
 use Rattle.run_model.proofs.PrefixLemmas.{IsPrefix-refl, IsPrefix-take}
-use Rattle.session_guard.proofs.Positions.{ReadsAt-same, WritesAt-last, WritesAt-same, entry_written, longer, seen_before-last, seen_before-same}
+use Rattle.replica_network.proofs.Longer.{longer}
+use Rattle.session_guard.proofs.Positions.{ReadsAt-same, WritesAt-last, WritesAt-same, entry_written, seen_before-last, seen_before-same}
 use Rattle.session_guard.proofs.SeenWrites.{accepted_stands, seen_has, seen_stamps, seen_stands}
 use Rattle.session_guard.specs.Carried.{IsCarried}
 use Rattle.session_guard.specs.Guards.{IsGuarded, ReadsAt, ReadsMonotonically, ReadsYourWrites, WritesAt, WritesFollowReads, WritesMonotonically, seen_before}

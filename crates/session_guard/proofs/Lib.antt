@@ -5,12 +5,10 @@ pub mod SeenWrites
 pub mod Guarding
 pub mod TripLemmas
 pub mod Carrying
-pub mod Grown
 pub mod DoneReplies
 pub mod VisitLemmas
 pub mod Calls
 pub mod Going
-pub mod SentOnes
 pub mod ClientLemmas
 pub mod NewJourney
 pub mod Roaming

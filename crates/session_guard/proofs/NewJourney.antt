@@ -1,20 +1,15 @@
 -- Clients that did nothing.
-use Rattle.std.proofs.Common.{◌≡◌, ℕ, zero, suc, ◌≤◌, List, [], ◌∷◌, length, get_or, map, replicate, Some, refl, sym, ap, ap₂, ◌∙◌, subst, subst₂, arith}
+use Rattle.std.proofs.Common.{◌≡◌, ℕ, zero, suc, ◌≤◌, List, [], ◌∷◌, length, get_or, map, replicate, Some, refl, sym, ap, ap₂, ◌∙◌, subst, arith}
 use Rattle.std.specs.List.{slice_get}
 use Rattle.std.proofs.lemmas.List.{length-replicate}
 use Rattle.std.proofs.lemmas.Option.{get_or_from_slice_get}
-use Rattle.std.proofs.lemmas.List.FromFn.{length-range_with_len}
-use Rattle.std.proofs.lemmas.Simd.{splat_is_map}
-use Rattle.tact_base.specs.Setup.{IsSetup, Setup, replicas_of}
+use Rattle.tact_base.specs.Setup.{IsSetup, Setup}
 use Rattle.tact_base.specs.declared.limits.TheConstants.{CLIENTS}
-use Rattle.run_model.specs.Histories.{sent_in}
 use Rattle.run_model.specs.Runs.{IsLawful, IsRun}
-use Rattle.run_model.specs.ScriptRuns.{zeros}
-use Rattle.run_model.specs.declared.entry.Entry.{Entry}
 use Rattle.run_model.proofs.PrefixLemmas.{EachAfter-nil}
-use Rattle.replica_set.specs.Sets.{StandsFor}
+use Rattle.replica_network.specs.Networks.{NetworkState}
 use Rattle.session_guard.proofs.Carrying.{carried_fresh}
-use Rattle.session_guard.specs.Journeys.{IsClient, Keeps, made_in, message_at, setup_in}
+use Rattle.session_guard.specs.Journeys.{IsClient, Keeps, made_in}
 use Rattle.session_guard.specs.Passes.{PassState, fresh_pass}
 use Rattle.session_guard.specs.Roaming.{Roamed, not_roamed}
 use Rattle.session_guard.specs.declared.client.Client.{Client}
@@ -45,30 +40,23 @@ clients_fresh setup count number client found =
 -- A journey of clients that did nothing.
 pub opens : (journey : Journey) (setup : Setup) (count : ℕ)
     → IsSetup setup
-    → setup_in journey ≡ setup
-    → StandsFor [] journey.set
-    → journey.entries.items ≡ []
-    → journey.sends.items ≡ []
-    → journey.zeros ≡ replicate setup.replicas 0
+    → journey.network ≡ record { setup = setup; entries = [] }
     → journey.clients.items ≡ replicate count (fresh_client setup)
     → count ≤ CLIENTS
     → Keeps journey
-opens journey setup count good same stands nothing none zeros_are clients_are few = record {
-  good = subst IsSetup (sym same) good;
-  stands = subst (λ (es : List Entry). StandsFor es journey.set) (sym nothing) stands;
-  run = subst (IsRun (setup_in journey)) (sym nothing) (EachAfter-nil (IsLawful (setup_in journey)));
-  sends = ap (map (message_at journey.entries.items)) none ∙ ap (λ (es : List Entry). map Some (sent_in es)) (sym nothing);
-  zeros = zeros_are ∙ splat_is_map (replicas_of setup) setup.replicas 0 (length-range_with_len 0 setup.replicas) ∙ ap zeros (sym same);
+opens journey setup count good network_is clients_are few = record {
+  good = subst (λ (n : NetworkState). IsSetup n.setup) (sym network_is) good;
+  run = subst (λ (n : NetworkState). IsRun n.setup n.entries) (sym network_is) (EachAfter-nil (IsLawful setup));
   few = omega (arith, few, ap length clients_are, length-replicate count (fresh_client setup));
   clients = λ number client found.
-      subst₂ (λ (s : Setup) (es : List Entry). IsClient s es number client) (sym same) (sym nothing)
+      subst (λ (n : NetworkState). IsClient n.setup n.entries number client) (sym network_is)
       (clients_fresh setup count number client (ap (λ (cs : List Client). slice_get cs number) (sym clients_are) ∙ found));
 }
 
 pub opens_fresh : (journey : Journey) (setup : Setup) (count : ℕ)
-    → journey.entries.items ≡ []
+    → journey.network ≡ record { setup = setup; entries = [] }
     → journey.clients.items ≡ replicate count (fresh_client setup)
     → made_in journey [] ≡ not_roamed setup count
-opens_fresh journey setup count nothing clients_are =
-    ap₂ (λ (es : List Entry) (ps : List PassState). let one : Roamed = record { entries = es; passes = ps; outcomes = [] } in one) nothing
+opens_fresh journey setup count network_is clients_are =
+    ap₂ (λ (n : NetworkState) (ps : List PassState). let one : Roamed = record { entries = n.entries; passes = ps; outcomes = [] } in one) network_is
     (ap (map (λ (client : Client). client.pass)) clients_are ∙ passes_fresh setup count)

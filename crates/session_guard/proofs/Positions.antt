@@ -1,11 +1,11 @@
 -- What is so at a position of a history stays so when the history grows.
-use Rattle.std.proofs.Common.{◌≡◌, ℕ, ◌<◌, List, [], ◌∷◌, ◌++◌, length, Option, None, Some, refl, sym, ap, ap₂, ◌∙◌, subst, arith}
+use Rattle.std.proofs.Common.{◌≡◌, ℕ, ◌<◌, List, [], ◌∷◌, length, Option, None, Some, refl, sym, ap, ap₂, ◌∙◌, subst, arith}
 use Rattle.std.specs.List.{Contains, slice_get}
 use Rattle.std.specs.Option.{IsSomeAnd, option_and_then, option_map_or}
 use Rattle.std.proofs.Math.ListN.{take}
 use Rattle.std.proofs.Math.Seq.{take-append_seam}
-use Rattle.std.proofs.lemmas.List.{get_or_append_left, get_or_push, length_push, take-append-le}
-use Rattle.std.proofs.lemmas.Option.{get_or_from_slice_get, slice_get-get_or, slice_get_within}
+use Rattle.std.proofs.lemmas.List.{take-append-le}
+use Rattle.std.proofs.lemmas.Option.{get_or_from_slice_get, slice_get_within}
 use Rattle.tact_base.specs.Setup.{Setup}
 use Rattle.tact_base.specs.declared.write.Write.{Write}
 use Rattle.run_model.specs.Histories.{part_of}
@@ -13,60 +13,48 @@ use Rattle.run_model.specs.Order.{seen}
 use Rattle.run_model.specs.OwnWrites.{accepted_by}
 use Rattle.run_model.specs.Taking.{have}
 use Rattle.run_model.specs.declared.entry.Entry.{Entry}
+use Rattle.replica_network.proofs.Longer.{last_entry, longer, same_entry}
 use Rattle.session_guard.specs.Guards.{IsRead, ReadsAt, WritesAt, seen_before}
 use Rattle.session_guard.specs.Positions.{have_before}
 
 -- One more entry of a history.
 module _ (history : List Entry) (entry : Entry) where
-  abbrev pub longer : List Entry
-  longer = history ++ entry ∷ []
-
   -- at a position before it
   module _ (position : ℕ) (within : position < length history) where
-    pub same_entry : slice_get longer position ≡ slice_get history position
-    same_entry =
-        slice_get-get_or longer position entry (omega (arith, within, length_push history entry))
-        ∙ ap Some (get_or_append_left history (entry ∷ []) entry position within)
-        ∙ sym (slice_get-get_or history position entry within)
-
-    same_front : take position longer ≡ take position history
+    same_front : take position (longer history entry) ≡ take position history
     same_front = take-append-le position history (entry ∷ []) (omega arith)
 
-    pub WritesAt-same : (write : Write) → WritesAt longer position write → WritesAt history position write
-    WritesAt-same write is = sym (ap (option_and_then (λ (e : Entry). accepted_by e.replica e.moment e.act)) same_entry) ∙ is
+    pub WritesAt-same : (write : Write) → WritesAt (longer history entry) position write → WritesAt history position write
+    WritesAt-same write is = sym (ap (option_and_then (λ (e : Entry). accepted_by e.replica e.moment e.act)) (same_entry history entry position within)) ∙ is
 
-    pub ReadsAt-same : ReadsAt longer position → ReadsAt history position
-    ReadsAt-same is = subst (λ (o : Option Entry). IsSomeAnd o (λ (e : Entry). IsRead e.act)) same_entry is
+    pub ReadsAt-same : ReadsAt (longer history entry) position → ReadsAt history position
+    ReadsAt-same is = subst (λ (o : Option Entry). IsSomeAnd o (λ (e : Entry). IsRead e.act)) (same_entry history entry position within) is
 
-    pub seen_before-same : (setup : Setup) → seen_before setup longer position ≡ seen_before setup history position
+    pub seen_before-same : (setup : Setup) → seen_before setup (longer history entry) position ≡ seen_before setup history position
     seen_before-same setup =
-        ap₂ (λ (o : Option Entry) (front : List Entry). option_map_or (λ (e : Entry). seen setup e.replica (part_of front e.replica)) o []) same_entry same_front
+        ap₂ (λ (o : Option Entry) (front : List Entry). option_map_or (λ (e : Entry). seen setup e.replica (part_of front e.replica)) o []) (same_entry history entry position within) same_front
 
-    pub have_before-same : (origin : ℕ) → have_before longer position origin ≡ have_before history position origin
+    pub have_before-same : (origin : ℕ) → have_before (longer history entry) position origin ≡ have_before history position origin
     have_before-same origin =
-        ap₂ (λ (o : Option Entry) (front : List Entry). option_map_or (λ (e : Entry). have e.replica (part_of front e.replica) origin) o 0) same_entry same_front
+        ap₂ (λ (o : Option Entry) (front : List Entry). option_map_or (λ (e : Entry). have e.replica (part_of front e.replica) origin) o 0) (same_entry history entry position within) same_front
 
   -- and at its own
-  pub last_entry : slice_get longer (length history) ≡ Some entry
-  last_entry =
-      slice_get-get_or longer (length history) entry (omega (arith, length_push history entry)) ∙ ap Some (get_or_push history entry entry (length history) refl)
-
-  pub last_front : take (length history) longer ≡ history
+  pub last_front : take (length history) (longer history entry) ≡ history
   last_front = take-append_seam history (entry ∷ [])
 
-  pub seen_before-last : (setup : Setup) → seen_before setup longer (length history) ≡ seen setup entry.replica (part_of history entry.replica)
+  pub seen_before-last : (setup : Setup) → seen_before setup (longer history entry) (length history) ≡ seen setup entry.replica (part_of history entry.replica)
   seen_before-last setup =
-      ap₂ (λ (o : Option Entry) (front : List Entry). option_map_or (λ (e : Entry). seen setup e.replica (part_of front e.replica)) o []) last_entry last_front
+      ap₂ (λ (o : Option Entry) (front : List Entry). option_map_or (λ (e : Entry). seen setup e.replica (part_of front e.replica)) o []) (last_entry history entry) last_front
 
-  pub have_before-last : (origin : ℕ) → have_before longer (length history) origin ≡ have entry.replica (part_of history entry.replica) origin
+  pub have_before-last : (origin : ℕ) → have_before (longer history entry) (length history) origin ≡ have entry.replica (part_of history entry.replica) origin
   have_before-last origin =
-      ap₂ (λ (o : Option Entry) (front : List Entry). option_map_or (λ (e : Entry). have e.replica (part_of front e.replica) origin) o 0) last_entry last_front
+      ap₂ (λ (o : Option Entry) (front : List Entry). option_map_or (λ (e : Entry). have e.replica (part_of front e.replica) origin) o 0) (last_entry history entry) last_front
 
-  pub WritesAt-last : (write : Write) → WritesAt longer (length history) write → accepted_by entry.replica entry.moment entry.act ≡ Some write
-  WritesAt-last write is = sym (ap (option_and_then (λ (e : Entry). accepted_by e.replica e.moment e.act)) last_entry) ∙ is
+  pub WritesAt-last : (write : Write) → WritesAt (longer history entry) (length history) write → accepted_by entry.replica entry.moment entry.act ≡ Some write
+  WritesAt-last write is = sym (ap (option_and_then (λ (e : Entry). accepted_by e.replica e.moment e.act)) (last_entry history entry)) ∙ is
 
-  pub ReadsAt-last : ReadsAt longer (length history) → IsRead entry.act
-  ReadsAt-last is = subst (λ (o : Option Entry). IsSomeAnd o (λ (e : Entry). IsRead e.act)) last_entry is
+  pub ReadsAt-last : ReadsAt (longer history entry) (length history) → IsRead entry.act
+  ReadsAt-last is = subst (λ (o : Option Entry). IsSomeAnd o (λ (e : Entry). IsRead e.act)) (last_entry history entry) is
 
 -- the entry at a position
 pub entry_written : (history : List Entry) (position : ℕ) (write : Write)

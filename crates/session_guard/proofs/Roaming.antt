@@ -1,18 +1,18 @@
 -- What is kept of roaming clients is what their steps made, so their entries are a run and their trips are guarded.
-use Rattle.std.proofs.Common.{◌≡◌, ℕ, ◌<◌, List, [], ◌∷◌, ◌++◌, length, get_or, Some, sym, ap, ap₂, ◌∙◌, subst, subst₂, arith}
+use Rattle.std.proofs.Common.{◌≡◌, ℕ, ◌<◌, List, [], ◌∷◌, ◌++◌, length, get_or, map, Some, sym, ap, ap₂, ◌∙◌, subst, subst₂, arith}
 use Rattle.std.specs.List.{slice_get}
-use Rattle.std.proofs.lemmas.List.{length-map, length_push}
+use Rattle.std.proofs.lemmas.List.{length_push}
 use Rattle.std.proofs.lemmas.Option.{slice_get-get_or}
 use Rattle.tact_base.proofs.ListLemmas.{fold-push}
 use Rattle.tact_base.specs.Setup.{Setup}
-use Rattle.run_model.specs.Histories.{sent_in}
 use Rattle.run_model.specs.Promises.{IsKept}
-use Rattle.run_model.specs.Runs.{IsRun}
 use Rattle.run_model.specs.declared.entry.Entry.{Entry}
 use Rattle.run_promises.proofs.Kept.{IsKept-run}
-use Rattle.session_guard.proofs.Going.{pass_there}
+use Rattle.replica_network.specs.Networks.{NetworkState}
+use Rattle.session_guard.proofs.Going.{keeps_same, pass_there}
 use Rattle.session_guard.specs.Guards.{IsGuarded}
-use Rattle.session_guard.specs.Journeys.{GoesOnBy, Keeps, Stays, made_in, setup_in}
+use Rattle.session_guard.specs.Journeys.{GoesOnBy, Keeps, Stays, made_in}
+use Rattle.session_guard.specs.Passes.{PassState}
 use Rattle.session_guard.specs.Roaming.{Roamed, after_step, not_roamed, pass_at, roamed, stepped}
 use Rattle.session_guard.specs.Roams.{AreAllGuarded, HasRoamed, RoamState, entries_of, roamed_by, with_step}
 use Rattle.session_guard.specs.Trips.{trip_of}
@@ -29,21 +29,18 @@ client_at [] pass within = absurd (omega arith)
 client_at (first ∷ rest) pass within = (get_or (first ∷ rest) pass first, slice_get-get_or (first ∷ rest) pass first within)
 
 module _ (state : RoamState) (journey : Journey) (is : HasRoamed state journey) where
-  pub entries_are : entries_of state ≡ journey.entries.items
+  pub entries_are : entries_of state ≡ journey.network.entries
   entries_are = ap (λ (made : Roamed). made.entries) is.made
 
-  pub is_run : IsRun state.setup (entries_of state)
-  is_run = subst₂ IsRun (sym is.setup) (sym entries_are) is.keeps.run
-
   pub is_kept : IsKept state.setup (entries_of state)
-  is_kept = subst₂ IsKept (sym is.setup) (sym entries_are) (IsKept-run (setup_in journey) journey.entries.items is.keeps.good is.keeps.run)
+  is_kept = subst₂ IsKept (sym is.setup) (sym entries_are) (IsKept-run journey.network.setup journey.network.entries is.keeps.good is.keeps.run)
 
   pub are_guarded : AreAllGuarded state
   are_guarded pass within =
       let found = client_at journey.clients.items pass (omega (arith, within, is.passes)) in
       let one = is.keeps.clients pass found.0 found.1 in
       subst₂ (λ (s : Setup) (es : List Entry). IsGuarded s es (trip_of es pass)) (sym is.setup) (sym entries_are)
-      (subst (IsGuarded (setup_in journey) journey.entries.items) one.trip one.carried.guarded)
+      (subst (IsGuarded journey.network.setup journey.network.entries) one.trip one.carried.guarded)
 
   pub trip_is : (pass : ℕ) (client : Client)
       → slice_get journey.clients.items pass ≡ Some client
@@ -56,15 +53,10 @@ module _ (state : RoamState) (journey : Journey) (is : HasRoamed state journey) 
   pass_is pass client found =
       sym (pass_there journey.clients.items pass client found) ∙ ap (λ (made : Roamed). pass_at made.passes pass) (sym is.made)
 
-  pub sent_are : length journey.sends.items ≡ length (sent_in (entries_of state))
-  sent_are =
-      sym (length-map journey.sends.items _) ∙ ap length is.keeps.sends ∙ length-map (sent_in journey.entries.items) Some
-      ∙ ap (λ (es : List Entry). length (sent_in es)) (sym entries_are)
-
 -- none did anything
 pub none_roamed : (state : RoamState) (journey : Journey)
     → Keeps journey
-    → state.setup ≡ setup_in journey
+    → state.setup ≡ journey.network.setup
     → state.passes ≡ length journey.clients.items
     → state.steps ≡ []
     → made_in journey [] ≡ not_roamed state.setup state.passes
@@ -106,10 +98,12 @@ module _ (state : RoamState) (old new : Journey) (moment : ℕ) (next : Step) (o
 -- and none
 pub has_stayed : (state : RoamState) (old new : Journey) → HasRoamed state old → Stays old new → HasRoamed state new
 has_stayed state old new is stays = record {
-  keeps = stays.keeps;
-  setup = is.setup ∙ sym stays.setup;
-  passes = is.passes ∙ sym stays.many;
-  made = is.made ∙ sym (stays.made (roamed_by state).outcomes);
-  few = omega (arith, is.few, ap (λ (r : Roamed). length r.entries) (stays.made []));
+  keeps = keeps_same old new is.keeps stays;
+  setup = is.setup ∙ ap (λ (n : NetworkState). n.setup) (sym stays.network);
+  passes = is.passes ∙ ap length (sym stays.clients);
+  made = is.made
+      ∙ ap₂ (λ (n : NetworkState) (ps : List PassState). let one : Roamed = record { entries = n.entries; passes = ps; outcomes = (roamed_by state).outcomes } in one)
+      (sym stays.network) (ap (map (λ (client : Client). client.pass)) (sym stays.clients));
+  few = omega (arith, is.few, ap (λ (n : NetworkState). length n.entries) stays.network);
   most = is.most;
 }

@@ -1,10 +1,10 @@
 -- The writes that a replica has seen in a run: of each origin the first that it accepted, as many as the replica has.
-use Rattle.std.proofs.Common.{◌≡◌, ℕ, ◌<◌, ◌≤◌, ◌==◌, List, [], ◌∷◌, length, get_or, flat_map, Contains, Option, None, Some, refl, sym, ap, ◌∙◌, subst, ⊎_elim, zero-add, arith}
-use Rattle.std.specs.List.{cons_option, filter_map, range_with_len}
+use Rattle.std.proofs.Common.{◌≡◌, ℕ, ◌<◌, ◌≤◌, ◌==◌, List, length, get_or, flat_map, Contains, Some, refl, sym, ap, ◌∙◌, subst, zero-add, arith}
+use Rattle.std.specs.List.{range_with_len}
 use Rattle.std.proofs.lemmas.Bool.{eq-eqb}
 use Rattle.std.proofs.lemmas.List.Elements.{All-contains}
 use Rattle.std.proofs.lemmas.List.FromFn.{get_or-range_with_len, length-range_with_len}
-use Rattle.tact_base.proofs.ElementLemmas.{Contains-cases, Contains-filter, Contains-first, Contains-flat_map, Contains-from_flat_map, Contains-later, Contains-none}
+use Rattle.tact_base.proofs.ElementLemmas.{Contains-filter, Contains-flat_map, Contains-from_flat_map}
 use Rattle.tact_base.proofs.ListLemmas.{All-range}
 use Rattle.tact_base.proofs.OrderLemmas.{Contains-from_in_order, Contains-in_order}
 use Rattle.tact_base.specs.Setup.{Setup, replicas_of}
@@ -19,23 +19,7 @@ use Rattle.run_model.proofs.PrefixLemmas.{IsPrefix-reads, IsPrefix-trans}
 use Rattle.run_model.proofs.SoundKeeping.{own-prefix}
 use Rattle.run_model.proofs.SoundRuns.{Grows-run, Sound-prefix, Sound-run}
 use Rattle.run_model.proofs.SoundViews.{Sound-log, Sound-stamps}
-
--- what a map gives of an element, where it gives something
-pub Contains-filter_map : {X Y : Type 0} (f : X → Option Y) (xs : List X) (x : X) (y : Y)
-    → Contains xs x
-    → f x ≡ Some y
-    → Contains (filter_map f xs) y
-Contains-filter_map f [] x y within is = absurd (Contains-none x within)
-Contains-filter_map {X} {Y} f (first ∷ rest) x y within is =
-    ⊎_elim
-    (λ (same : first ≡ x).
-    subst (λ (o : Option Y). Contains (cons_option o (filter_map f rest)) y) (sym (ap f same ∙ is)) (Contains-first y y (filter_map f rest) refl))
-    (λ (later : Contains rest x). behind (f first) (Contains-filter_map f rest x y later is))
-    (Contains-cases first x rest within)
-  where
-    behind : (o : Option Y) → Contains (filter_map f rest) y → Contains (cons_option o (filter_map f rest)) y
-    behind None found = found
-    behind (Some other) found = Contains-later other y (filter_map f rest) found
+use Rattle.replica_network.proofs.FilteredMaps.{Contains-filter_map}
 
 -- numbers below a count
 Contains-range : (n k : ℕ) → k < n → Contains (range_with_len 0 n) k

@@ -7,7 +7,7 @@ use Rattle.std.proofs.lemmas.List.Elements.{All-head, All-tail, filter-append}
 use Rattle.tact_base.proofs.ListLemmas.{All-range}
 use Rattle.tact_base.proofs.RangeLists.{range_more}
 use Rattle.run_model.specs.declared.entry.Entry.{Entry}
-use Rattle.session_guard.proofs.Positions.{last_entry, longer, same_entry}
+use Rattle.replica_network.proofs.Longer.{last_entry, longer, same_entry}
 use Rattle.session_guard.specs.Trips.{is_stop, trip_of}
 
 -- two tests that agree at each element keep the same of them

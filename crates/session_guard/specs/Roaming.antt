@@ -1,14 +1,13 @@
 -- What steps of roaming clients make, one after another: the entries of the replicas, the passes, and what each step
 -- answered.
-use Rattle.std.specs.Prelude.{◌≢◌, ℕ, ◌<◌, ◌≤◌, List, [], ◌∷◌, ◌++◌, fold, length, replicate, slice_get, slice_index_or, slice_set, Option, None, Some}
+use Rattle.std.specs.Prelude.{◌≢◌, ℕ, ◌<◌, List, [], ◌∷◌, ◌++◌, fold, length, replicate, slice_index_or, slice_set, Option, None, Some}
 use Rattle.tact_base.specs.Setup.{Setup}
 use Rattle.run_model.specs.Histories.{moment_at, part_of, sent_in}
 use Rattle.run_model.specs.Ranges.{IsRequestInRange}
 use Rattle.run_model.specs.Replies.{reply_of}
-use Rattle.run_model.specs.ScriptRuns.{Played, calls, sends, takes_one, zeros}
 use Rattle.run_model.specs.declared.call.Request.{Request}
 use Rattle.run_model.specs.declared.entry.Entry.{Entry}
-use Rattle.run_model.specs.declared.entry.Message.{Message}
+use Rattle.replica_network.specs.Networks.{NetworkState, after_call, after_send, after_take}
 use Rattle.session_guard.specs.Passes.{PassState, fresh_pass, haves_of, lack_of, pass_after}
 use Rattle.session_guard.specs.Visits.{IsWriteOrRead}
 use Rattle.session_guard.specs.declared.steps.Handed.{Handed}
@@ -29,9 +28,9 @@ pub record Roamed : Type 0 where
 abbrev pub not_roamed : Setup → ℕ → Roamed
 not_roamed setup passes = record { entries = []; passes = replicate passes (fresh_pass setup.replicas); outcomes = [] }
 
--- what was made, with the moment that is handed to what comes next
-abbrev pub played_at : List Entry → ℕ → Played
-played_at entries moment = record { history = entries; handed = moment }
+-- the replicas with what they did
+abbrev pub network_in : Setup → Roamed → NetworkState
+network_in setup before = record { setup = setup; entries = before.entries }
 
 abbrev pub pass_at : List PassState → ℕ → PassState
 pass_at passes pass = slice_index_or passes pass (fresh_pass 0)
@@ -43,26 +42,21 @@ visited setup before moment pass replica request None =
     let part = part_of before.entries replica in
     let given = reply_of setup replica part (moment_at part moment) request in
     record {
-      entries = (calls setup (played_at before.entries moment) replica pass request).history;
+      entries = (after_call (network_in setup before) moment replica pass request).entries;
       passes = slice_set before.passes pass (pass_after (haves_of setup replica part) replica (pass_at before.passes pass) given);
       outcomes = before.outcomes ++ Visited (Answered given) ∷ [];
     }
 
 -- a sending or a taking makes an entry
-abbrev pub moved : Roamed → Played → Roamed
-moved before played = record before { entries = played.history; outcomes = before.outcomes ++ Moved ∷ [] }
+abbrev pub moved : Roamed → NetworkState → Roamed
+moved before network = record before { entries = network.entries; outcomes = before.outcomes ++ Moved ∷ [] }
 
--- the taking of a message by its receiver
-abbrev pub taken : Played → Option Message → Played
-taken played None = played
-taken played (Some message) = takes_one played message.to (Some message)
-
--- one more step: a sending is given no firsts, and messages count from 0 over all sendings
+-- one more step
 abbrev pub stepped : Setup → Roamed → ℕ → Step → Roamed
 stepped setup before moment (step.Visit pass replica request) =
     visited setup before moment pass replica request (lack_of (haves_of setup replica (part_of before.entries replica)) (pass_at before.passes pass))
-stepped setup before moment (step.Send from to) = moved before (sends setup (played_at before.entries moment) from to (zeros setup))
-stepped setup before moment (step.Take message) = moved before (taken (played_at before.entries moment) (slice_get (sent_in before.entries) message))
+stepped setup before moment (step.Send from to) = moved before (after_send (network_in setup before) moment from to)
+stepped setup before moment (step.Take message) = moved before (after_take (network_in setup before) moment message)
 
 abbrev pub after_step : Setup → Roamed → Handed → Roamed
 after_step setup before handed = stepped setup before handed.moment handed.step

@@ -3,7 +3,7 @@ use Rattle.std.specs.Prelude.{◌≡◌, ℕ, ◌<◌, ◌≤◌, List, [], ◌�
 use Rattle.tact_base.specs.Setup.{Setup}
 use Rattle.run_model.specs.declared.entry.Entry.{Entry}
 use Rattle.session_guard.specs.Guards.{IsGuarded}
-use Rattle.session_guard.specs.Journeys.{Keeps, made_in, setup_in}
+use Rattle.session_guard.specs.Journeys.{Keeps, made_in}
 use Rattle.session_guard.specs.Roaming.{Roamed, roamed}
 use Rattle.session_guard.specs.Trips.{trip_of}
 use Rattle.session_guard.specs.declared.journey.Journey.{Journey}
@@ -34,8 +34,8 @@ AreAllGuarded state = (pass : ℕ) → pass < state.passes → IsGuarded state.s
 -- what is kept is what the steps made
 pub record HasRoamed (state : RoamState) (journey : Journey) : Type 0 where
   pub keeps : Keeps journey
-  pub setup : state.setup ≡ setup_in journey
+  pub setup : state.setup ≡ journey.network.setup
   pub passes : state.passes ≡ length journey.clients.items
   pub made : roamed_by state ≡ made_in journey (roamed_by state).outcomes
-  pub few : length journey.entries.items ≤ length state.steps
+  pub few : length journey.network.entries ≤ length state.steps
   pub most : length state.steps ≤ STEPS_MAX

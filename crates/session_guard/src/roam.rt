@@ -34,7 +34,7 @@ impl Model for Roam {
 
     ghost Value = { RoamState };
 
-    ghost view = { λ r. record { setup = r.journey.set.setup; passes = length r.journey.clients.items; steps = r.steps.items } };
+    ghost view = { λ r. record { setup = r.journey.network.setup; passes = length r.journey.clients.items; steps = r.steps.items } };
 
     ghost invariant = { λ r. HasRoamed (view r) r.journey };
 }
@@ -79,7 +79,7 @@ impl Roam {
     pub fn entries(&self) -> &[Entry]
         ensures { result.now ≡ entries_of self.now }
     {
-        self.journey.entries.items()
+        self.journey.network.entries()
     }
 
     /// The trip of a client: the rising positions of its entries that accepted a write or answered a read.
@@ -102,7 +102,7 @@ impl Roam {
     pub fn sent(&self) -> u64
         ensures { result ≡ length (sent_in (entries_of self.now)) }
     {
-        self.journey.sends.items().len() as u64
+        self.journey.network.sent()
     }
 
     /// All steps, in order, each with the moment that was handed to it.

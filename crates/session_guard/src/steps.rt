@@ -1,6 +1,7 @@
 //! What roaming clients do, and what they are answered.
 ghost use Rattle.std.specs.Prelude.{◌≡◌, ◌<◌, ◌∷◌, ◌++◌, []};
 
+use replica_network::copied_request;
 use run_model::{Reply, Request};
 use tact_base::RoomyList;
 
@@ -68,24 +69,4 @@ pub(crate) fn keep(steps: &mut RoomyList<Handed>, moment: u64, step: &Step)
         Step::Take { message } => Step::Take { message: *message },
     };
     steps.push(Handed { moment, step });
-}
-
-/// The same request. Takes no memory.
-pub(crate) fn copied_request(request: &Request) -> Request
-    ensures { result ≡ request.now }
-{
-    match request.clone() {
-        Ok(copy) => copy,
-        Err(_) => unreachable!(),
-    }
-}
-
-/// The same reply. Takes no memory.
-pub(crate) fn copied_reply(reply: &Reply) -> Reply
-    ensures { result ≡ reply.now }
-{
-    match reply.clone() {
-        Ok(copy) => copy,
-        Err(_) => unreachable!(),
-    }
 }

@@ -1,7 +1,7 @@
 use Rattle.std.proofs.Common.{◌≡◌, ◌<◌, ◌++◌, ◌∷◌, [], ℕ, List, length, sym, ap, ap₂, ◌∙◌, subst, arith}
 use Rattle.tact_base.specs.Setup.{Setup}
 use Rattle.session_guard.proofs.Roaming.{are_guarded, has_stayed, has_stepped, is_kept}
-use Rattle.session_guard.specs.Journeys.{GoesOnBy, Stays, setup_in}
+use Rattle.session_guard.specs.Journeys.{GoesOnBy, Stays}
 use Rattle.session_guard.specs.Roams.{HasRoamed, RoamState, with_step}
 use Rattle.session_guard.specs.declared.journey.Journey.{Journey}
 use Rattle.session_guard.specs.declared.roam.TheConstants.{STEPS_MAX}
@@ -12,7 +12,7 @@ use Rattle.session_guard.proofs.roam.Roam.step.Goals as goal
 
 -- the clients of a journey, and steps
 abbrev state_of : Journey → List Handed → RoamState
-state_of journey steps = record { setup = setup_in journey; passes = length journey.clients.items; steps = steps }
+state_of journey steps = record { setup = journey.network.setup; passes = length journey.clients.items; steps = steps }
 
 -- with the steps in more memory
 in_room : (journey : Journey) (steps more : List Handed)
