@@ -1,34 +1,31 @@
 -- What a step draws may be traded after the trades so far.
-use Rattle.std.proofs.Common.{◌≡◌, ◌≢◌, ℕ, ◌+◌, ◌<◌, ◌≤◌, ◌==◌, ◌%◌, ℤ, pos, Bool, true, false, nat_lt, cond, List, [], ◌∷◌, ◌++◌, fold, length, Option, None, Some, refl, sym, ap, ◌∙◌, subst, arith}
+use Rattle.std.proofs.Common.{◌≡◌, ◌≢◌, ℕ, ◌+◌, ◌<◌, ◌≤◌, ◌==◌, ◌%◌, ℤ, pos, Bool, true, false, nat_lt, cond, List, [], ◌∷◌, fold, length, Option, None, Some, refl, sym, ap, ◌∙◌, subst, arith}
 use Rattle.std.specs.Prelude.{neg_ℤ}
-use Rattle.std.specs.List.{slice_get}
 use Rattle.std.specs.Option.{option_map}
 use Rattle.std.proofs.Math.Nat.{mod-lt}
 use Rattle.std.proofs.lemmas.Bool.{eqb-false}
+use Rattle.std.proofs.lemmas.List.{length_push}
 use Rattle.tact_base.specs.Setup.{Setup}
 use Rattle.run_model.specs.Histories.{part_of, sent_in}
 use Rattle.run_model.specs.Runs.{IsLawful, IsRun}
 use Rattle.run_model.specs.declared.entry.Entry.{Entry}
-use Rattle.run_model.specs.declared.entry.Message.{Message}
 use Rattle.run_model.proofs.PrefixLemmas.{EachAfter-nil}
 use Rattle.drawn_scripts.specs.Draws.{drawn, one_drawn, pick, some_drawn}
 use Rattle.drawn_scripts.proofs.DrawnLemmas.{picked_below}
 use Rattle.drawn_scripts.proofs.DrawsLemmas.{after_more, after_none}
-use Rattle.replica_network.specs.Networks.{NetworkState, after_take, played_at, taken}
-use Rattle.seat_app.specs.Booked.{Booked, MayTrade, after_trade, booked, changed_unless, not_booked, traded}
+use Rattle.replica_network.specs.Networks.{NetworkState}
+use Rattle.seat_app.specs.Booked.{Booked, MayTrade, after_trade, changed_unless, not_booked, traded}
 use Rattle.seat_app.specs.Bookings.{BookingState, booked_by, entries_of, network_of, with_trade}
 use Rattle.seat_app.specs.Careful.{IsCarefulEntry, IsNeverOversold}
 use Rattle.seat_app.specs.Seats.{SeatsState, lack_after}
 use Rattle.seat_app.specs.declared.sale.Sale.{Sale}
 use Rattle.seat_app.specs.declared.trades.Handed.{Handed}
-use Rattle.seat_app.specs.declared.trades.Outcome.{Outcome}
 use Rattle.seat_app.specs.declared.trades.Trade.{Trade}
 use Rattle.seat_app.specs.declared.trades.Trade.TheVariants as trade
 use Rattle.seat_app.proofs.NeverOversold.{never_oversold}
 use Rattle.drawn_trades.specs.DrawnTrades.{SellsAmongThree, cancel_drawn, kind_drawn, places, sell_drawn, send_drawn, step_drawn, take_drawn, three, trades_after}
 use Rattle.drawn_trades.specs.Tallies.{IsTallyOf}
 use Rattle.drawn_trades.specs.declared.tally.Tally.{Tally}
-use Rattle.drawn_trades.proofs.TallyLemmas.{each_more}
 
 -- trades leave the setup
 module _ (seats : SeatsState) where
@@ -88,8 +85,7 @@ module _ (network : NetworkState) (is : network.setup ≡ three) where
       let from = (pick 3 state).0 in
       let s1 = (pick 3 state).1 in
       let step = (pick 2 s1).0 in
-      let within = picked_below 3 state (omega arith) in
-      (
+      let within = picked_below 3 state (omega arith) in (
         omega (arith, three_there, within),
         omega (arith, three_there, mod-lt (from + 1 + step) {m = 3} (omega arith)),
         step_others from step within (picked_below 2 s1 (omega arith)),
@@ -119,29 +115,37 @@ module _ (network : NetworkState) (is : network.setup ≡ three) where
       go false false true = send_may state
       go false false false = take_may state
 
-pub trade_found : (booking : BookingState) (kind state state' : ℕ) (found : Option Trade) (next : Trade)
+pub trade_found : (booking : BookingState) (sent kind state state' : ℕ) (found : Option Trade) (next : Trade)
     → SellsAmongThree booking
-    → kind_drawn (length (sent_in (entries_of booking))) kind state ≡ (found, state')
+    → sent ≡ length (sent_in (entries_of booking))
+    → kind_drawn sent kind state ≡ (found, state')
     → found ≡ Some next
     → MayTrade (network_of booking) next
-trade_found booking kind state state' found next is drawn some =
-    subst (MayTradeIfAny (network_of booking)) (ap (λ (taken : Option Trade × ℕ). taken.0) drawn ∙ some)
+trade_found booking sent kind state state' found next is all drawn some =
+    subst (MayTradeIfAny (network_of booking))
+    (ap (λ (n : ℕ). (kind_drawn n kind state).0) (sym all) ∙ ap (λ (taken : Option Trade × ℕ). taken.0) drawn ∙ some)
     (kind_may (network_of booking) (network_is booking is) kind state)
 
 -- one more trade leaves them so
-pub among_more : (old new : BookingState) (moment : ℕ) (next : Trade) (outcome : Outcome)
+pub among_more : (old new : BookingState) (moment : ℕ) (next : Trade)
     → SellsAmongThree old
     → new ≡ with_trade old moment next
-    → (booked_by new).outcomes ≡ (booked_by old).outcomes ++ outcome ∷ []
+    → length (booked_by new).outcomes ≡ length (booked_by old).outcomes + 1
     → IsRun new.setup (entries_of new)
     → IsNeverOversold new.setup new.seats (entries_of new)
     → SellsAmongThree new
-among_more old new moment next outcome is same came run never = record {
+among_more old new moment next is same more run never = record {
   setup = ap (λ (b : BookingState). b.setup) same ∙ is.setup;
   seats = ap (λ (b : BookingState). b.seats) same ∙ is.seats;
   run = run;
   never_oversold = never;
-  outcomes = each_more old new moment next outcome same came is.outcomes;
+  outcomes = omega (
+    arith,
+    more,
+    is.outcomes,
+    ap (λ (b : BookingState). length b.trades) same,
+    length_push old.trades (let one : Handed = record { moment = moment; trade = next } in one),
+  );
 }
 
 -- what has been drawn in so many steps
@@ -168,7 +172,7 @@ none_among =
 
 pub drawn_to_begins : (number : ℕ) (booking : BookingState) (tally : Tally)
     → booking ≡ record { setup = three; seats = places; trades = [] }
-    → tally ≡ record { sold = 0; cancelled = 0; over = 0; under = 0; waits = 0 }
+    → tally ≡ record { sold = 0; cancelled = 0; over = 0; under = 0; waiting = 0 }
     → IsDrawnTo number 0 booking tally number
 drawn_to_begins number booking tally same none =
     subst (λ (b : BookingState). IsDrawnTo number 0 b tally number) (sym same)
@@ -176,7 +180,7 @@ drawn_to_begins number booking tally same none =
       trades = after_none step_drawn [] number;
       few = omega arith;
       among = none_among;
-      counted = record { sold = refl; cancelled = refl; over = refl; under = refl; waits = refl };
+      counted = record { sold = refl; cancelled = refl; over = refl; under = refl; waiting = refl };
     }))
 
 pub drawn_to_more : (number done : ℕ) (booking new : BookingState) (tally tally' : Tally) (draws draws' : ℕ)
@@ -192,11 +196,3 @@ drawn_to_more number done booking new tally tally' draws draws' is next few amon
   among = among;
   counted = counted;
 }
-
-pub drawn_to_ends : (number : ℕ) (booking : BookingState) (tally : Tally) (draws : ℕ)
-    → IsDrawnTo number 1000 booking tally draws
-    → booking ≡ record { setup = three; seats = places; trades = (trades_after 1000 number).0 }
-drawn_to_ends number booking tally draws is =
-    ap (λ (s : Setup). let one : BookingState = record { setup = s; seats = booking.seats; trades = booking.trades } in one) is.among.setup
-    ∙ ap (λ (s : SeatsState). let one : BookingState = record { setup = three; seats = s; trades = booking.trades } in one) is.among.seats
-    ∙ ap (λ (after : List Handed × ℕ). let one : BookingState = record { setup = three; seats = places; trades = after.0 } in one) (sym is.trades)

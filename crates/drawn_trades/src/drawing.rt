@@ -7,6 +7,7 @@ ghost use Rattle.seat_app.specs.declared.trades.TheConstants.{TRADES_MAX};
 ghost use Rattle.drawn_trades.specs.DrawnTrades.{SellsAmongThree, drawn_trades, places, step_drawn, three};
 ghost use Rattle.drawn_trades.specs.Tallies.{IsTallyOf};
 
+use crate::dealing::deal;
 use crate::reference::sold_in_all;
 use crate::tally::Tally;
 use crate::trades::trade_of_kind;
@@ -47,8 +48,7 @@ fn draw_step(
 {
     let kind = draws.pick(10);
     if let Some(trade) = trade_of_kind(draws, booking.sent(), kind) {
-        let outcome = booking.step(number, &trade)?;
-        tally.count(&trade, &outcome);
+        tally.count(deal(booking, number, &trade)?);
     }
     Ok(())
 }
