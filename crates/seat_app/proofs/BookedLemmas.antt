@@ -1,5 +1,5 @@
 -- What is kept of a booking is what its trades made, so its entries are a careful run, which never sells too many places.
-use Rattle.std.proofs.Common.{◌≡◌, ℕ, ◌<◌, List, [], ◌∷◌, ◌++◌, length, refl, sym, ap, ap₂, ◌∙◌, subst₂, arith}
+use Rattle.std.proofs.Common.{◌≡◌, ℕ, ◌<◌, List, [], ◌∷◌, ◌++◌, length, sym, ap, ap₂, ◌∙◌, subst₂, arith}
 use Rattle.std.proofs.lemmas.List.{length_push}
 use Rattle.tact_base.proofs.ListLemmas.{fold-push}
 use Rattle.tact_base.specs.Setup.{Setup}
@@ -9,9 +9,8 @@ use Rattle.run_model.specs.declared.entry.Entry.{Entry}
 use Rattle.run_promises.proofs.Kept.{IsKept-run}
 use Rattle.replica_network.specs.Networks.{NetworkState}
 use Rattle.seat_app.specs.Booked.{Booked, after_trade, booked, not_booked, traded}
-use Rattle.seat_app.specs.Bookings.{BookingState, GoesOnBy, HasBooked, SellsCarefully, booked_by, entries_of, network_of, with_trade}
+use Rattle.seat_app.specs.Bookings.{BookingState, GoesOnBy, HasBooked, SellsCarefully, booked_by, entries_of, with_trade}
 use Rattle.seat_app.specs.Careful.{IsCareful, IsNeverOversold}
-use Rattle.seat_app.specs.Seats.{SeatsState}
 use Rattle.seat_app.specs.declared.trades.Handed.{Handed}
 use Rattle.seat_app.specs.declared.trades.Outcome.{Outcome}
 use Rattle.seat_app.specs.declared.trades.TheConstants.{TRADES_MAX}

@@ -17,9 +17,9 @@ use Rattle.run_model.specs.declared.entry.Entry.{Entry}
 use Rattle.run_model.specs.declared.entry.Message.{Message}
 use Rattle.run_model.proofs.PrefixLemmas.{EachAfter-push}
 use Rattle.replica_network.specs.Networks.{NetworkState, after_call, after_send, after_take, played_at, taken}
-use Rattle.seat_app.specs.Booked.{Booked, changed, changed_unless, moved, traded}
+use Rattle.seat_app.specs.Booked.{Booked, changed, changed_unless, moved}
 use Rattle.seat_app.specs.Bookings.{GoesOnBy, SellsCarefully}
-use Rattle.seat_app.specs.Careful.{IsCareful, IsCarefulEntry, LeavesRoom, nweights_by}
+use Rattle.seat_app.specs.Careful.{IsCareful, IsCarefulEntry, LeavesRoom}
 use Rattle.seat_app.specs.Sales.{entry_due, sale_of}
 use Rattle.seat_app.specs.Seats.{SeatsState, lack_after, request_of}
 use Rattle.seat_app.specs.declared.sale.Sale.{Sale}

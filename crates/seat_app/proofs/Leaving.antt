@@ -1,18 +1,15 @@
 -- What is not kept away leaves room, and what is accepted then is careful.
-use Rattle.std.proofs.Common.{◌≡◌, ℕ, suc, ◌+◌, ◌<◌, ◌≤◌, ◌==◌, Bool, true, false, cond, ℤ, pos, negsuc, unsigned_abs, ◌+ℤ◌, ◌-ℤ◌, ◌≤ℤ◌, ◌<ℤ◌, List, []}
+use Rattle.std.proofs.Common.{◌≡◌, ℕ, suc, ◌+◌, ◌==◌, Bool, true, false, cond, ℤ, pos, negsuc, unsigned_abs, ◌+ℤ◌, ◌-ℤ◌, ◌≤ℤ◌, ◌<ℤ◌, List, []}
 use Rattle.std.proofs.Common.{◌∷◌, map, All, Option, None, Some, refl, ap, ap₂, ◌∙◌, subst, arith}
 use Rattle.std.specs.Prelude.{int_lt}
 use Rattle.std.specs.Option.{option_to_list}
 use Rattle.std.proofs.lemmas.Int.{ints}
 use Rattle.std.proofs.lemmas.List.Elements.{All-nil}
-use Rattle.tact_base.proofs.ListLemmas.{All-one, map_agree}
-use Rattle.tact_base.proofs.Peers.{All-peers}
-use Rattle.tact_base.specs.Setup.{Setup, peers_of}
+use Rattle.tact_base.proofs.ListLemmas.{All-one}
+use Rattle.tact_base.specs.Setup.{Setup}
 use Rattle.tact_base.specs.Sums.{weights_on}
 use Rattle.tact_base.specs.declared.conit_list.Weight.{Weight}
-use Rattle.tact_base.specs.declared.write.Op.{Op}
 use Rattle.tact_base.specs.declared.write.Op.TheVariants as op
-use Rattle.tact_base.specs.declared.write.Write.{Write}
 use Rattle.run_model.specs.Histories.{calls_in, moment_at}
 use Rattle.run_model.specs.Order.{value}
 use Rattle.run_model.specs.OwnWrites.{accepted_as, done_as}
@@ -24,10 +21,10 @@ use Rattle.run_model.specs.declared.entry.Act.TheVariants as act
 use Rattle.run_model.specs.declared.entry.Entry.{Entry}
 use Rattle.replica_core.specs.Stands.{GoesOn, Stands, with_act}
 use Rattle.replica_core.specs.States.{Core}
-use Rattle.seat_app.specs.Careful.{IsCarefulEntry, LeavesRoom, nweights_by}
+use Rattle.seat_app.specs.Careful.{IsCarefulEntry, LeavesRoom}
 use Rattle.seat_app.specs.Sales.{OnReply, entry_due, sale_of}
 use Rattle.seat_app.specs.Seats.{SeatsState, lack_after, lack_of, out_of, over, request_of, under}
-use Rattle.seat_app.specs.Selling.{EntersDue, IsDueCareful}
+use Rattle.seat_app.specs.Selling.{EntersDue}
 use Rattle.seat_app.specs.declared.sale.Sale.{Sale}
 
 -- a cancellation is a change below 0, a sale another one

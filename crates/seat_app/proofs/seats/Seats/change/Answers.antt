@@ -5,7 +5,6 @@ use Rattle.seat_app.proofs.Leaving.{OnReply-sale_of, careful_entry, enters_due}
 use Rattle.seat_app.specs.Sales.{OnReply}
 use Rattle.seat_app.specs.Seats.{lack_after, request_of}
 use Rattle.seat_app.specs.Selling.{EntersDue, IsDueCareful}
-use Rattle.seat_app.specs.declared.sale.Sale.{Sale}
 use Rattle.seat_app.proofs.seats.Seats.change.Goals as goal
 
 pub returns-clause-goes_on : goal.returns-clause-goes_on
