@@ -1,7 +1,7 @@
 -- What each command that reads an input makes of it, and what each that draws writes.
 use Rattle.std.specs.Prelude.{ℕ, List}
 use Rattle.tact_top.specs.declared.words.Drawing.{Drawing}
-use Rattle.tact_top.specs.declared.words.Drawing.TheVariants.{Drill, Primary}
+use Rattle.tact_top.specs.declared.words.Drawing.TheVariants.{Drill, Primary, Roam}
 use Rattle.tact_top.specs.declared.words.Reading.{Reading}
 use Rattle.tact_top.specs.declared.words.Reading.TheVariants.{Play, Check, Pack, Unpack, Run}
 use Rattle.tact_top.specs.Answers.{Asking, Faulting}
@@ -9,6 +9,7 @@ use Rattle.tact_top.specs.Checked.{IsChecked}
 use Rattle.tact_top.specs.DrillText.{drill_text}
 use Rattle.tact_top.specs.PrimaryText.{primary_text}
 use Rattle.tact_top.specs.RecordForms.{IsByteFault, IsPacked, IsRecordFault, IsTextFault, IsUnpacked}
+use Rattle.tact_top.specs.RoamText.{roam_text}
 use Rattle.tact_top.specs.Running.{IsLoadFault, IsRan}
 use Rattle.tact_top.specs.ScriptForm.{IsPlayed, IsScriptFault}
 
@@ -32,3 +33,4 @@ faults (Run tries) = IsLoadFault
 abbrev pub text_of : Drawing → ℕ → List ℕ
 text_of Drill = drill_text
 text_of Primary = primary_text
+text_of Roam = roam_text

@@ -12,25 +12,22 @@ use Rattle.tact_top.specs.RunWords.{are_run_words, tries_in}
 use Rattle.tact_top.specs.declared.words.Command.{Command}
 use Rattle.tact_top.specs.declared.words.Command.TheVariants.{Read, Draw}
 use Rattle.tact_top.specs.declared.words.Drawing.{Drawing}
-use Rattle.tact_top.specs.declared.words.Drawing.TheVariants.{Drill, Primary}
+use Rattle.tact_top.specs.declared.words.Name.{Name}
+use Rattle.tact_top.specs.declared.words.Name.TheVariants as name
 use Rattle.tact_top.specs.declared.words.Reading.{Reading}
 use Rattle.tact_top.specs.declared.words.Reading.TheVariants.{Run}
-use Rattle.tact_top.specs.declared.words.TheConstants.{READINGS}
+use Rattle.tact_top.specs.declared.words.TheConstants.{NAMES}
 use Rattle.tact_top.specs.declared.words.WordsFault.{WordsFault}
 use Rattle.tact_top.specs.declared.words.WordsFault.TheVariants as fault
 
--- the command that reads an input which a word names, by the table of these commands
-abbrev pub named : List ℕ → Option Reading
-named word = option_map (λ entry. entry.1) (find (λ entry. pointwise nat_eq word entry.0.now) READINGS)
+-- what a word names, by the table of commands
+abbrev pub named : List ℕ → Option Name
+named word = option_map (λ entry. entry.1) (find (λ entry. pointwise nat_eq word entry.0.now) NAMES)
 
 -- a command after whose words nothing may follow
 abbrev pub alone : Command → List (List ℕ) → Result Command UsageKind
 alone command [] = Ok command
 alone command (word ∷ rest) = Err ExtraWord
-
-abbrev pub read_of : Option Reading → List (List ℕ) → Result Command UsageKind
-read_of None rest = Err UnknownCommand
-read_of (Some reading) rest = alone (Read reading) rest
 
 -- what draws by a number, by its number below 2^64
 abbrev pub drawn_from : Drawing → Result ℕ TokenFault → List (List ℕ) → Result Command UsageKind
@@ -41,22 +38,21 @@ abbrev pub drawn_by : Drawing → List (List ℕ) → Result Command UsageKind
 drawn_by drawing [] = Err MissingNumber
 drawn_by drawing (word ∷ rest) = drawn_from drawing (whole_number word 18446744073709551615) rest
 
+-- the command that a word names, with the words after it
+abbrev pub named_of : Option Name → List (List ℕ) → Result Command UsageKind
+named_of None rest = Err UnknownCommand
+named_of (Some (name.Read reading)) rest = alone (Read reading) rest
+named_of (Some (name.Draw drawing)) rest = drawn_by drawing rest
+
 -- a run, by its words, its name first
 abbrev pub run_of : List (List ℕ) → Result Command UsageKind
 run_of words = if are_run_words words then Ok (Read (Run (tries_in words))) else Err RunWords
-
--- a command that reads an input, its name first
-abbrev pub input_of : List (List ℕ) → Result Command UsageKind
-input_of [] = Err NoCommand
-input_of (first ∷ rest) = if pointwise nat_eq first (codes "run") then run_of (first ∷ rest) else read_of (named first) rest
 
 abbrev pub command_of : List (List ℕ) → Result Command UsageKind
 command_of [] = Err NoCommand
 command_of (name ∷ []) = Err NoCommand
 command_of (name ∷ first ∷ rest) =
-    if pointwise nat_eq first (codes "drill") then drawn_by Drill rest
-    else if pointwise nat_eq first (codes "primary") then drawn_by Primary rest
-    else input_of (first ∷ rest)
+    if pointwise nat_eq first (codes "run") then run_of (first ∷ rest) else named_of (named first) rest
 
 -- a run tries each item once at least
 abbrev pub IsReading : Reading → Type 0

@@ -5,6 +5,7 @@ pub mod Checked
 pub mod DrillText
 pub mod Drilling
 pub mod PrimaryText
+pub mod RoamText
 pub mod RunWords
 pub mod Commands
 pub mod ScriptForm

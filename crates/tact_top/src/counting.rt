@@ -1,4 +1,4 @@
-//! The counts of what happened in a drill.
+//! The counts of what happened.
 ghost use Rattle.std.specs.Prelude.{◌≡◌, ◌++◌, ◌∷◌, [], Bool, OnOk, OnErr, codes, decimal, length};
 ghost use Rattle.run_model.specs.declared.entry.Act.{Act};
 ghost use Rattle.run_model.specs.Text.{BeginsWith, line_text, spaced};
@@ -42,7 +42,7 @@ fn put_replies(history: &[Entry], out: &mut Bytes) -> Result<(), NoMemory>
 }
 
 #[tactic(auto, using(run_model::proofs::TextLemmas::begins_grown, run_model::proofs::TextLemmas::always_err))]
-fn put_messages(history: &[Entry], out: &mut Bytes) -> Result<(), NoMemory>
+pub(crate) fn put_messages(history: &[Entry], out: &mut Bytes) -> Result<(), NoMemory>
     ensures ok { OnOk result (out.new ≡ out.old ++ spaced (message_counts history.now)) }
     ensures err { OnErr result (BeginsWith out.old out.new) }
 {
@@ -50,8 +50,8 @@ fn put_messages(history: &[Entry], out: &mut Bytes) -> Result<(), NoMemory>
     put_row(b"takes", &[count::<Takes>(history)], out)
 }
 
-// A kind of acts.
-trait Kind {
+/// A kind of acts.
+pub(crate) trait Kind {
     ghost kind: { Act → Bool };
 
     /// Whether an act is of the kind.
@@ -59,8 +59,8 @@ trait Kind {
         ensures { result ≡ kind act.now };
 }
 
-// How many entries have an act of a kind.
-fn count<K: Kind>(history: &[Entry]) -> u64
+/// How many entries have an act of a kind.
+pub(crate) fn count<K: Kind>(history: &[Entry]) -> u64
     ensures { result ≡ count_of K.kind history.now }
 {
     let mut count = 0;
@@ -72,7 +72,7 @@ fn count<K: Kind>(history: &[Entry]) -> u64
     count
 }
 
-struct Done;
+pub(crate) struct Done;
 
 impl Kind for Done {
     ghost kind = { is_done };
@@ -86,7 +86,7 @@ impl Kind for Done {
     }
 }
 
-struct Waits;
+pub(crate) struct Waits;
 
 impl Kind for Waits {
     ghost kind = { is_wait };
@@ -100,7 +100,7 @@ impl Kind for Waits {
     }
 }
 
-struct Heavy;
+pub(crate) struct Heavy;
 
 impl Kind for Heavy {
     ghost kind = { is_heavy };
@@ -114,7 +114,7 @@ impl Kind for Heavy {
     }
 }
 
-struct Values;
+pub(crate) struct Values;
 
 impl Kind for Values {
     ghost kind = { is_value };

@@ -12,7 +12,7 @@ ghost use Rattle.tact_top.specs.Drilling.{HasShown, TellsTheSame, told_in};
 ghost use Rattle.tact_top.specs.DrillText.{drill_text, shown_line};
 
 use crate::counting::put_counts;
-use crate::job::{Output, written};
+use crate::job::drawn;
 use drawn_scripts::drill_script;
 use run_model::{Line, Status};
 use script_run::World;
@@ -32,13 +32,7 @@ pub fn drill<K: Sink>(alloc: Global, number: u64, sink: &mut K) -> Status
     ensures writes_never_fall { K.faults sink.old ≤ K.faults sink.new }
 {
     match summary_of(alloc, number) {
-        Ok(text) => written(
-            Output {
-                text,
-                status: Status::Done,
-            },
-            sink,
-        ),
+        Ok(text) => drawn(text, sink),
         Err(NoMemory) => Status::NoMemory,
     }
 }

@@ -1,9 +1,11 @@
 //! What a command does that reads an input and writes a text: it reads to the end, makes the text, and
 //! writes it.
-ghost use Rattle.std.specs.Prelude.{◌≡◌, ◌≤◌, ℕ, List, IfOk, IfErr, OnErr};
+ghost use Rattle.std.specs.Prelude.{◌≡◌, ◌⊎◌, ◌≤◌, ℕ, List, IfOk, IfErr, OnErr};
 ghost use Rattle.run_model.specs.declared.status.InputKind.{InputKind as Kind};
 ghost use Rattle.run_model.specs.declared.status.Status.{Status as Answer};
-ghost use Rattle.tact_top.specs.Answers.{Completes, HasCause, IsEnd, IsWritten, Writes};
+ghost use Rattle.run_model.specs.declared.status.Status.TheVariants.{Done as AllDone, NoMemory as OutOfMemory};
+ghost use Rattle.tact_io.specs.Faults.{HasRisen};
+ghost use Rattle.tact_top.specs.Answers.{Completes, HasCause, IsDrawn, IsEnd, IsWritten, Writes};
 ghost use Rattle.tact_top.specs.Refusals.{IsRefusalBy};
 ghost use Rattle.tact_top.specs.declared.job.Refusal.TheVariants as refusal;
 
@@ -90,4 +92,14 @@ pub(crate) fn written<K: Sink>(output: Output, sink: &mut K) -> Status
         Err(OutFault::Failed) => Status::WriteFault,
         Err(OutFault::NoMemory) => Status::NoMemory,
     }
+}
+
+/// Writes a text that a number draws, which is all that is to be done then.
+pub(crate) fn drawn<K: Sink>(text: Bytes, sink: &mut K) -> Status
+    ensures written { IsDrawn text result (K.written sink.old) (K.written sink.new) (K.faults sink.old) (K.faults sink.new) }
+    ensures complete { ¬ HasRisen (K.faults sink.old) (K.faults sink.new) → (result ≡ AllDone) ⊎ (result ≡ OutOfMemory) }
+    ensures never_falls { K.faults sink.old ≤ K.faults sink.new }
+{
+    let status = Status::Done;
+    written(Output { text, status }, sink)
 }

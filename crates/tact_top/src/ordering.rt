@@ -7,7 +7,7 @@ ghost use Rattle.drawn_events.specs.DrawnEvents.{IsAmongFour};
 ghost use Rattle.tact_top.specs.Answers.{IsDrawn};
 ghost use Rattle.tact_top.specs.PrimaryText.{event_tokens, events_text, have_tokens, is_accept, is_post, is_take, peer_text, peer_tokens, peers_text, primary_text, told_tokens};
 
-use crate::job::{Output, written};
+use crate::job::drawn;
 use drawn_events::draw_events;
 use primary_commit::{Event, Peer, Primary};
 use run_model::{Status, put_number, put_row};
@@ -28,13 +28,7 @@ pub fn primary<K: Sink>(alloc: Global, number: u64, sink: &mut K) -> Status
     ensures writes_never_fall { K.faults sink.old ≤ K.faults sink.new }
 {
     match summary_of(alloc, number) {
-        Ok(text) => written(
-            Output {
-                text,
-                status: Status::Done,
-            },
-            sink,
-        ),
+        Ok(text) => drawn(text, sink),
         Err(NoMemory) => Status::NoMemory,
     }
 }

@@ -1,7 +1,6 @@
 //! The words of a command.
 ghost use Rattle.std.specs.Prelude.{◌≡◌, map, string_bytes, IfOk};
-ghost use Rattle.tact_top.specs.declared.words.WordsFault.TheVariants as fault;
-ghost use Rattle.tact_top.specs.Commands.{IsCommand, TellsCommand, alone, command_of, drawn_by, input_of, named, read_of};
+ghost use Rattle.tact_top.specs.Commands.{IsCommand, TellsCommand, alone, command_of, drawn_by, named, named_of};
 
 use crate::run_words::run_of;
 use run_model::UsageKind;
@@ -22,6 +21,7 @@ pub(crate) enum Command {
 pub(crate) enum Drawing {
     Drill,
     Primary,
+    Roam,
 }
 
 /// A command that reads an input.
@@ -42,20 +42,22 @@ pub(crate) enum WordsFault {
     NoMemory,
 }
 
-impl From<UsageKind> for WordsFault {
-    ghost from_gives = { λ kind made. made ≡ fault.Usage kind };
-
-    fn from(kind: UsageKind) -> Self {
-        WordsFault::Usage(kind)
-    }
+/// What a word names: a command that reads an input, or one that a number draws.
+#[derive(Clone, Copy, Debug, PartialEq, Eq)]
+pub(crate) enum Name {
+    Read(Reading),
+    Draw(Drawing),
 }
 
-/// Each such command that is a word alone, and this word.
-const READINGS: [(&[u8], Reading); 4] = [
-    (b"play", Reading::Play),
-    (b"check", Reading::Check),
-    (b"pack", Reading::Pack),
-    (b"unpack", Reading::Unpack),
+/// The word of each command but `run`.
+const NAMES: [(&[u8], Name); 7] = [
+    (b"play", Name::Read(Reading::Play)),
+    (b"check", Name::Read(Reading::Check)),
+    (b"pack", Name::Read(Reading::Pack)),
+    (b"unpack", Name::Read(Reading::Unpack)),
+    (b"drill", Name::Draw(Drawing::Drill)),
+    (b"primary", Name::Draw(Drawing::Primary)),
+    (b"roam", Name::Draw(Drawing::Roam)),
 ];
 
 /// What the words ask for, of which the first is the program's name.
@@ -69,46 +71,41 @@ pub(crate) fn command_of(alloc: Global, words: &[String]) -> Result<Command, Wor
     let [first, rest @ ..] = of_command else {
         return Err(WordsFault::Usage(UsageKind::NoCommand));
     };
-    if first.as_str() == "drill" {
-        return Ok(drawn_by(Drawing::Drill, rest)?);
-    }
-    if first.as_str() == "primary" {
-        return Ok(drawn_by(Drawing::Primary, rest)?);
-    }
-    input_of(alloc, of_command)
-}
-
-// A command that reads an input, by its words.
-fn input_of(alloc: Global, of_command: &[String]) -> Result<Command, WordsFault>
-    ensures told { TellsCommand (input_of (map string_bytes of_command.now)) result }
-    ensures sound { IfOk result IsCommand }
-{
-    let [first, rest @ ..] = of_command else {
-        return Err(WordsFault::Usage(UsageKind::NoCommand));
-    };
     if first.as_str() == "run" {
         return run_of(alloc, of_command);
     }
-    Ok(read_of(named(first.as_bytes()), rest)?)
+    command_named(first.as_bytes(), rest)
 }
 
-// A command that a word names, if it does.
-fn read_of(named: Option<Reading>, rest: &[String]) -> Result<Command, UsageKind>
-    ensures { result ≡ read_of named (map string_bytes rest.now) }
+// The command of a word that isn't `run`, with the words after it.
+fn command_named(word: &[u8], rest: &[String]) -> Result<Command, WordsFault>
+    ensures told { TellsCommand (named_of (named word.now) (map string_bytes rest.now)) result }
+    ensures sound { IfOk result IsCommand }
+{
+    match named_of(named(word), rest) {
+        Ok(command) => Ok(command),
+        Err(kind) => Err(WordsFault::Usage(kind)),
+    }
+}
+
+// A command that a word names, if it does, with the words after it.
+fn named_of(named: Option<Name>, rest: &[String]) -> Result<Command, UsageKind>
+    ensures { result ≡ named_of named (map string_bytes rest.now) }
 {
     match named {
-        Some(reading) => alone(Command::Read(reading), rest),
+        Some(Name::Read(reading)) => alone(Command::Read(reading), rest),
+        Some(Name::Draw(drawing)) => drawn_by(drawing, rest),
         None => Err(UsageKind::UnknownCommand),
     }
 }
 
-// The command that a word names, if it does.
-fn named(word: &[u8]) -> Option<Reading>
+// What a word names, if it does.
+fn named(word: &[u8]) -> Option<Name>
     ensures { result ≡ named word.now }
 {
-    for (name, reading) in READINGS.iter() {
+    for (name, command) in NAMES.iter() {
         if word == *name {
-            return Some(*reading);
+            return Some(*command);
         }
     }
     None

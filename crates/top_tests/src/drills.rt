@@ -47,3 +47,21 @@ fn a_number_draws_the_same_order_again(rt: HostRuntime) -> Result<(), Fail> {
     assert_eq!(rt; sink.bytes(), again.bytes());
     Ok(())
 }
+
+// What an independent program reckons of roaming clients at the number 0, which also holds each trip against the four
+// guarantees by sets of writes: 580 entries, those of each kind added up.
+const VISITS: &str =
+    "roam 0 entries 580 behind 419 done 91 values 88 waits 0 heavy 0 sends 222 takes 179
+pass 0 reads 23 15 5 40 writes 3 13 0 42
+pass 1 reads 27 15 5 42 writes 27 0 0 2
+pass 2 reads 27 15 5 43 writes 1 15 5 44
+pass 3 reads 27 15 5 42 writes 0 12 1 43
+";
+
+#[test]
+fn visits_are_those_of_their_number(rt: HostRuntime) -> Result<(), Fail> {
+    let (status, sink) = obeyed(&rt, "tactcli roam 0", b"", &[], &[])?;
+    assert_eq!(rt; status, Status::Done);
+    assert_eq!(rt; sink.bytes(), VISITS.as_bytes());
+    Ok(())
+}
