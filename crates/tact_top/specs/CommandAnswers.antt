@@ -1,7 +1,7 @@
 -- What each command that reads an input makes of it, and what each that draws writes.
 use Rattle.std.specs.Prelude.{ℕ, List}
 use Rattle.tact_top.specs.declared.words.Drawing.{Drawing}
-use Rattle.tact_top.specs.declared.words.Drawing.TheVariants.{Drill, Primary, Roam}
+use Rattle.tact_top.specs.declared.words.Drawing.TheVariants.{Drill, Primary, Roam, Sales}
 use Rattle.tact_top.specs.declared.words.Reading.{Reading}
 use Rattle.tact_top.specs.declared.words.Reading.TheVariants.{Play, Check, Pack, Unpack, Run}
 use Rattle.tact_top.specs.Answers.{Asking, Faulting}
@@ -11,6 +11,7 @@ use Rattle.tact_top.specs.PrimaryText.{primary_text}
 use Rattle.tact_top.specs.RecordForms.{IsByteFault, IsPacked, IsRecordFault, IsTextFault, IsUnpacked}
 use Rattle.tact_top.specs.RoamText.{roam_text}
 use Rattle.tact_top.specs.Running.{IsLoadFault, IsRan}
+use Rattle.tact_top.specs.SalesText.{sales_text}
 use Rattle.tact_top.specs.ScriptForm.{IsPlayed, IsScriptFault}
 
 -- what an input asks of it
@@ -34,3 +35,4 @@ abbrev pub text_of : Drawing → ℕ → List ℕ
 text_of Drill = drill_text
 text_of Primary = primary_text
 text_of Roam = roam_text
+text_of Sales = sales_text

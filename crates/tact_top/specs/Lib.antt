@@ -6,6 +6,7 @@ pub mod DrillText
 pub mod Drilling
 pub mod PrimaryText
 pub mod RoamText
+pub mod SalesText
 pub mod RunWords
 pub mod Commands
 pub mod ScriptForm

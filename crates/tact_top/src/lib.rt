@@ -13,6 +13,7 @@ mod reading;
 mod roaming;
 mod run_words;
 mod running;
+mod selling;
 mod top;
 mod words;
 
@@ -21,4 +22,5 @@ pub use drilling::drill;
 pub use ordering::primary;
 pub use packing::{pack, unpack};
 pub use roaming::roam;
+pub use selling::sales;
 pub use top::tact;

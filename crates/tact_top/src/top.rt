@@ -11,6 +11,7 @@ use crate::packing::{pack, unpack};
 use crate::playing::play;
 use crate::roaming::roam;
 use crate::running::run;
+use crate::selling::sales;
 use crate::words::{Command, Drawing, Reading, WordsFault, command_of};
 use run_model::Status;
 use std::alloc::Global;
@@ -32,13 +33,15 @@ use tact_io::{Clock, Gate, Sink, Source};
 ///   writes a summary. It reads nothing.
 /// - `roam` with a number lets clients roam among replicas by the steps that the number draws, and writes a summary. It
 ///   reads nothing.
+/// - `sales` with a number sells and cancels places at replicas by the steps that the number draws, and writes a summary.
+///   It reads nothing.
 ///
 /// `Usage` comes exactly where the words after the name are no command, and then nothing is read or
 /// written: `NoCommand` where there is none, `UnknownCommand` where the first of them is no command's
-/// name, `MissingNumber` where no word follows `drill`, `primary` or `roam`, `BadNumber` where the one that does isn't a
-/// number below 2^64, `ExtraWord` where a word follows the command's last one, and `RunWords` where `clap` refuses
+/// name, `MissingNumber` where no word follows `drill`, `primary`, `roam` or `sales`, `BadNumber` where the one that does
+/// isn't a number below 2^64, `ExtraWord` where a word follows the command's last one, and `RunWords` where `clap` refuses
 /// those after `run`. `NoMemory` may come in place of `RunWords`. The other statuses are those of `script_run::play`,
-/// [`check`], [`pack`], [`unpack`], [`drill`], [`primary`] and [`roam`], and for `run`:
+/// [`check`], [`pack`], [`unpack`], [`drill`], [`primary`], [`roam`] and [`sales`], and for `run`:
 ///
 /// - `Done`: each client did its items, each tried until its reply was final or as often as it may be. The record was
 ///   written.
@@ -76,6 +79,7 @@ pub fn tact<R: Threads + Wait + Sync, C: Clock + Sync, G: Gate + Sync, S: Source
             Drawing::Drill => drill(alloc, number, sink),
             Drawing::Primary => primary(alloc, number, sink),
             Drawing::Roam => roam(alloc, number, sink),
+            Drawing::Sales => sales(alloc, number, sink),
         },
         Err(WordsFault::Usage(kind)) => Status::Usage(kind),
         Err(WordsFault::NoMemory) => Status::NoMemory,

@@ -22,6 +22,7 @@ pub(crate) enum Drawing {
     Drill,
     Primary,
     Roam,
+    Sales,
 }
 
 /// A command that reads an input.
@@ -50,7 +51,7 @@ pub(crate) enum Name {
 }
 
 /// The word of each command but `run`.
-const NAMES: [(&[u8], Name); 7] = [
+const NAMES: [(&[u8], Name); 8] = [
     (b"play", Name::Read(Reading::Play)),
     (b"check", Name::Read(Reading::Check)),
     (b"pack", Name::Read(Reading::Pack)),
@@ -58,6 +59,7 @@ const NAMES: [(&[u8], Name); 7] = [
     (b"drill", Name::Draw(Drawing::Drill)),
     (b"primary", Name::Draw(Drawing::Primary)),
     (b"roam", Name::Draw(Drawing::Roam)),
+    (b"sales", Name::Draw(Drawing::Sales)),
 ];
 
 /// What the words ask for, of which the first is the program's name.

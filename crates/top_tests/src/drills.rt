@@ -65,3 +65,21 @@ fn visits_are_those_of_their_number(rt: HostRuntime) -> Result<(), Fail> {
     assert_eq!(rt; sink.bytes(), VISITS.as_bytes());
     Ok(())
 }
+
+// What an independent program reckons of guarded sales at the number 0, folded anew from each part at each step, which also
+// finds no more than 200 places and no fewer than none sold after any: 995 entries, those of each kind added up.
+const TRADES: &str =
+    "sales 0 entries 995 sold 72 cancelled 82 over 0 under 4 waits 455 sends 176 takes 210
+replica 0 value 69
+replica 1 value 84
+replica 2 value 98
+ref 82
+";
+
+#[test]
+fn trades_are_those_of_their_number(rt: HostRuntime) -> Result<(), Fail> {
+    let (status, sink) = obeyed(&rt, "tactcli sales 0", b"", &[], &[])?;
+    assert_eq!(rt; status, Status::Done);
+    assert_eq!(rt; sink.bytes(), TRADES.as_bytes());
+    Ok(())
+}

@@ -1,0 +1,3 @@
+pub mod TradeLemmas
+pub mod TallyLemmas
+pub mod SoldLemmas

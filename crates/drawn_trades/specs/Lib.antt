@@ -1,0 +1,2 @@
+pub mod DrawnTrades
+pub mod Tallies
