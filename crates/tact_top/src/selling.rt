@@ -71,7 +71,6 @@ fn put_all(number: u64, booking: &Booking, tally: &Tally, out: &mut Bytes) -> Re
     put_counts(booking, tally, out)
 }
 
-#[tactic(auto, unfolding(crate::specs::SalesText::trade_counts))]
 fn put_counts(booking: &Booking, tally: &Tally, out: &mut Bytes) -> Result<(), NoMemory>
     requires { IsTallyOf booking.now tally.now }
     ensures { OnOk result (out.new ≡ out.old ++ spaced (trade_counts booking.now)) }
