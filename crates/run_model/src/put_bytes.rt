@@ -1,14 +1,11 @@
-//! Weights and operations as bytes, appended field by field. Where one of the private calls fails, the bytes
-//! still begin with what they were.
+//! Weights and operations as bytes. Each is put together in place, field by field, and appended at once.
 
-ghost use Rattle.std.specs.Prelude.{◌≡◌, ◌<◌, [], ◌∷◌, ◌++◌, All, OnOk, OnErr};
+ghost use Rattle.std.specs.Prelude.{◌≡◌, ◌<◌, ◌≤◌, ◌+◌, ◌*◌, ◌∷◌, ◌++◌, All, OnOk, OnErr, length};
 ghost use Rattle.std.specs.List.{flat_map};
 ghost use Rattle.tact_base.specs.declared.limits.TheConstants.{CONITS_MAX};
-ghost use Rattle.run_model.specs.Text.{BeginsWith};
 ghost use Rattle.run_model.specs.Bytes.{number_bytes, signed_bytes, weight_bytes, weights_bytes, op_bytes};
 
-use crate::fields::{append_byte, append_number, append_signed};
-use crate::tokens::all_or_nothing;
+use crate::ShortBytes;
 use tact_base::{Bytes, NoMemory, Op, Weight, Weights};
 
 /// Appends weights: their number in one byte, then for each its conit in one byte, its nweight and its oweight
@@ -18,9 +15,9 @@ pub fn put_weights(weights: &Weights, out: &mut Bytes) -> Result<(), NoMemory>
     ensures ok { OnOk result (out.new ≡ out.old ++ weights_bytes weights.now) }
     ensures err { OnErr result (out.new ≡ out.old) }
 {
-    let start = out.len();
-    let done = append_weights(weights, out);
-    all_or_nothing(done, start, out)
+    let mut short = ShortBytes::new();
+    fill_weights(weights, &mut short);
+    out.append(short.bytes())
 }
 
 /// Appends an operation: a tag in one byte, 1 for a put, 2 for an add and 3 for a shift, and its fields in
@@ -29,69 +26,72 @@ pub fn put_op(op: &Op, out: &mut Bytes) -> Result<(), NoMemory>
     ensures ok { OnOk result (out.new ≡ out.old ++ op_bytes op.now) }
     ensures err { OnErr result (out.new ≡ out.old) }
 {
-    let start = out.len();
-    let done = append_op(op, out);
-    all_or_nothing(done, start, out)
+    let mut short = ShortBytes::new();
+    fill_op(op, &mut short);
+    out.append(short.bytes())
 }
 
-#[tactic(auto, using(crate::proofs::TextLemmas::begins_grown, crate::proofs::TextLemmas::always_err))]
-pub(crate) fn append_weights(weights: &Weights, out: &mut Bytes) -> Result<(), NoMemory>
-    requires { All (λ weight. weight.conit < CONITS_MAX) weights.now }
-    ensures ok { OnOk result (out.new ≡ out.old ++ weights_bytes weights.now) }
-    ensures err { OnErr result (BeginsWith out.old out.new) }
+/// Puts weights, which have at most 69 bytes.
+pub(crate) fn fill_weights(weights: &Weights, out: &mut ShortBytes)
+    requires conits { All (λ weight. weight.conit < CONITS_MAX) weights.now }
+    requires room { 69 ≤ out.old.room }
+    ensures items { out.new.items ≡ out.old.items ++ weights_bytes weights.now }
+    ensures room { out.old.room ≤ out.new.room + 69 }
 {
     let items = weights.items();
-    out.push(items.len() as u8)?;
-    append_each(items, out)
+    out.put_byte(items.len() as u32);
+    fill_each(items, out);
 }
 
-#[tactic(auto, using(crate::proofs::TextLemmas::begins_grown, crate::proofs::TextLemmas::always_err))]
-fn append_each(items: &[Weight], out: &mut Bytes) -> Result<(), NoMemory>
-    requires { All (λ weight. weight.conit < CONITS_MAX) items.now }
-    ensures ok { OnOk result (out.new ≡ out.old ++ flat_map weight_bytes items.now) }
-    ensures err { OnErr result (BeginsWith out.old out.new) }
+fn fill_each(items: &[Weight], out: &mut ShortBytes)
+    requires conits { All (λ weight. weight.conit < CONITS_MAX) items.now }
+    requires room { 17 * length items.now ≤ out.old.room }
+    ensures items { out.new.items ≡ out.old.items ++ flat_map weight_bytes items.now }
+    ensures room { out.old.room ≡ out.new.room + 17 * length items.now }
 {
     for item in items {
-        append_weight(item, out)?;
+        fill_weight(item, out);
     }
-    Ok(())
 }
 
-#[tactic(auto, using(crate::proofs::TextLemmas::begins_grown, crate::proofs::TextLemmas::always_err))]
-pub(crate) fn append_weight(weight: &Weight, out: &mut Bytes) -> Result<(), NoMemory>
-    requires { weight.now.conit < CONITS_MAX }
-    ensures ok { OnOk result (out.new ≡ out.old ++ weight_bytes weight.now) }
-    ensures err { OnErr result (BeginsWith out.old out.new) }
+/// Puts a weight, which has 17 bytes.
+pub(crate) fn fill_weight(weight: &Weight, out: &mut ShortBytes)
+    requires conit { weight.now.conit < CONITS_MAX }
+    requires room { 17 ≤ out.old.room }
+    ensures items { out.new.items ≡ out.old.items ++ weight_bytes weight.now }
+    ensures room { out.old.room ≡ out.new.room + 17 }
 {
-    append_byte(weight.conit, out)?;
-    append_signed(weight.nweight, out)?;
-    append_number(weight.oweight, out)
+    out.put_byte(weight.conit);
+    out.put_signed(weight.nweight);
+    out.put_number(weight.oweight);
 }
 
-#[tactic(auto, using(crate::proofs::TextLemmas::begins_grown, crate::proofs::TextLemmas::always_err))]
-pub(crate) fn append_op(op: &Op, out: &mut Bytes) -> Result<(), NoMemory>
-    ensures ok { OnOk result (out.new ≡ out.old ++ op_bytes op.now) }
-    ensures err { OnErr result (BeginsWith out.old out.new) }
+/// Puts an operation, which has at most 25 bytes.
+pub(crate) fn fill_op(op: &Op, out: &mut ShortBytes)
+    requires { 25 ≤ out.old.room }
+    ensures items { out.new.items ≡ out.old.items ++ op_bytes op.now }
+    ensures room { out.old.room ≤ out.new.room + 25 }
 {
     match op {
-        Op::Put { key, value } => append_pair(1, *key, *value, out),
-        Op::Add { key, delta } => append_pair(2, *key, *delta, out),
+        Op::Put { key, value } => fill_pair(1, *key, *value, out),
+        Op::Add { key, delta } => fill_pair(2, *key, *delta, out),
         Op::Shift { from, to, amount } => {
-            out.push(3)?;
-            append_number(*from, out)?;
-            append_number(*to, out)?;
-            append_number(*amount, out)
+            out.put_byte(3);
+            out.put_number(*from);
+            out.put_number(*to);
+            out.put_number(*amount);
         }
     }
 }
 
 // A tag, a key and a signed number.
-#[tactic(auto, using(crate::proofs::TextLemmas::begins_grown, crate::proofs::TextLemmas::always_err))]
-fn append_pair(tag: u8, key: u64, number: i64, out: &mut Bytes) -> Result<(), NoMemory>
-    ensures ok { OnOk result (out.new ≡ out.old ++ tag ∷ number_bytes key ++ signed_bytes number) }
-    ensures err { OnErr result (BeginsWith out.old out.new) }
+fn fill_pair(tag: u32, key: u64, number: i64, out: &mut ShortBytes)
+    requires tag { tag < 256 }
+    requires room { 17 ≤ out.old.room }
+    ensures items { out.new.items ≡ out.old.items ++ tag ∷ number_bytes key ++ signed_bytes number }
+    ensures room { out.old.room ≡ out.new.room + 17 }
 {
-    out.push(tag)?;
-    append_number(key, out)?;
-    append_signed(number, out)
+    out.put_byte(tag);
+    out.put_number(key);
+    out.put_signed(number);
 }

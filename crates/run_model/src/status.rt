@@ -28,6 +28,16 @@ pub enum Status {
         count: u64,
         clock: u64,
     },
+    /// A journal failed in the run of a workload: that of this replica. Nothing was written.
+    JournalFault {
+        replica: u32,
+    },
+    /// The journal of this replica gave another piece than it took at this place, counted from 0, or none. Nothing was
+    /// written.
+    JournalForeign {
+        replica: u32,
+        place: u64,
+    },
     /// A read failed. Nothing was written.
     ReadFault,
     /// A write failed. What was written by then is the beginning of the output.

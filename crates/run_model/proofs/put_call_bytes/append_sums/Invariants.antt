@@ -1,7 +1,0 @@
-use Rattle.std.proofs.Common.{◌≡◌, ◌∷◌, ◌++◌, length, take}
-use Rattle.std.specs.List.{flat_map}
-use Rattle.run_model.specs.Bytes.{signed_bytes}
-use Rattle.run_model.proofs.put_call_bytes.append_sums.Given as goal
-
-abbrev pub invariant-loop-sum : goal.invariant-loop-sum
-invariant-loop-sum l = l.out ≡ l.fn.out ++ length l.sums ∷ flat_map signed_bytes (take l.sum-index l.sums)
