@@ -41,7 +41,9 @@ pub use lines::{fault_of_bytes, is_skipped};
 pub use lists::{ListEnd, firsts_at, needs_at, numbers_at, weight_at, weights_at};
 pub use parts::Counts;
 pub use printing::{print, text_of};
-pub use put_bytes::{append_call, append_front, append_loan, append_send, bytes_of};
+pub use put_bytes::{
+    append_call, append_front, append_loan, append_send, bytes_of, fill_call, fill_front,
+};
 pub use record_lines::parse_text;
 pub use same_replies::are_same_replies;
 pub use short::{Short, ShortAct, Shorts};

@@ -1,7 +1,7 @@
-//! Records as bytes, appended field by field. Where one of the private calls fails, the bytes still begin with
-//! what they were.
+//! Records as bytes, appended field by field; what an entry begins with and the fields of a call are put together in
+//! place before, which takes no memory. Where one of the private calls fails, the bytes still begin with what they were.
 
-ghost use Rattle.std.specs.Prelude.{◌≡◌, ◌<◌, ◌++◌, ◌∷◌, All, OnOk, OnErr, length};
+ghost use Rattle.std.specs.Prelude.{◌≡◌, ◌<◌, ◌≤◌, ◌+◌, ◌++◌, ◌∷◌, All, OnOk, OnErr, length};
 ghost use Rattle.std.specs.List.{flat_map};
 ghost use Rattle.tact_base.specs.declared.limits.TheConstants.{CONITS_MAX};
 ghost use Rattle.tact_base.specs.Setup.{owners_and_conits};
@@ -14,8 +14,8 @@ ghost use Rattle.run_record.specs.RecordBytes.{act_bytes, act_tag, bound_bytes, 
 
 use crate::{Record, Short, ShortAct};
 use run_model::{
-    Config, Reply, Request, all_or_nothing, append_byte, append_number, append_numbers, put_reply,
-    put_request,
+    Config, Reply, Request, ShortBytes, all_or_nothing, append_byte, append_number, append_numbers,
+    fill_reply, fill_request,
 };
 use tact_base::{Bytes, NoMemory};
 
@@ -108,16 +108,28 @@ fn append_short(short: &Short, config: &Config, out: &mut Bytes) -> Result<(), N
 
 /// Appends what an entry begins with: its tag in one byte, its replica in one, its moment in eight. After
 /// `NoMemory` the bytes begin with what they were.
-#[tactic(auto, using(run_model::proofs::TextLemmas::begins_grown, run_model::proofs::TextLemmas::always_err))]
 pub fn append_front(tag: u32, replica: u32, moment: u64, out: &mut Bytes) -> Result<(), NoMemory>
     requires tag { tag < 256 }
     requires replica { replica < 256 }
     ensures ok { OnOk result (out.new ≡ out.old ++ tag ∷ replica ∷ number_bytes moment) }
     ensures err { OnErr result (BeginsWith out.old out.new) }
 {
-    append_byte(tag, out)?;
-    append_byte(replica, out)?;
-    append_number(moment, out)
+    let mut front = ShortBytes::new();
+    fill_front(tag, replica, moment, &mut front);
+    out.append(front.bytes())
+}
+
+/// Puts what an entry begins with, as `append_front` appends it: 10 bytes. Takes no memory.
+pub fn fill_front(tag: u32, replica: u32, moment: u64, out: &mut ShortBytes)
+    requires tag { tag < 256 }
+    requires replica { replica < 256 }
+    requires room { 10 ≤ out.old.room }
+    ensures items { out.new.items ≡ out.old.items ++ tag ∷ replica ∷ number_bytes moment }
+    ensures room { out.old.room ≡ out.new.room + 10 }
+{
+    out.put_byte(tag);
+    out.put_byte(replica);
+    out.put_number(moment);
 }
 
 fn tag_of(act: &ShortAct) -> u32
@@ -169,7 +181,6 @@ fn append_act(
 
 /// Appends the fields of a call: its client in one byte, its number in eight, its request and its reply. After
 /// `NoMemory` the bytes begin with what they were.
-#[tactic(auto, using(run_model::proofs::TextLemmas::begins_grown, run_model::proofs::TextLemmas::always_err))]
 pub fn append_call(
     client: u32,
     number: u64,
@@ -183,9 +194,24 @@ pub fn append_call(
     ensures ok { OnOk result (out.new ≡ out.old ++ act_bytes (Call client number request.now reply.now)) }
     ensures err { OnErr result (BeginsWith out.old out.new) }
 {
-    append_named(client, number, out)?;
-    put_request(request, out)?;
-    put_reply(reply, out)
+    let mut call = ShortBytes::new();
+    fill_call(client, number, request, reply, &mut call);
+    out.append(call.bytes())
+}
+
+/// Puts the fields of a call, as `append_call` appends them: at most 161 bytes. Takes no memory.
+pub fn fill_call(client: u32, number: u64, request: &Request, reply: &Reply, out: &mut ShortBytes)
+    requires client { client < 256 }
+    requires conits { HasConitsBelow CONITS_MAX request.now }
+    requires names { HasSmallNames reply.now }
+    requires room { 161 ≤ out.old.room }
+    ensures items { out.new.items ≡ out.old.items ++ act_bytes (Call client number request.now reply.now) }
+    ensures room { out.old.room ≤ out.new.room + 161 }
+{
+    out.put_byte(client);
+    out.put_number(number);
+    fill_request(request, out);
+    fill_reply(reply, out);
 }
 
 /// Appends the fields of a send: its receiver in one byte, its number in eight, and its firsts in eight each.
@@ -200,14 +226,14 @@ pub fn append_send(to: u32, number: u64, firsts: &[u64], out: &mut Bytes) -> Res
     append_numbers(firsts, out)
 }
 
-// A client or a replica, and a number.
+// A replica and a number.
 #[tactic(auto, using(run_model::proofs::TextLemmas::begins_grown, run_model::proofs::TextLemmas::always_err))]
-fn append_named(named: u32, number: u64, out: &mut Bytes) -> Result<(), NoMemory>
-    requires { named < 256 }
-    ensures ok { OnOk result (out.new ≡ out.old ++ named ∷ number_bytes number) }
+fn append_named(replica: u32, number: u64, out: &mut Bytes) -> Result<(), NoMemory>
+    requires { replica < 256 }
+    ensures ok { OnOk result (out.new ≡ out.old ++ replica ∷ number_bytes number) }
     ensures err { OnErr result (BeginsWith out.old out.new) }
 {
-    append_byte(named, out)?;
+    append_byte(replica, out)?;
     append_number(number, out)
 }
 
