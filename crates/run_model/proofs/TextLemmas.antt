@@ -1,7 +1,7 @@
 -- Texts that grow, token by token.
 use Rattle.std.proofs.Common.{◌≡◌, ℕ, ◌≤◌, List, [], ◌∷◌, ◌++◌, length, take, codes, Result, Ok, Err, refl, sym, ap, ◌∙◌, append_assoc, arith}
 use Rattle.std.specs.Result.{OnOk, OnErr}
-use Rattle.std.proofs.lemmas.List.{take-take, take_at, length-take, append-nil}
+use Rattle.std.proofs.lemmas.List.{take-take, take_at, take_all, length-take, append-nil}
 use Rattle.run_model.specs.Text.{line_text, spaced, BeginsWith}
 use Rattle.std.proofs.lemmas.Grind.{flat_map-append}
 
@@ -83,3 +83,42 @@ grown_by_both xs ys old mid new at_mid at_new =
 pub weaker_ok : {T E P Q : Type 0} → (r : Result T E) → (P → Q) → OnOk r P → OnOk r Q
 weaker_ok (Ok x) f p = f p
 weaker_ok (Err e) f p = tt
+
+-- what is appended to what was appended to, where the call did not fail
+pub ok_grown : {T E : Type 0} (r : Result T E) (old mid new first second : List ℕ)
+    → mid ≡ old ++ first
+    → OnOk r (new ≡ mid ++ second)
+    → OnOk r (new ≡ old ++ (first ++ second))
+ok_grown (Ok x) old mid new first second m n = n ∙ ap (λ (text : List ℕ). text ++ second) m ∙ append_assoc old first second
+ok_grown (Err e) old mid new first second m n = tt
+
+-- and what it begins with, where the call failed
+pub err_grown : {T E : Type 0} (r : Result T E) (old mid new more : List ℕ)
+    → mid ≡ old ++ more
+    → OnErr r (BeginsWith mid new)
+    → OnErr r (BeginsWith old new)
+err_grown (Ok x) old mid new more e b = tt
+err_grown (Err f) old mid new more e b = begins_grown old mid new more b e
+
+-- the same, where the failed call left it as it was
+pub err_kept : {T E : Type 0} (r : Result T E) (old mid new more : List ℕ)
+    → mid ≡ old ++ more
+    → OnErr r (new ≡ mid)
+    → OnErr r (BeginsWith old new)
+err_kept (Ok x) old mid new more e b = tt
+err_kept (Err f) old mid new more e b = rw (b, e) (begins_append old more)
+
+-- a text that did not change, and a text that a failed call did not change
+pub begins_same : (old new : List ℕ) → new ≡ old → BeginsWith old new
+begins_same old new e = rw e (take_all (length old) old (omega arith))
+
+pub err_same : {T E : Type 0} (r : Result T E) (old new : List ℕ) → OnErr r (new ≡ old) → OnErr r (BeginsWith old new)
+err_same (Ok x) old new e = tt
+err_same (Err f) old new e = begins_same old new e
+
+-- the line of an entry, from what it begins with
+pub line_begun : (word : List ℕ) (tokens : List (List ℕ)) (old new : List ℕ)
+    → new ≡ (old ++ word) ++ spaced tokens
+    → new ≡ old ++ line_text (word ∷ tokens)
+line_begun word tokens old new e =
+    e ∙ append_assoc old word (spaced tokens) ∙ ap (λ (text : List ℕ). old ++ text) (sym (line_text-cons word tokens))

@@ -1,7 +1,7 @@
 -- Where the numbers of a replica on a conit stand, and what is read there and after a write.
-use Rattle.std.proofs.Common.{◌≡◌, ℕ, ◌*◌, ◌/◌, ◌%◌, ◌<◌, ◌≤◌, List, length, get_or, set, sym, ap, ◌∙◌, inl, inr, ◌⊎◌, ⊎_elim, arith}
+use Rattle.std.proofs.Common.{◌≡◌, ℕ, ◌*◌, ◌/◌, ◌%◌, ◌<◌, ◌≤◌, List, length, get_or, set, replicate, sym, ap, ◌∙◌, inl, inr, ◌⊎◌, ⊎_elim, arith}
 use Rattle.std.proofs.lemmas.Bool.{cases_eq, cases_lt}
-use Rattle.std.proofs.lemmas.List.{get_or-set_same, get_or-set_other, set_past, get_or_read}
+use Rattle.std.proofs.lemmas.List.{get_or-set_same, get_or-set_other, set_past, get_or_read, get_or_past, get_or-replicate, length-replicate}
 use Rattle.std.proofs.lemmas.Nat.{div-mul-add, mod-mul-add}
 use Rattle.tact_base.proofs.ListLemmas.{get_or-map_range}
 use Rattle.tact_base.proofs.SetupLemmas.{place_in}
@@ -57,3 +57,10 @@ get_or-set_grows xs i v q more =
     (get_or-set_cases xs i v q within))
     (λ (past : length xs ≤ i). rw (set_past xs i v past) (omega arith))
     (cases_lt i (length xs))
+
+-- what is read of a list of one number, at that number
+pub get_or-replicate_same : (n i x : ℕ) → get_or (replicate n x) i x ≡ x
+get_or-replicate_same n i x =
+    ⊎_elim (λ (within : i < n). get_or-replicate n i x x within)
+    (λ (past : n ≤ i). get_or_past (replicate n x) i x (rw (length-replicate n x) past))
+    (cases_lt i n)

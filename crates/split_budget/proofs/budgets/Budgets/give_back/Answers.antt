@@ -1,3 +1,4 @@
+use Rattle.std.proofs.Common.{refl}
 use Rattle.split_budget.specs.Budgets.{setup_of}
 use Rattle.split_budget.proofs.LoansKept.{KeepsBudgets-given}
 use Rattle.split_budget.proofs.Places.{read_at_place}
@@ -17,3 +18,12 @@ invariant_of-self c =
           c.self.invariant.replica;
       conits = c.self.invariant.conits;
     })
+
+pub returns : goal.returns
+returns c =
+    let owner = rw (← c.self.view_is) at c.requires.owner in
+    let conit = rw (← c.self.view_is) at c.requires.conit in
+    let place = c.place_of-place.ensures in
+    let read = read_at_place (setup_of c.self.inside.config) c.self.inside.returned.items c.args.owner c.args.conit c.place_of-place.result c.index_mut.result.now
+    c.self.invariant.keeps.returned owner.0 conit place c.index_mut.ensures.value in
+    rw (read, place, ← c.self.view_is) refl

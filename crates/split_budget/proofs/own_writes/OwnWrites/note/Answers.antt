@@ -1,4 +1,4 @@
-use Rattle.std.proofs.Common.{◌≡◌, ◌-◌, ◌++◌, max, take, drop, get_or, ap, ◌∙◌, subst, arith}
+use Rattle.std.proofs.Common.{◌≡◌, ◌-◌, ◌++◌, max, take, drop, get_or, refl, ap, ◌∙◌, subst, arith}
 use Rattle.std.proofs.lemmas.List.{get_or_read}
 use Rattle.tact_base.specs.Sums.{above_zero, below_zero}
 use Rattle.split_budget.specs.Missed.{AreMissed}
@@ -62,3 +62,8 @@ invariant_of-self c =
     c.take_off.ensures.plus c.take_off.ensures.minus (sums d) in
     KeepsSums-noted _ o.missed.items c.self.invariant c.args.peer c.max-newest.result c.take_off.new.self is
     (omega (arith, c.max-newest.ensures, d.type_inv.known.fits, c.ranges.count.fits)) (omega (arith, newest d)) of
+
+pub returns : goal.returns
+returns c =
+    let d = (goal.at.returns c).After-index_mut in
+    rw (newest d, ← c.self.view_is) refl
