@@ -18,6 +18,7 @@ pub mod Accepting
 pub mod ImageSteps
 pub mod SeenLemmas
 pub mod Answering
+pub mod Replies
 pub mod ReadCauses
 pub mod Causes
 pub mod SendLemmas

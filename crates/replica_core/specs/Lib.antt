@@ -9,3 +9,4 @@ pub mod Fitting
 pub mod Reading
 pub mod Dropped
 pub mod Trimming
+pub mod Replying

@@ -21,6 +21,7 @@ mod lending;
 mod peeking;
 mod reading;
 mod refusing;
+mod replying;
 mod reserving;
 mod sending;
 mod taking;

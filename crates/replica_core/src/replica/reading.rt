@@ -32,7 +32,7 @@ impl Replica {
     }
 
     // The reply to a read whose entry has this moment.
-    fn read_at(&self, moment: u64, key: u64, needs: &[Need]) -> Reply
+    pub(super) fn read_at(&self, moment: u64, key: u64, needs: &[Need]) -> Reply
         requires { AreNeedsInRange self.now.core.setup needs.now }
         ensures { result ≡ read_reply self.now.core moment key needs.now }
     {
