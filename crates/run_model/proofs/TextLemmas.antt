@@ -84,15 +84,7 @@ pub weaker_ok : {T E P Q : Type 0} → (r : Result T E) → (P → Q) → OnOk r
 weaker_ok (Ok x) f p = f p
 weaker_ok (Err e) f p = tt
 
--- what is appended to what was appended to, where the call did not fail
-pub ok_grown : {T E : Type 0} (r : Result T E) (old mid new first second : List ℕ)
-    → mid ≡ old ++ first
-    → OnOk r (new ≡ mid ++ second)
-    → OnOk r (new ≡ old ++ (first ++ second))
-ok_grown (Ok x) old mid new first second m n = n ∙ ap (λ (text : List ℕ). text ++ second) m ∙ append_assoc old first second
-ok_grown (Err e) old mid new first second m n = tt
-
--- and what it begins with, where the call failed
+-- what a text begins with that was appended to, where the call failed
 pub err_grown : {T E : Type 0} (r : Result T E) (old mid new more : List ℕ)
     → mid ≡ old ++ more
     → OnErr r (BeginsWith mid new)
