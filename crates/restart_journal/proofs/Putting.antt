@@ -1,5 +1,5 @@
 -- What writers ask of the entries that they are given.
-use Rattle.std.proofs.Common.{ℕ, ◌<◌, ◌≤◌, All, arith}
+use Rattle.std.proofs.Common.{◌≡◌, ℕ, ◌<◌, ◌≤◌, All, refl, arith}
 use Rattle.std.proofs.lemmas.List.Elements.{All-weaker}
 use Rattle.tact_base.specs.declared.conit_list.Need.{Need}
 use Rattle.tact_base.specs.declared.conit_list.Weight.{Weight}
@@ -8,8 +8,12 @@ use Rattle.tact_base.specs.Setup.{Setup, IsSetup}
 use Rattle.tact_base.proofs.SetupLemmas.{HasCounts-from_IsSetup}
 use Rattle.run_model.specs.CallBytes.{HasConitsBelow}
 use Rattle.run_model.specs.Ranges.{IsWeightInRange, IsNeedInRange, IsRequestInRange}
+use Rattle.run_model.specs.declared.call.Reply.{Reply}
 use Rattle.run_model.specs.declared.call.Request.{Request}
 use Rattle.run_model.specs.declared.call.Request.TheVariants as request
+use Rattle.run_model.specs.declared.entry.Act.{Act}
+use Rattle.run_model.specs.declared.entry.Act.TheVariants as act
+use Rattle.restart_journal.specs.Pieces.{IsCall}
 
 module _ (setup : Setup) (good : IsSetup setup) where
   few_conits : setup.conits ≤ CONITS_MAX
@@ -29,3 +33,14 @@ module _ (setup : Setup) (good : IsSetup setup) where
   conits_below (request.Release conit amount) within = omega (arith, within.0, few_conits)
   conits_below (request.Read key needs) within =
       All-weaker (IsNeedInRange setup) (λ (need : Need). need.conit < CONITS_MAX) (λ need fits. omega (arith, fits.conit, few_conits)) needs within.1.each
+
+-- an act that is the call of no client
+pub no_call : (done : Act)
+    → ((client number : ℕ) (asked : Request) (given : Reply) → ¬ (done ≡ act.Call client number asked given))
+    → ¬ IsCall done
+no_call (act.Call client number asked given) none is = none client number asked given refl
+no_call (act.Send message) none is = is
+no_call (act.Take message) none is = is
+no_call (act.Lend to conit amount) none is = is
+no_call (act.Back owner conit amount) none is = is
+no_call act.Restart none is = is

@@ -18,6 +18,11 @@ abbrev pub HasSmallReply : Act → Type 0
 HasSmallReply (act.Call client number request reply) = HasSmallNames reply
 HasSmallReply other = Unit {0}
 
+-- an act is a call
+abbrev pub IsCall : Act → Type 0
+IsCall (act.Call client number request reply) = Unit {0}
+IsCall other = ⊥
+
 -- an entry of some setup, with such a reply
 pub record CanBePut (entry : Entry) : Type 0 where
   pub setup : Setup

@@ -11,6 +11,6 @@ mod recovering;
 
 pub use fault::RecoverFault;
 pub use laws::{due_can_be_put, one_entry_of_piece, put_is_read};
-pub use put_piece::put_entry;
+pub use put_piece::{call_piece, put_entry};
 pub use recovered::{EntryList, Recovered};
 pub use recovering::recover;

@@ -23,6 +23,8 @@ module _ (rest before after : Option (List ℕ)) (reads reads' writes writes' : 
   played_cause (status.BadInput place (input.Bytes kind)) left c w = absurd c
   played_cause (status.BadInput place (input.Load kind)) left c w = absurd c
   played_cause (status.Full replica count clock) left c w = absurd c
+  played_cause (status.JournalFault replica) left c w = absurd c
+  played_cause (status.JournalForeign replica place) left c w = absurd c
   played_cause status.TooLong left c w = c
   played_cause status.ReadFault left c w = c
   played_cause status.WriteFault left c w = c
@@ -36,6 +38,8 @@ module _ (rest before after : Option (List ℕ)) (reads reads' writes writes' : 
   played_writes status.Done (Some script) c w = (w.0, w.1, (refl, w.2))
   played_writes (status.Bad entry cause) left c w = absurd c
   played_writes (status.Full replica count clock) left c w = absurd c
+  played_writes (status.JournalFault replica) left c w = absurd c
+  played_writes (status.JournalForeign replica place) left c w = absurd c
   played_writes (status.Usage kind) left c w = w
   played_writes (status.BadInput place kind) left c w = w
   played_writes status.TooLong left c w = w
@@ -57,6 +61,8 @@ module _ (Asks : Asking) (Faults : Faulting) (rest : Option (List ℕ)) (reads r
   asked status.Done script c no_read no_write few good = inr c.1.1
   asked (status.Bad entry cause) script c no_read no_write few good = inr c.1.1
   asked (status.Full replica count clock) script c no_read no_write few good = inr c.1.1
+  asked (status.JournalFault replica) script c no_read no_write few good = inr c.1.1
+  asked (status.JournalForeign replica place) script c no_read no_write few good = inr c.1.1
   asked (status.Usage kind) script c no_read no_write few good = absurd c
   asked (status.BadInput place kind) script c no_read no_write few good = absurd (good place kind c.1.1)
   asked status.TooLong script c no_read no_write few good = absurd (omega (arith, c, few))
