@@ -35,3 +35,4 @@ pub mod TrimmedReads
 pub mod TrimmedWrites
 pub mod TrimmedLogs
 pub mod TrimmedKept
+pub mod RoomMade
