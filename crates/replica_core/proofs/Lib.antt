@@ -36,3 +36,4 @@ pub mod TrimmedReads
 pub mod TrimmedWrites
 pub mod TrimmedLogs
 pub mod TrimmedKept
+pub mod RoomMade
