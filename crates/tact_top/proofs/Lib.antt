@@ -1,4 +1,5 @@
 mod ByteFaults
+mod CommandWords
 mod Played
 mod DrillLemmas
 mod DefaultLemmas

@@ -12,17 +12,30 @@ use Rattle.tact_top.specs.RunWords.{are_run_words, tries_in}
 use Rattle.tact_top.specs.declared.words.Command.{Command}
 use Rattle.tact_top.specs.declared.words.Command.TheVariants.{Read, Draw}
 use Rattle.tact_top.specs.declared.words.Drawing.{Drawing}
+use Rattle.tact_top.specs.declared.words.Drawing.TheVariants.{Drill, Primary, Roam, Sales}
 use Rattle.tact_top.specs.declared.words.Name.{Name}
 use Rattle.tact_top.specs.declared.words.Name.TheVariants as name
 use Rattle.tact_top.specs.declared.words.Reading.{Reading}
-use Rattle.tact_top.specs.declared.words.Reading.TheVariants.{Run}
-use Rattle.tact_top.specs.declared.words.TheConstants.{NAMES}
+use Rattle.tact_top.specs.declared.words.Reading.TheVariants.{Play, Check, Pack, Unpack, Run}
 use Rattle.tact_top.specs.declared.words.WordsFault.{WordsFault}
 use Rattle.tact_top.specs.declared.words.WordsFault.TheVariants as fault
 
--- what a word names, by the table of commands
+-- the word of each command but `run`, and what it names
+abbrev pub command_words : List (List ℕ × Name)
+command_words =
+    (codes "play", name.Read Play)
+    ∷ (codes "check", name.Read Check)
+    ∷ (codes "pack", name.Read Pack)
+    ∷ (codes "unpack", name.Read Unpack)
+    ∷ (codes "drill", name.Draw Drill)
+    ∷ (codes "primary", name.Draw Primary)
+    ∷ (codes "roam", name.Draw Roam)
+    ∷ (codes "sales", name.Draw Sales)
+    ∷ []
+
+-- what a word names, by this table
 abbrev pub named : List ℕ → Option Name
-named word = option_map (λ entry. entry.1) (find (λ entry. pointwise nat_eq word entry.0.now) NAMES)
+named word = option_map (λ entry. entry.1) (find (λ entry. pointwise nat_eq word entry.0) command_words)
 
 -- a command after whose words nothing may follow
 abbrev pub alone : Command → List (List ℕ) → Result Command UsageKind

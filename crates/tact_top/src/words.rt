@@ -1,6 +1,9 @@
 //! The words of a command.
-ghost use Rattle.std.specs.Prelude.{◌≡◌, map, string_bytes, IfOk};
+ghost use Rattle.std.specs.Prelude.{◌≡◌, find, map, nat_eq, string_bytes, IfOk};
+ghost use Rattle.std.specs.Cmp.Lexicographic.{pointwise};
+ghost use Rattle.std.specs.Option.{option_map};
 ghost use Rattle.tact_top.specs.Commands.{IsCommand, TellsCommand, alone, command_of, drawn_by, named, named_of};
+ghost use Rattle.tact_top.specs.declared.words.TheConstants.{NAMES};
 
 use crate::run_words::run_of;
 use run_model::UsageKind;
@@ -104,6 +107,13 @@ fn named_of(named: Option<Name>, rest: &[String]) -> Result<Command, UsageKind>
 // What a word names, if it does.
 fn named(word: &[u8]) -> Option<Name>
     ensures { result ≡ named word.now }
+{
+    found(word)
+}
+
+// What stands at a word in the table.
+fn found(word: &[u8]) -> Option<Name>
+    ensures { result ≡ option_map (λ entry. entry.1) (find (λ entry. pointwise nat_eq word.now entry.0.now) NAMES) }
 {
     for (name, command) in NAMES.iter() {
         if word == *name {
