@@ -2,7 +2,7 @@
 use Rattle.std.proofs.Common.{◌≡◌, ◌≢◌, ℕ, ◌<◌, ◌≤◌, ◌==◌, true, false, List, [], ◌∷◌, ◌++◌, length, get_or, set, map, Contains, Option, None, Some, refl, sym, ap, ◌∙◌, subst, ⊎_elim, get_or-set_same, get_or-set_other, arith}
 use Rattle.std.specs.List.{slice_get}
 use Rattle.std.specs.Option.{option_map, option_map_or}
-use Rattle.std.proofs.lemmas.Bool.{cases_eq, eqb-true}
+use Rattle.std.proofs.lemmas.Bool.{cases_eq, eqb-true, false≢true}
 use Rattle.std.proofs.lemmas.Option.{slice_get-map, slice_get_within, get_or_from_slice_get}
 use Rattle.std.proofs.lemmas.List.{map_push, length-set}
 use Rattle.std.proofs.lemmas.List.Elements.{All-contains}
@@ -251,5 +251,5 @@ module _ (setup : Setup) (sent : List (List ℕ)) (played : Played) (is : IsPlay
           → slice_get list number ≡ found
           → option_map_or (λ receiver. receiver == replica) (option_map receiver_of found) false ≡ true
           → (message : Message) × IsNamed setup played.history replica from number message
-      go None none agrees = cc
+      go None none agrees = absurd (false≢true agrees)
       go (Some message) some agrees = (message, named_is message some (eqb-true message.to replica agrees))

@@ -2,6 +2,7 @@
 use Rattle.std.proofs.Common.{◌≡◌, ℕ, ◌<◌, Bool, true, false, not, ◌||◌, List, [], ◌∷◌, ◌++◌, length, refl, sym, ap, ◌∙◌, subst}
 use Rattle.std.specs.List.{fold, list_any}
 use Rattle.std.specs.Prelude.{replicate}
+use Rattle.std.proofs.lemmas.Bool.{false≢true}
 use Rattle.std.proofs.lemmas.List.Folds.{list_any-append}
 use Rattle.std.proofs.lemmas.List.Sums.{fold_push}
 use Rattle.tact_base.specs.Setup.{Setup, IsSetup}
@@ -15,8 +16,8 @@ use Rattle.script_text.specs.Setups.{opening, bounded, setup_after, setup_of, se
 
 -- a line that doesn't set up leaves the setup
 setup_kept : (s : Setup) (l : Line) → sets_up l ≡ false → setup_after s l ≡ s
-setup_kept s (line.Start n m a k) h = cc
-setup_kept s (line.Bound o c a k) h = cc
+setup_kept s (line.Start n m a k) h = absurd (false≢true (sym h))
+setup_kept s (line.Bound o c a k) h = absurd (false≢true (sym h))
 setup_kept s other h = refl
 
 -- a later line leaves the counts
@@ -55,7 +56,7 @@ pub setting_fits : (before : List Line) (l : Line)
     → IsSetup (setup_after (setup_of before) l) × (is_past_setup before ≡ false)
 setting_fits before (line.Start n m a k) fits h = absurd fits.in_range
 setting_fits before (line.Bound o c a k) fits h = fits.in_place
-setting_fits before other fits h = cc
+setting_fits before other fits h = absurd (false≢true h)
 
 -- whether lines are past the setup, with more of them
 pub past_more : (before after : List Line)
@@ -80,7 +81,7 @@ unplayed_from : (s : Setup) (played : Played) (ls : List Line)
 unplayed_from s played [] h = refl
 unplayed_from s played (line.Start n m a k ∷ ls) h = unplayed_from s played ls h
 unplayed_from s played (line.Bound o c a k ∷ ls) h = unplayed_from s played ls h
-unplayed_from s played (other ∷ ls) h = cc
+unplayed_from s played (other ∷ ls) h = absurd (false≢true (sym h))
 
 pub unplayed : (s : Setup) (ls : List Line)
     → is_past_setup ls ≡ false
@@ -93,7 +94,7 @@ unsent_from : (sent : List (List ℕ)) (ls : List Line)
 unsent_from sent [] h = refl
 unsent_from sent (line.Start n m a k ∷ ls) h = unsent_from sent ls h
 unsent_from sent (line.Bound o c a k ∷ ls) h = unsent_from sent ls h
-unsent_from sent (other ∷ ls) h = cc
+unsent_from sent (other ∷ ls) h = absurd (false≢true (sym h))
 
 pub unsent : (ls : List Line)
     → is_past_setup ls ≡ false

@@ -1,5 +1,5 @@
 use Rattle.std.proofs.Common.{true, ◌≡◌, ◌&&◌, refl, sym, ◌∙◌, ap, ap₂, arith}
-use Rattle.std.proofs.lemmas.Bool.{and_parts}
+use Rattle.std.proofs.lemmas.Bool.{and_parts, false≢true}
 use Rattle.std.proofs.lemmas.Bool.Decides.{nat_tests, Decides-int_eq}
 use Rattle.std.proofs.lemmas.Slice.Eq.{slice_eq-Decides}
 use Rattle.run_model.specs.contracts.call.ReplyPartialEq.TheImpl.{eq-value}
@@ -10,29 +10,29 @@ use Rattle.run_record.proofs.same_replies.are_same_replies.Goals as goal
 -- replies that the test takes for the same are the same
 same : (one other : Reply) → eq-value.it one other ≡ true → one ≡ other
 same (reply.Done a b) (reply.Done g h) agrees = grind (arith, nat_tests)
-same (reply.Done a b) other agrees = cc
+same (reply.Done a b) other agrees = absurd (false≢true agrees)
 same reply.Granted reply.Granted agrees = refl
-same reply.Granted other agrees = cc
+same reply.Granted other agrees = absurd (false≢true agrees)
 same reply.Released reply.Released agrees = refl
-same reply.Released other agrees = cc
+same reply.Released other agrees = absurd (false≢true agrees)
 same (reply.TooHeavy a b c d) (reply.TooHeavy g h i j) agrees = grind (arith, nat_tests)
-same (reply.TooHeavy a b c d) other agrees = cc
+same (reply.TooHeavy a b c d) other agrees = absurd (false≢true agrees)
 same (reply.WaitHeld a b c d e) (reply.WaitHeld g h i j k) agrees = grind (arith, nat_tests)
-same (reply.WaitHeld a b c d e) other agrees = cc
+same (reply.WaitHeld a b c d e) other agrees = absurd (false≢true agrees)
 same (reply.WaitShare a b c d e f) (reply.WaitShare g h i j k l) agrees = grind (arith, nat_tests)
-same (reply.WaitShare a b c d e f) other agrees = cc
+same (reply.WaitShare a b c d e f) other agrees = absurd (false≢true agrees)
 same (reply.WaitLent a b c d e) (reply.WaitLent g h i j k) agrees = grind (arith, nat_tests)
-same (reply.WaitLent a b c d e) other agrees = cc
+same (reply.WaitLent a b c d e) other agrees = absurd (false≢true agrees)
 same (reply.WaitOrder a b c d) (reply.WaitOrder g h i j) agrees = grind (arith, nat_tests)
-same (reply.WaitOrder a b c d) other agrees = cc
+same (reply.WaitOrder a b c d) other agrees = absurd (false≢true agrees)
 same (reply.WaitStale a b c d) (reply.WaitStale g h i j) agrees = grind (arith, nat_tests)
-same (reply.WaitStale a b c d) other agrees = cc
+same (reply.WaitStale a b c d) other agrees = absurd (false≢true agrees)
 same (reply.NotHeld a b c) (reply.NotHeld g h i) agrees = grind (arith, nat_tests)
-same (reply.NotHeld a b c) other agrees = cc
+same (reply.NotHeld a b c) other agrees = absurd (false≢true agrees)
 same (reply.Value a b) (reply.Value c d) agrees =
     let parts = and_parts _ _ agrees in
     ap₂ reply.Value ((Decides-int_eq a c).0 parts.0) ((slice_eq-Decides Decides-int_eq b d _ refl).0 parts.1)
-same (reply.Value a b) other agrees = cc
+same (reply.Value a b) other agrees = absurd (false≢true agrees)
 
 itself : (one : Reply) → eq-value.it one one ≡ true
 itself (reply.Done a b) = grind (arith, nat_tests)
