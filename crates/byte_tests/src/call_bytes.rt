@@ -1,7 +1,10 @@
 //! Requests and replies in bytes.
 
 use crate::field_bytes::{ADD, LIGHT, changed};
-use run_model::{FieldFault, Reply, Request, Sums, get_reply, get_request, put_reply, put_request};
+use run_model::{
+    FieldFault, Reply, Request, ShortBytes, Sums, fill_reply, fill_request, get_reply, get_request,
+    put_reply, put_request,
+};
 use std::alloc::Global;
 use std::test::Fail;
 use tact_base::{Bytes, Need, Needs, Weights};
@@ -64,12 +67,14 @@ fn is_spelled(alloc: Global, request: &Request, bytes: &[u8]) -> Result<bool, Fa
     let read = get_request(16, bytes, &mut place).map_err(|_| "the bytes are a request")?;
     let mut out = Bytes::new(alloc);
     put_request(&read, &mut out)?;
+    let mut short = ShortBytes::new();
+    fill_request(&read, &mut short);
     for end in 0..bytes.len() {
         if request_of(&bytes[..end]) != (Err(FieldFault::Short), 0) {
             return Ok(false);
         }
     }
-    Ok(read == *request && place == bytes.len() && out.items() == bytes)
+    Ok(read == *request && place == bytes.len() && out.items() == bytes && short.bytes() == bytes)
 }
 
 // Whether these bytes are those of the reply, both ways, and each part of them is too short.
@@ -78,12 +83,14 @@ fn is_reply_spelled(alloc: Global, reply: &Reply, bytes: &[u8]) -> Result<bool, 
     let read = get_reply(bytes, &mut place).map_err(|_| "the bytes are a reply")?;
     let mut out = Bytes::new(alloc);
     put_reply(&read, &mut out)?;
+    let mut short = ShortBytes::new();
+    fill_reply(&read, &mut short);
     for end in 0..bytes.len() {
         if reply_of(&bytes[..end]) != (Err(FieldFault::Short), 0) {
             return Ok(false);
         }
     }
-    Ok(read == *reply && place == bytes.len() && out.items() == bytes)
+    Ok(read == *reply && place == bytes.len() && out.items() == bytes && short.bytes() == bytes)
 }
 
 #[test]

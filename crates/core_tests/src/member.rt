@@ -57,7 +57,7 @@ impl Member {
         Member::new(rt, alloc, &config, number)
     }
 
-    /// A client asks.
+    /// A client asks, and is answered as the replica told before, unless it is refused.
     pub(crate) fn ask(
         &mut self,
         rt: &impl Abort,
@@ -67,7 +67,16 @@ impl Member {
     ) -> Result<Result<Reply, CoreFault>, Fail> {
         assert!(rt; client < CLIENTS);
         let request = request(ask)?;
-        Ok(self.replica.call(u64::from(moment), client, &request))
+        let moment = u64::from(moment);
+        if self.replica.may_enter().is_err() {
+            return Ok(self.replica.call(moment, client, &request));
+        }
+        let told = self.replica.reply(moment, &request);
+        let answer = self.replica.call(moment, client, &request);
+        if let Ok(given) = &answer {
+            assert!(rt; *given == told);
+        }
+        Ok(answer)
     }
 
     /// What it sends to another, where the first of each origin's writes is given.
