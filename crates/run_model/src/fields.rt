@@ -205,13 +205,3 @@ pub fn append_numbers(numbers: &[u64], out: &mut Bytes) -> Result<(), NoMemory>
     }
     Ok(())
 }
-
-/// Appends a signed number in eight bytes, as two's complement. After `NoMemory` the bytes begin with what they
-/// were.
-#[tactic(auto, unfolding(crate::specs::Bytes::signed_bytes))]
-pub fn append_signed(number: i64, out: &mut Bytes) -> Result<(), NoMemory>
-    ensures ok { OnOk result (out.new ≡ out.old ++ signed_bytes number) }
-    ensures err { OnErr result (BeginsWith out.old out.new) }
-{
-    append_number(number.cast_unsigned(), out)
-}
