@@ -26,8 +26,8 @@ pub use cause::Cause;
 pub use config::{Config, is_passed_by};
 pub use entry::{Act, Entry, Message};
 pub use fields::{
-    FieldFault, any_number_at, any_signed_at, append_byte, append_number, append_numbers,
-    byte_at, number_at, numbers_at, other_at, signed_at,
+    FieldFault, any_number_at, any_signed_at, append_byte, append_number, append_numbers, byte_at,
+    number_at, numbers_at, other_at, signed_at,
 };
 pub use get_bytes::{get_op, get_weights, op_at, weights_at};
 pub use get_call_bytes::{get_reply, get_request, reply_at, request_at};
