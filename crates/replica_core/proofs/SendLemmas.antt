@@ -138,8 +138,9 @@ module _ (part : List Entry) (core : Core) (stands : Stands part core) (good : I
   abbrev entry : Entry
   entry = entry_of core.replica part handed (act.Send message)
 
-  due : IsDue core.setup part entry
-  due =
+  -- the entry of it is due
+  pub sent_is_due : IsDue core.setup part entry
+  sent_is_due =
       let at = moment_at part handed in
       let whole = message_of core.setup core.replica part at to given in
       let room : length part < HISTORY_MAX = omega (arith, stands.counts.count, (not_full core free).0) in
@@ -157,7 +158,7 @@ module _ (part : List Entry) (core : Core) (stands : Stands part core) (good : I
       let more : sent_in (part ++ entry ∷ []) ≡ sent_in part ++ message ∷ [] = sent_in-push_some part entry message refl in
       let few : length (sent_in part) ≤ length part = length-filter_map sent_by part in
       let room = not_full core free in
-      Stands-quiet part core stands free places handed handed_in sends (with_sent core).counts due tt
+      Stands-quiet part core stands free places handed handed_in sends (with_sent core).counts sent_is_due tt
       (record { accepts = λ replica moment. refl; takes = refl; grants = λ conit. refl; uses = λ conit. refl; lends = λ peer conit. refl; gives = λ peer conit. refl })
       places.calls_sized
       (record {

@@ -1,6 +1,7 @@
 //! The state of a replica, and what can be read of it.
 ghost use Rattle.std.specs.Prelude.{◌≡◌, ◌↔◌, ℕ, ◌*◌, ◌<◌, ◌≤◌, List, [], suc, length, map, drop, replicate, slice_index, IfOk, OnOk, OnErr, IsOk, IfErr, IsTrue, true, false, max};
-ghost use Rattle.tact_base.specs.declared.limits.TheConstants.{CLIENTS, HISTORY_MAX, MOMENT_MAX, REPLICAS_MAX};
+ghost use Rattle.tact_base.specs.Covers.{no_cover};
+ghost use Rattle.tact_base.specs.declared.limits.TheConstants.{CLIENTS, HISTORY_MAX, MOMENT_MAX, REPLICAS_MAX, REPLICAS_MIN};
 ghost use Rattle.tact_base.specs.WriteOrder.{committed_to, tentative_past};
 ghost use Rattle.replica_core.specs.States.{IsKept, log_at, known_at, cover_at, entered, closed, is_full};
 ghost use Rattle.replica_core.specs.Stands.{Stands, GoesOn, IsSameReplica};
@@ -99,17 +100,22 @@ impl Replica {
         ensures stands { IfOk result (λ made. Stands [] made.core) }
     {
         let replicas = config.replicas();
+        let own = config.copy(alloc)?;
+        let logs = Logs::new(alloc, replicas)?;
+        let (vector, known) = nothing_known(alloc, replicas)?;
+        let (seen, calls) = nothing_done(alloc, config.conits())?;
+        let budgets = opening_budgets(alloc, config, replica)?;
         Ok(Replica {
             alloc,
-            config: config.copy(alloc)?,
+            config: own,
             replica,
-            logs: Logs::new(alloc, replicas)?,
-            vector: Vector::new(alloc, replicas)?,
-            known: vec![in alloc; 0; (replicas * replicas) as usize]?,
-            seen: Seen::new(alloc, config.conits())?,
+            logs,
+            vector,
+            known,
+            seen,
             clock: 0,
-            budgets: opening_budgets(alloc, config, replica)?,
-            calls: vec![in alloc; 0; CLIENTS as usize]?,
+            budgets,
+            calls,
             sends: 0,
             count: 0,
             last: 0,
@@ -365,6 +371,28 @@ impl Replica {
         self.vector.raise(self.replica, own);
         self.seen.commit_to(self.vector.least_stamp().1);
     }
+}
+
+// Among so many replicas, covers that tell nothing, and by peer and origin that no write is known.
+fn nothing_known(alloc: Global, replicas: u32) -> Result<(Vector, Vec<u64>), NoMemory>
+    requires some { REPLICAS_MIN ≤ replicas }
+    requires few { replicas ≤ REPLICAS_MAX }
+    ensures covers { IfOk result (λ made. made.0 ≡ replicate replicas no_cover) }
+    ensures known { IfOk result (λ made. made.1.items ≡ replicate (replicas * replicas) 0) }
+{
+    let vector = Vector::new(alloc, replicas)?;
+    let known = vec![in alloc; 0; (replicas * replicas) as usize]?;
+    Ok((vector, known))
+}
+
+// No writes on so many conits, and no call of any client.
+fn nothing_done(alloc: Global, conits: u32) -> Result<(Seen, Vec<u64>), NoMemory>
+    ensures seen { IfOk result (λ made. made.0 ≡ record { conits = conits; writes = []; dropped = 0; point = 0; room = 0 }) }
+    ensures calls { IfOk result (λ made. made.1.items ≡ replicate CLIENTS 0) }
+{
+    let seen = Seen::new(alloc, conits)?;
+    let calls = vec![in alloc; 0; CLIENTS as usize]?;
+    Ok((seen, calls))
 }
 
 // The budgets of a replica of a setup at the opening.

@@ -61,11 +61,13 @@ impl Seen {
     pub(crate) fn new(alloc: Global, conits: u32) -> Result<Seen, NoMemory>
         ensures { IfOk result (λ made. made ≡ record { conits = conits; writes = []; dropped = 0; point = 0; room = 0 }) }
     {
+        let sums = Running::new(alloc, conits)?;
+        let settled = Totals::new(alloc, conits)?;
         Ok(Seen {
             ordered: Ordered::new(alloc),
             image: Image::new(alloc),
-            sums: Running::new(alloc, conits)?,
-            settled: Totals::new(alloc, conits)?,
+            sums,
+            settled,
             last_dropped: None,
             room: 0,
         })

@@ -40,10 +40,28 @@ impl Replica {
         ensures err { OnErr result (self.new ≡ self.old) }
     {
         self.may_enter()?;
-        let message = self.next_message(moment.max(self.last), to, firsts.items())?;
+        let message = self.message(moment, to, firsts)?;
+        self.enter_sending(moment, to, firsts, &message);
+        Ok(message)
+    }
+
+    /// Goes on by the sending of a message that is the one `message` gives now. Who has to keep the entry before the
+    /// replica makes it, in a journal say, sends so, and nothing is left to fail. The replica may not be full. Takes no
+    /// memory.
+    pub fn enter_sending(&mut self, moment: u64, to: u32, firsts: &Numbers, message: &Message)
+        requires free { is_full self.old.core ≡ false }
+        requires moment { moment ≤ MOMENT_MAX }
+        requires to { to < self.old.core.setup.replicas }
+        requires other { to ≢ self.old.core.replica }
+        requires firsts { length firsts.now ≡ self.old.core.setup.replicas }
+        requires due { (part : List Entry) → Stands part self.old.core
+            → message.now ≡ message_of self.old.core.setup self.old.core.replica part (moment_at part moment) to firsts.now }
+        ensures goes_on { GoesOn self.old.core self.new.core moment (λ part. act.Send message.now) }
+        ensures same { IsSameReplica self.old.core self.new.core }
+        ensures spare { self.new.spare ≡ self.old.spare }
+    {
         self.sends = self.sends.saturating_add(1);
         self.enter(moment);
-        Ok(message)
     }
 
     // The message that is sent at this moment, where these firsts are given.

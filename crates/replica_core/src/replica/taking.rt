@@ -1,6 +1,6 @@
 //! A message that a replica takes.
 ghost use Rattle.std.specs.Prelude.{◌≡◌, ◌≢◌, ◌==◌, ◌+◌, ◌-◌, ◌*◌, ◌<◌, ◌≤◌, max, true, false, ℕ, List, ◌++◌, All, map};
-ghost use Rattle.std.specs.Prelude.{take, drop, length, slice_get, slice_index, slice_index_or, slice_set, OnOk, OnErr};
+ghost use Rattle.std.specs.Prelude.{take, drop, length, slice_get, slice_index, slice_index_or, slice_set, IsOk, OnOk, OnErr};
 ghost use Rattle.std.specs.Prelude.{IfErr, IfSome, if◌then◌else◌};
 ghost use Rattle.std.specs.List.{flat_map, range_with_len};
 ghost use Rattle.std.specs.List.Sorted.{IsStrictlySortedBy};
@@ -38,8 +38,8 @@ impl Replica {
     /// that the replica shows or sends; their memory is given back later. The moment of the entry is the greater of
     /// the handed one and that of the last entry.
     ///
-    /// `Full` comes exactly where 20,000 entries were made or the clock stands at 2^40. Both faults leave the
-    /// replica as it was.
+    /// `Full` comes exactly where 20,000 entries were made or the clock stands at 2^40. `NoMemory` doesn't come where
+    /// there is room for as many told writes (`reserve_told`). Both leave the replica as it was.
     pub fn take(&mut self, moment: u64, message: &Message) -> Result<(), CoreFault>
         requires moment { moment ≤ MOMENT_MAX }
         requires fits { FitsAt self.old.core message.now }
@@ -48,10 +48,11 @@ impl Replica {
         ensures spare { self.new.spare ≡ self.old.spare }
         ensures not_full { OnOk result (is_full self.old.core ≡ false) }
         ensures fault { IfErr result (IsFaultOf self.old.core) }
+        ensures enough { length message.now.writes ≤ self.old.beside → is_full self.old.core ≡ false → IsOk result }
         ensures err { OnErr result (self.new ≡ self.old) }
     {
         self.may_enter()?;
-        self.make_room(message.writes.len() as u64)?;
+        self.reserve_told(message.writes.len() as u64)?;
         self.add_told(message);
         learn_haves(&mut self.known, &self.config, message);
         note_told(&mut self.budgets, self.config.conits(), message);
@@ -65,6 +66,22 @@ impl Replica {
         );
         self.enter(moment);
         self.trim();
+        Ok(())
+    }
+
+    /// Makes room for so many told writes of each other origin, beside that for own writes, without memory where there
+    /// is so much. It lasts until so many were taken. `NoMemory` leaves everything as it was.
+    pub fn reserve_told(&mut self, count: u64) -> Result<(), NoMemory>
+        ensures core { self.new.core ≡ self.old.core }
+        ensures spare { self.new.spare ≡ self.old.spare }
+        ensures room { OnOk result (count ≤ self.new.beside) }
+        ensures kept { self.old.beside ≤ self.new.beside }
+        ensures enough { count ≤ self.old.beside → IsOk result }
+        ensures err { OnErr result (self.new ≡ self.old) }
+    {
+        if count > self.beside {
+            self.make_room(count)?;
+        }
         Ok(())
     }
 }

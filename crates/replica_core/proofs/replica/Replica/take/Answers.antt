@@ -114,7 +114,7 @@ returns-clause-goes_on c part stands =
     let seen_is = ap (λ (k : Core). k.writes.seen) is_told in
     let mid : view ≡ logged inside.logs.logs inside.seen.writes =
     is_told ∙ c.add_told.ensures.core
-    ∙ ap (λ (k : Core). let t : Core = record k { writes = record k.writes { logs = told.writes.logs; seen = told.writes.seen } } in t) c.in_ok-make_room.ensures.core
+    ∙ ap (λ (k : Core). let t : Core = record k { writes = record k.writes { logs = told.writes.logs; seen = told.writes.seen } } in t) c.in_ok-reserve_told.ensures.core
     ∙ ap₂ logged (sym logs_are) (sym seen_is) in
     let budgets = with_room c.note_told.new.budgets 0 in
     let closed : Core → Core = λ k. let t : Core =
@@ -132,8 +132,8 @@ returns-clause-goes_on c part stands =
     let replicas_are : inside.config.replicas ≡ old.setup.replicas = ap (λ (k : Core). k.setup.replicas) mid in
     let log_is : (origin : ℕ) → origin < old.setup.replicas → get_or inside.logs.logs origin [] ≡ log_told old message origin = λ origin within.
     ap (λ (ls : List (List Write)). get_or ls origin []) logs_are
-    ∙ c.add_told.ensures.logs origin (omega (arith, within, ap (λ (k : Core). k.setup.replicas) c.in_ok-make_room.ensures.core))
-    ∙ ap (λ (k : Core). log_told k message origin) c.in_ok-make_room.ensures.core in
+    ∙ c.add_told.ensures.logs origin (omega (arith, within, ap (λ (k : Core). k.setup.replicas) c.in_ok-reserve_told.ensures.core))
+    ∙ ap (λ (k : Core). log_told k message origin) c.in_ok-reserve_told.ensures.core in
     let cover_is : (origin : ℕ) → origin < old.setup.replicas
     → get_or c.raise_covers.new.vector origin no_cover
     ≡ cond (origin == old.replica) (cover_at old origin) (cover_after (length (get_or inside.logs.logs origin [])) (cover_at old origin) (told_cover message origin)) = λ origin within.
