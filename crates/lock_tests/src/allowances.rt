@@ -14,7 +14,7 @@ use std::process::Abort;
 use std::sync::Wait;
 use std::test::Fail;
 use tact_base::{Op, Weight};
-use tact_io::FreeGate;
+use tact_io::{FreeGate, SureJournal};
 
 // A desk for two replicas on two conits, its setup, and the clerk of the first.
 #[derive(Drop)]
@@ -48,7 +48,7 @@ fn open_wide(alloc: Global) -> Result<Wide, Fail>
 // Reserves an amount on conit 0, which is granted.
 fn reserve<R: Wait + Abort>(
     rt: &R,
-    node: &Node<'_, FreeGate>,
+    node: &Node<'_, SureJournal, FreeGate>,
     session: &mut Session,
     amount: u64,
 ) -> Allowance
@@ -67,7 +67,7 @@ fn reserve<R: Wait + Abort>(
 }
 
 // Splits 2 off, and joins them again.
-fn split_and_join<R: Wait + Abort>(rt: &R, node: &Node<'_, FreeGate>, allowance: &mut Allowance)
+fn split_and_join<R: Wait + Abort>(rt: &R, node: &Node<'_, SureJournal, FreeGate>, allowance: &mut Allowance)
     requires allowance { IsAllowanceOf node.now allowance.old }
     requires amount { 2 ≤ allowance.old.amount }
     ensures kept { allowance.new ≡ allowance.old }
@@ -82,7 +82,7 @@ fn split_and_join<R: Wait + Abort>(rt: &R, node: &Node<'_, FreeGate>, allowance:
 // Spends 4 of an allowance on conit 0, and gives back the rest.
 fn spend_and_release<R: Wait + Abort>(
     rt: &R,
-    node: &Node<'_, FreeGate>,
+    node: &Node<'_, SureJournal, FreeGate>,
     session: &mut Session,
     allowance: &mut Allowance,
 ) -> (Accepted, u64, u64)
@@ -114,7 +114,7 @@ fn spend_and_release<R: Wait + Abort>(
 // An allowance on conit 0 takes none that is on conit 1.
 fn join_across<R: Wait + Abort>(
     rt: &R,
-    node: &Node<'_, FreeGate>,
+    node: &Node<'_, SureJournal, FreeGate>,
     session: &mut Session,
     allowance: &mut Allowance,
 )
@@ -137,7 +137,7 @@ fn an_allowance_is_spent(rt: HostRuntime) -> Result<(), Fail> {
         config,
         clerk,
     } = open_wide(rt.alloc())?;
-    let Ok((node, mut roster)) = Node::new(rt.alloc(), &desk, &config, clerk, FreeGate::new())
+    let Ok((node, mut roster)) = Node::new(rt.alloc(), &desk, &config, clerk, SureJournal::new(rt.alloc()), FreeGate::new())
     else {
         panic!(rt; "no memory")
     };

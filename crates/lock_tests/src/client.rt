@@ -14,7 +14,7 @@ use run_model::{Message, Reply, Request};
 use std::process::Abort;
 use std::sync::Wait;
 use tact_base::{Op, Weight};
-use tact_io::FreeGate;
+use tact_io::{FreeGate, SureJournal};
 
 /// The weight of a held write.
 pub const HELD: Weight = Weight {
@@ -26,7 +26,7 @@ pub const HELD: Weight = Weight {
 /// A client of a node. Each of its calls panics where it is refused.
 #[derive(Drop)]
 pub struct Client<'n, 'd> {
-    pub node: &'n Node<'d, FreeGate>,
+    pub node: &'n Node<'d, SureJournal, FreeGate>,
     pub session: Session,
     ghost of: { IsSessionOf node.now session },
 }
@@ -35,7 +35,7 @@ impl<'n, 'd> Client<'n, 'd> {
     /// A client that has no session yet.
     pub fn new(
         rt: &impl Abort,
-        node: &'n Node<'d, FreeGate>,
+        node: &'n Node<'d, SureJournal, FreeGate>,
         roster: &mut Roster,
         client: u32,
     ) -> Client<'n, 'd>

@@ -22,7 +22,7 @@ use std::test::Fail;
 use std::thread;
 use std::thread::Threads;
 use tact_base::{Need, Needs, Op, Weight, Weights};
-use tact_io::FreeGate;
+use tact_io::{FreeGate, SureJournal};
 
 const CLIENTS: u32 = 8;
 
@@ -145,7 +145,7 @@ fn work_all<R: Threads + Wait + Abort + Sync>(
 fn seat_eight<'n, 'd>(
     rt: &impl Abort,
     desk: &Desk,
-    node: &'n Node<'d, FreeGate>,
+    node: &'n Node<'d, SureJournal, FreeGate>,
     roster: &mut Roster,
     clients: &mut Vec<Client<'n, 'd>>,
 )

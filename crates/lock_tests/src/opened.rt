@@ -13,7 +13,7 @@ use std::alloc::{AllocError, Global};
 use std::process::Abort;
 use std::test::Fail;
 use tact_base::{Needs, Op, Weights};
-use tact_io::FreeGate;
+use tact_io::{FreeGate, SureJournal};
 
 /// A desk for two replicas, its setup, and the clerks of both.
 #[derive(Drop)]
@@ -87,14 +87,14 @@ pub fn node_of<'d>(
     desk: &'d Desk,
     config: &Config,
     clerk: Clerk,
-) -> (Node<'d, FreeGate>, Roster)
+) -> (Node<'d, SureJournal, FreeGate>, Roster)
     requires setup { desk.now.setup ≡ config.now }
     requires clerk { clerk.table ≡ desk.now.table }
     requires drawn { clerk.pairs ≡ [] }
     ensures node { (result.0.desk ≡ desk.now) × (result.0.replica ≡ clerk.replica) }
     ensures roster { IsRosterOf result.0 result.1 }
 {
-    match Node::new(alloc, desk, config, clerk, FreeGate::new()) {
+    match Node::new(alloc, desk, config, clerk, SureJournal::new(alloc), FreeGate::new()) {
         Ok(made) => made,
         Err(_) => panic!(rt; "no memory"),
     }

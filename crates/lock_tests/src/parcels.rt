@@ -106,7 +106,7 @@ fn exchange<R: Wait + Abort>(
 }
 
 // Marks the entries of a node at their ticks: calls, sendings and takings.
-fn mark(rt: &impl Abort, ended: &Ended, marks: &mut [u8; 15]) {
+fn mark(rt: &impl Abort, ended: &Ended<SureJournal>, marks: &mut [u8; 15]) {
     for (tick, entry) in ended.stored.pairs() {
         let tick = *tick as usize;
         assert!(rt; tick < 15, "no entry at {tick}");

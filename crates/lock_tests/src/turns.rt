@@ -10,10 +10,10 @@ use run_model::Reply;
 use std::process::Abort;
 use std::sync::Wait;
 use std::test::Fail;
-use tact_io::FreeGate;
+use tact_io::{FreeGate, SureJournal};
 
 // Reads key 7.
-fn read<R: Wait + Abort>(rt: &R, node: &Node<'_, FreeGate>, session: &mut Session) -> i64
+fn read<R: Wait + Abort>(rt: &R, node: &Node<'_, SureJournal, FreeGate>, session: &mut Session) -> i64
     requires { IsSessionOf node.now session.old }
     ensures { IsSessionOf node.now session.new }
 {
@@ -24,7 +24,7 @@ fn read<R: Wait + Abort>(rt: &R, node: &Node<'_, FreeGate>, session: &mut Sessio
 }
 
 // Makes room and writes in one turn, and gives the index of the write.
-fn write_in_turn<R: Wait + Abort>(rt: &R, node: &Node<'_, FreeGate>, session: &mut Session) -> u64
+fn write_in_turn<R: Wait + Abort>(rt: &R, node: &Node<'_, SureJournal, FreeGate>, session: &mut Session) -> u64
     requires { IsSessionOf node.now session.old }
     ensures { IsSessionOf node.now session.new }
 {
@@ -40,7 +40,7 @@ fn write_in_turn<R: Wait + Abort>(rt: &R, node: &Node<'_, FreeGate>, session: &m
 }
 
 // Client 0 has a session.
-fn is_taken(rt: &impl Abort, node: &Node<'_, FreeGate>, roster: &mut Roster)
+fn is_taken(rt: &impl Abort, node: &Node<'_, SureJournal, FreeGate>, roster: &mut Roster)
     requires { IsRosterOf node.now roster.old }
     ensures { IsRosterOf node.now roster.new }
 {
@@ -58,7 +58,7 @@ fn a_note_and_a_turn(rt: HostRuntime) -> Result<(), Fail> {
         first,
         second: _,
     } = open_two(rt.alloc())?;
-    let Ok((node, mut roster)) = Node::new(rt.alloc(), &desk, &config, first, FreeGate::new())
+    let Ok((node, mut roster)) = Node::new(rt.alloc(), &desk, &config, first, SureJournal::new(rt.alloc()), FreeGate::new())
     else {
         panic!(rt; "no memory")
     };

@@ -16,7 +16,7 @@ use std::process::Abort;
 use std::sync::Wait;
 use std::test::Fail;
 use std::thread;
-use tact_io::FreeGate;
+use tact_io::{FreeGate, SureJournal};
 
 const SAID: &[u8] = b"run 8 calls 4 writes 2 waits 0 sends 2 takes 2 lends 0 backs 0 restarts 0\n";
 
@@ -37,7 +37,7 @@ fn wait<R: Wait>(rt: &R, inbox: &Postbox) -> Parcel
 fn visit<R: Wait + Abort>(
     rt: &R,
     desk: &Desk,
-    node: &Node<'_, FreeGate>,
+    node: &Node<'_, SureJournal, FreeGate>,
     mut session: Session,
     here: &Postbox,
     there: &Postbox,

@@ -11,14 +11,14 @@ use std::process::Abort;
 use std::sync::Wait;
 use std::test::Fail;
 use std::thread;
-use tact_io::FreeGate;
+use tact_io::{FreeGate, SureJournal};
 
 const WRITES: usize = 100;
 
 // Writes many times, and gives the index of each write.
 fn write_often<R: Wait + Abort>(
     rt: &R,
-    node: &Node<'_, FreeGate>,
+    node: &Node<'_, SureJournal, FreeGate>,
     mut session: Session,
 ) -> [u64; WRITES]
     requires { IsSessionOf node.now session }
@@ -31,7 +31,7 @@ fn write_often<R: Wait + Abort>(
 }
 
 /// Writes, and gives the index of the write.
-pub fn write<R: Wait + Abort>(rt: &R, node: &Node<'_, FreeGate>, session: &mut Session) -> u64
+pub fn write<R: Wait + Abort>(rt: &R, node: &Node<'_, SureJournal, FreeGate>, session: &mut Session) -> u64
     requires { IsSessionOf node.now session.old }
     ensures { IsSessionOf node.now session.new }
 {
@@ -44,7 +44,7 @@ pub fn write<R: Wait + Abort>(rt: &R, node: &Node<'_, FreeGate>, session: &mut S
 /// A session of a client that has none.
 pub fn session(
     rt: &impl Abort,
-    node: &Node<'_, FreeGate>,
+    node: &Node<'_, SureJournal, FreeGate>,
     roster: &mut Roster,
     client: u32,
 ) -> Session
@@ -74,7 +74,7 @@ fn two_threads_write_at_a_node(rt: HostRuntime) -> Result<(), Fail> {
         first,
         second: _,
     } = open_two(rt.alloc())?;
-    let Ok((node, mut roster)) = Node::new(rt.alloc(), &desk, &config, first, FreeGate::new())
+    let Ok((node, mut roster)) = Node::new(rt.alloc(), &desk, &config, first, SureJournal::new(rt.alloc()), FreeGate::new())
     else {
         panic!(rt; "no memory")
     };

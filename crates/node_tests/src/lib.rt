@@ -1,6 +1,8 @@
-//! Tests of nodes: where one ends, when one is full, and what clients in threads spend there.
+//! Tests of nodes: where one ends, when one is full, what clients in threads spend there, and where its journal fails.
 #![tactic(auto)]
 
+#[cfg(test)]
+mod journals;
 #[cfg(test)]
 mod limits;
 #[cfg(test)]

@@ -10,11 +10,11 @@ use run_model::{Config, Reply};
 use std::alloc::Global;
 use std::process::Abort;
 use std::sync::Wait;
-use tact_io::FreeGate;
+use tact_io::{FreeGate, SureJournal};
 
 /// A node whose only client is client 0, with that client's session. It is to be finished.
 pub struct LoneClient<'d> {
-    pub node: Node<'d, FreeGate>,
+    pub node: Node<'d, SureJournal, FreeGate>,
     roster: Roster,
     session: Session,
     ghost roster_of: { IsRosterOf node roster },
@@ -107,7 +107,7 @@ impl<'d> LoneClient<'d> {
     }
 
     /// Finishes the node with its session.
-    pub fn finish<R: Wait + Abort>(self, rt: &R, alloc: Global) -> Ended
+    pub fn finish<R: Wait + Abort>(self, rt: &R, alloc: Global) -> Ended<SureJournal>
         ensures desk { result.clerk.table ≡ self.entry.node.desk.table }
         ensures replica { result.clerk.replica ≡ self.entry.node.replica }
     {

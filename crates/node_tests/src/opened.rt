@@ -15,7 +15,7 @@ use std::alloc::{AllocError, Global};
 use std::process::Abort;
 use std::test::Fail;
 use tact_base::{Needs, Op, Weight, Weights};
-use tact_io::FreeGate;
+use tact_io::{FreeGate, SureJournal};
 
 /// A desk for two replicas, its setup, and the clerks of both.
 #[derive(Drop)]
@@ -53,7 +53,7 @@ pub fn node_of<'d>(
     desk: &'d Desk,
     config: &Config,
     clerk: Clerk,
-) -> (Node<'d, FreeGate>, Roster)
+) -> (Node<'d, SureJournal, FreeGate>, Roster)
     requires setup { desk.now.setup ≡ config.now }
     requires clerk { clerk.table ≡ desk.now.table }
     requires drawn { clerk.pairs ≡ [] }
@@ -61,7 +61,14 @@ pub fn node_of<'d>(
     ensures roster { IsRosterOf result.0 result.1 }
     ensures clients { result.1.clients ≡ [] }
 {
-    match Node::new(alloc, desk, config, clerk, FreeGate::new()) {
+    match Node::new(
+        alloc,
+        desk,
+        config,
+        clerk,
+        SureJournal::new(alloc),
+        FreeGate::new(),
+    ) {
         Ok(made) => made,
         Err(_) => panic!(rt; "no memory"),
     }
@@ -70,7 +77,7 @@ pub fn node_of<'d>(
 /// A session of a client that has none.
 pub fn session(
     rt: &impl Abort,
-    node: &Node<'_, FreeGate>,
+    node: &Node<'_, SureJournal, FreeGate>,
     roster: &mut Roster,
     client: u32,
 ) -> Session

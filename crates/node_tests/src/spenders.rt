@@ -13,7 +13,7 @@ use std::sync::Wait;
 use std::test::Fail;
 use std::thread;
 use tact_base::Weight;
-use tact_io::FreeGate;
+use tact_io::{FreeGate, SureJournal};
 
 const FIVE: Weight = Weight {
     conit: 0,
@@ -24,7 +24,7 @@ const FIVE: Weight = Weight {
 // A client of a node that has a conit.
 #[derive(Drop)]
 struct Spender<'n, 'd> {
-    node: &'n Node<'d, FreeGate>,
+    node: &'n Node<'d, SureJournal, FreeGate>,
     session: Session,
     ghost of: { IsSessionOf node.now session },
     ghost conits: { 0 < node.now.desk.setup.conits },
@@ -34,7 +34,7 @@ impl<'n, 'd> Spender<'n, 'd> {
     // A client that has no session yet.
     fn new(
         rt: &impl Abort,
-        node: &'n Node<'d, FreeGate>,
+        node: &'n Node<'d, SureJournal, FreeGate>,
         roster: &mut Roster,
         client: u32,
     ) -> Spender<'n, 'd>
@@ -89,7 +89,7 @@ fn spent<'n, 'd, R: Wait + Abort>(rt: &R, mut spender: Spender<'n, 'd>) -> (u64,
 }
 
 // Client 0 has a session.
-fn is_taken(rt: &impl Abort, node: &Node<'_, FreeGate>, roster: &mut Roster)
+fn is_taken(rt: &impl Abort, node: &Node<'_, SureJournal, FreeGate>, roster: &mut Roster)
     requires { IsRosterOf node.now roster.old }
     ensures { IsRosterOf node.now roster.new }
 {

@@ -13,3 +13,4 @@ mod Told
 mod Calling
 mod Steps
 mod LoanActs
+mod Journaling

@@ -1,5 +1,5 @@
 -- What stays true behind the lock when an entry is made that is no call.
-use Rattle.std.proofs.Common.{◌≡◌, ℕ, ◌+◌, ◌*◌, ◌<◌, ◌^◌, false, cond, List, [], ◌∷◌, ◌++◌, Contains, OnOk, Result, drop, length, get_or, replicate, sum, refl, sym, ap, ◌∙◌, subst, arith}
+use Rattle.std.proofs.Common.{◌≡◌, ◌≢◌, ℕ, ◌+◌, ◌*◌, ◌<◌, ◌^◌, max, false, cond, List, [], ◌∷◌, ◌++◌, Contains, OnOk, Result, drop, length, get_or, replicate, sum, refl, sym, ap, ◌∙◌, subst, arith}
 use Rattle.std.proofs.lemmas.List.{length_push}
 use Rattle.std.proofs.lemmas.List.Elements.{Contains-push}
 use Rattle.std.proofs.lemmas.List.FromFn.{length-range_with_len}
@@ -22,6 +22,8 @@ use Rattle.run_model.proofs.PartLemmas.{calls_in-push, part_of-push_same, sent_i
 use Rattle.replica_core.specs.States.{Core, is_full}
 use Rattle.replica_core.specs.Stands.{Stands, GoesOn, IsSameReplica}
 use Rattle.replica_core.specs.Taking.{FitsAt}
+use Rattle.replica_core.specs.Sending.{next_message}
+use Rattle.replica_core.proofs.SendLemmas.{next_due}
 use Rattle.replica_core.proofs.SentMessages.{sent_message_fits_core}
 use Rattle.replica_lock.specs.Locks.{HasDrawn, HasEntered, IsLocked, LockedView, entry_in, made_place, part_in, turns_place}
 use Rattle.replica_lock.specs.Parcels.{HasSending, message_to}
@@ -143,6 +145,23 @@ pub message-firsts : (locked : LockedView) (firsts : List ℕ) (moment to : ℕ)
     → message ≡ message_to locked.core.setup locked.core.replica (part_in locked) moment to
 message-firsts locked firsts moment to message none is =
     is ∙ ap (message_of locked.core.setup locked.core.replica (part_in locked) (moment_at (part_in locked) moment) to) (no_firsts locked.core.setup firsts none)
+
+-- of two parts for which a replica stands one message is due
+pub one_message : (one two : List Entry) (core : Core) (handed to : ℕ) (given : List ℕ)
+    → Stands one core
+    → Stands two core
+    → core.replica < core.setup.replicas
+    → to < core.setup.replicas
+    → to ≢ core.replica
+    → message_of core.setup core.replica one (moment_at one handed) to given ≡ message_of core.setup core.replica two (moment_at two handed) to given
+one_message one two core handed to given stands other among to_in apart = sym (told one stands) ∙ told two other
+  where
+    told : (part : List Entry)
+        → Stands part core
+        → next_message core (max handed core.counts.last) to given ≡ message_of core.setup core.replica part (moment_at part handed) to given
+    told part stands =
+        next_due part core stands among (max handed core.counts.last) to given to_in apart
+        ∙ ap (λ (m : ℕ). message_of core.setup core.replica part m to given) (ap (max handed) stands.counts.last)
 
 -- the same before the clerk learnt more, of an entry that was made
 pub OnOk-learnt : {X F : Type 0} (result : Result X F) (before learnt after : LockedView) (known : List Entry) (moment : ℕ) (done : Act)

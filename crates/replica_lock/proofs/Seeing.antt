@@ -18,7 +18,9 @@ use Rattle.run_model.proofs.PrefixLemmas.{EachAfter-last, IsPrefix-filter, IsPre
 use Rattle.run_promises.proofs.Kept.{IsKept-run}
 use Rattle.run_history.proofs.RunLemmas.{parts_are_short, run_is_short}
 use Rattle.replica_core.specs.States.{Core, is_full}
+use Rattle.entry_journal.specs.EntryJournals.{JournalView}
 use Rattle.replica_lock.specs.Faults.{IsNodeFaultOf}
+use Rattle.replica_lock.specs.Journals.{IsRefusal}
 use Rattle.replica_lock.specs.Locks.{HasEntered, IsLocked, LockedView, part_in}
 use Rattle.replica_lock.specs.Sessions.{SessionView, HasCalled, HasHeard, IsFaultSeen, call_after}
 use Rattle.replica_lock.specs.declared.fault.NodeFault.{NodeFault}
@@ -139,3 +141,19 @@ module _ (setup : Setup) (sound : IsSetup setup) where
         stamp_is ∙ kept.stands.writes.clock ∙ ap clock (sym part),
       )
   IsFaultSeen-of locked session fault.NoMemory kept replica seen run told = tt
+  IsFaultSeen-of locked session fault.Halted kept replica seen run told = tt
+  IsFaultSeen-of locked session fault.JournalFault kept replica seen run told = tt
+
+  -- so of a refusal of a turn, which says what a replica alone does, and what it leaves of the journal
+  pub IsFaultSeen-refused : (locked : LockedView) (session : SessionView) (had has : JournalView) (told : NodeFault)
+      → IsLocked locked
+      → session.replica ≡ locked.core.replica
+      → session.seen ≡ locked.clerk.seen
+      → IsRun setup session.seen
+      → IsRefusal locked.core had has told
+      → IsFaultSeen session told
+  IsFaultSeen-refused locked session had has (fault.Full count stamp) kept replica seen run told =
+      IsFaultSeen-of locked session (fault.Full count stamp) kept replica seen run (told.1, told.2, told.3)
+  IsFaultSeen-refused locked session had has fault.NoMemory kept replica seen run told = tt
+  IsFaultSeen-refused locked session had has fault.Halted kept replica seen run told = tt
+  IsFaultSeen-refused locked session had has fault.JournalFault kept replica seen run told = tt

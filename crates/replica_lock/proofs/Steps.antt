@@ -8,8 +8,9 @@ use Rattle.run_history.specs.Seats.{NoteView}
 use Rattle.run_history.specs.Ticks.{entries_of}
 use Rattle.weight_ledger.specs.Seen.{HeldView, TallyView}
 use Rattle.replica_core.specs.States.{Core}
-use Rattle.replica_lock.specs.Faults.{IsNodeFaultOf}
-use Rattle.replica_lock.specs.Loans.{IsLoanFaultOf, IsLoanFaultSeen, PassesMost}
+use Rattle.entry_journal.specs.EntryJournals.{JournalView}
+use Rattle.replica_lock.specs.Journals.{IsRefusal}
+use Rattle.replica_lock.specs.Loans.{IsLoanFaultSeen, IsLoanRefusal, PassesMost}
 use Rattle.replica_lock.specs.Locks.{HasEntered, IsLocked, LockedView, entry_in, part_in}
 use Rattle.replica_lock.specs.Parcels.{message_to}
 use Rattle.replica_lock.specs.Sessions.{HasHeard, HasMade, IsFaultSeen, NodeView, SessionView}
@@ -19,7 +20,7 @@ use Rattle.replica_lock.specs.declared.fault.NodeLoanFault.TheVariants as loan_f
 use Rattle.replica_lock.specs.declared.label.Label.{Label}
 use Rattle.replica_lock.specs.declared.loan.Loan.{Loan}
 use Rattle.replica_lock.proofs.Made.{HasMade-entered, HasMade-part}
-use Rattle.replica_lock.proofs.Seeing.{HasHeard-learnt, IsFaultSeen-of}
+use Rattle.replica_lock.proofs.Seeing.{HasHeard-learnt, IsFaultSeen-refused}
 use Rattle.replica_lock.proofs.Turning.{Agreed, Tells, tells}
 
 -- a session by what its tally and its note then are, where it is refused and where an entry was made for it
@@ -32,9 +33,9 @@ noted_made session tally note = record session { cell = tally.id; desk = note.ta
 -- What a refusal leaves of a session: it has heard what the clerk has seen, and the fault says so of it.
 pub record HasLeft (node : NodeView) (before : LockedView) (old new : SessionView) : Type 0 where
   pub heard : HasHeard node.desk.setup old new
-  pub fault : (told : NodeFault) → IsNodeFaultOf before.core told → IsFaultSeen new told
-  pub loan_fault : (asked : Loan) (told : NodeLoanFault)
-      → IsLoanFaultOf before.core (part_in before) asked told
+  pub fault : (had has : JournalView) (told : NodeFault) → IsRefusal before.core had has told → IsFaultSeen new told
+  pub loan_fault : (asked : Loan) (had has : JournalView) (told : NodeLoanFault)
+      → IsLoanRefusal before.core (part_in before) had has asked told
       → IsLoanFaultSeen node.desk.setup new asked told
 
 -- A refused step, which left the core and the stored entries as they were,
@@ -61,10 +62,10 @@ module _ {node node_as : NodeView} {held : HeldView Label} {before after : Locke
       (knows.calls ∙ sym (ap (λ pairs. calls_in (entries_of pairs) session.client) stored))
       knows.known (subst (IsPrefix session.seen) seen.1 learnt) (subst (IsRun node.desk.setup) seen.1 run) value
 
-  fault_seen : (told : NodeFault) → IsNodeFaultOf before.core told → IsFaultSeen (noted session now note) told
-  fault_seen told of =
-      IsFaultSeen-of node.desk.setup agrees.turn.keeps.sound after (noted session now note) told kept replica seen.1 run
-      (subst (λ (c : Core). IsNodeFaultOf c told) (sym core) of)
+  fault_seen : (had has : JournalView) (told : NodeFault) → IsRefusal before.core had has told → IsFaultSeen (noted session now note) told
+  fault_seen had has told of =
+      IsFaultSeen-refused node.desk.setup agrees.turn.keeps.sound after (noted session now note) had has told kept replica seen.1 run
+      (subst (λ (c : Core). IsRefusal c had has told) (sym core) of)
 
   passes : (asked : Loan) (told : NodeLoanFault)
       → PassesMost before.core.setup before.core.replica (part_in before) asked told
@@ -76,12 +77,12 @@ module _ {node node_as : NodeView} {held : HeldView Label} {before after : Locke
       (subst (λ r. PassesMost node.desk.setup r (part_in before) asked told) (sym knows.replica)
       (subst (λ s. PassesMost s before.core.replica (part_in before) asked told) (sym knows.setup) of))
 
-  loan_fault_seen : (asked : Loan) (told : NodeLoanFault)
-      → IsLoanFaultOf before.core (part_in before) asked told
+  loan_fault_seen : (asked : Loan) (had has : JournalView) (told : NodeLoanFault)
+      → IsLoanRefusal before.core (part_in before) had has asked told
       → IsLoanFaultSeen node.desk.setup (noted session now note) asked told
-  loan_fault_seen asked (loan_fault.Node told) of = fault_seen told of.0
-  loan_fault_seen asked (loan_fault.Home at most) of = passes asked (loan_fault.Home at most) of.1
-  loan_fault_seen asked (loan_fault.Free at most) of = passes asked (loan_fault.Free at most) of.1
+  loan_fault_seen asked had has (loan_fault.Node told) of = fault_seen had has told of.0
+  loan_fault_seen asked had has (loan_fault.Home at most) of = passes asked (loan_fault.Home at most) of.2
+  loan_fault_seen asked had has (loan_fault.Free at most) of = passes asked (loan_fault.Free at most) of.2
 
   pub left : HasLeft node before session (noted session now note)
   left = record { heard = heard; fault = fault_seen; loan_fault = loan_fault_seen }

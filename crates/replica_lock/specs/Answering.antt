@@ -12,7 +12,7 @@ use Rattle.run_model.specs.declared.call.Request.{Request}
 use Rattle.run_model.specs.declared.call.Request.TheVariants as request
 use Rattle.run_model.specs.declared.entry.Act.TheVariants as act
 use Rattle.replica_lock.specs.Allowances.{allowance_of}
-use Rattle.replica_lock.specs.Faults.{IsNodeFaultOf}
+use Rattle.replica_lock.specs.Journals.{IsRefusal}
 use Rattle.replica_lock.specs.Locks.{HasEntered, entry_in, made_place, one_more_at, part_in, turns_place}
 use Rattle.replica_lock.specs.Sessions.{HasCalled, HasHeard, IsFaultSeen, NodeView, SessionView, TurnView}
 use Rattle.replica_lock.specs.declared.fault.NodeFault.{NodeFault}
@@ -47,7 +47,7 @@ pub record HasRefused (before after : TurnView) (old new : SessionView) (told : 
   pub stored : after.state.stored ≡ before.state.stored
   pub totals : after.state.totals ≡ before.state.totals
   pub heard : HasHeard before.node.desk.setup old new
-  pub fault : IsNodeFaultOf before.state.core told
+  pub fault : IsRefusal before.state.core before.journal after.journal told
   pub fault_seen : IsFaultSeen new told
 
 -- a reply to a reserve that grants nothing: the amount passes a share by itself, with what is reserved, or with what a

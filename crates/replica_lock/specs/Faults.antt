@@ -21,7 +21,9 @@ loan_fault (core_loan.Full count clock) = node_loan.Node (fault.Full count clock
 loan_fault (core_loan.Home conit home) = node_loan.Home conit home
 loan_fault (core_loan.Free conit free) = node_loan.Free conit free
 
--- full, with both numbers, exactly where the replica is full
+-- of a replica alone: full, with both numbers, exactly where it is full
 abbrev pub IsNodeFaultOf : Core → NodeFault → Type 0
 IsNodeFaultOf core (fault.Full count clock) = (is_full core ≡ true) × (count ≡ core.counts.count) × (clock ≡ core.writes.clock)
 IsNodeFaultOf core fault.NoMemory = is_full core ≡ false
+IsNodeFaultOf core fault.Halted = ⊥
+IsNodeFaultOf core fault.JournalFault = ⊥

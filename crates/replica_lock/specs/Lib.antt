@@ -7,3 +7,4 @@ pub mod Rosters
 pub mod Allowances
 pub mod Answering
 pub mod Loans
+pub mod Journals

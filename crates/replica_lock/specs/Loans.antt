@@ -8,7 +8,10 @@ use Rattle.run_model.specs.declared.entry.Act.{Act}
 use Rattle.run_model.specs.declared.entry.Act.TheVariants as act
 use Rattle.run_model.specs.declared.entry.Entry.{Entry}
 use Rattle.replica_core.specs.States.{Core, is_full}
+use Rattle.replica_core.specs.Stands.{Stands}
+use Rattle.entry_journal.specs.EntryJournals.{IsUntouched, JournalView}
 use Rattle.replica_lock.specs.Faults.{IsNodeFaultOf}
+use Rattle.replica_lock.specs.Journals.{IsRefusal, OnlyWhere}
 use Rattle.replica_lock.specs.Sessions.{IsFaultSeen, SessionView}
 use Rattle.replica_lock.specs.declared.fault.NodeFault.TheVariants as node_fault
 use Rattle.replica_lock.specs.declared.fault.NodeLoanFault.{NodeLoanFault}
@@ -38,6 +41,13 @@ abbrev pub IsLoanInRange : Setup → ℕ → Loan → Type 0
 IsLoanInRange setup replica (loan.Out holder conit amount) = IsBetween setup replica holder conit amount
 IsLoanInRange setup replica (loan.Back owner conit amount) = IsBetween setup replica owner conit amount
 
+-- A replica may make the entry of a loan: it isn't full, and the amount doesn't pass what it is at most.
+pub record MayMove (core : Core) (asked : Loan) : Type 0 where
+  pub free : is_full core ≡ false
+  pub part : List Entry
+  pub stands : Stands part core
+  pub within : amount_of asked ≤ most_of core.setup core.replica part asked
+
 -- Why a loan was refused after a part of a replica, and what a node then says: an amount on a conit that passes what is
 -- at home, or what is free of the share of an owner's bound.
 abbrev pub PassesMost : Setup → ℕ → List Entry → Loan → NodeLoanFault → Type 0
@@ -52,6 +62,20 @@ abbrev pub IsLoanFaultOf : Core → List Entry → Loan → NodeLoanFault → Ty
 IsLoanFaultOf core part asked (fault.Node told) =
     IsNodeFaultOf core told × (told ≡ node_fault.NoMemory → amount_of asked ≤ most_of core.setup core.replica part asked)
 IsLoanFaultOf core part asked told = (is_full core ≡ false) × PassesMost core.setup core.replica part asked told
+
+-- The same of a turn, and what it leaves of the journal.
+abbrev pub IsLoanRefusal : Core → List Entry → JournalView → JournalView → Loan → NodeLoanFault → Type 0
+IsLoanRefusal core part before after asked (fault.Node told) =
+    IsRefusal core before after told
+    × (told ≡ node_fault.NoMemory → amount_of asked ≤ most_of core.setup core.replica part asked)
+    × (told ≡ node_fault.JournalFault → amount_of asked ≤ most_of core.setup core.replica part asked)
+IsLoanRefusal core part before after asked told =
+    (before.halted ≡ false) × (is_full core ≡ false) × PassesMost core.setup core.replica part asked told × IsUntouched before after
+
+-- of the refusals of a loan, those of a journal come only where this holds
+abbrev pub OnlyWhereLent : Type 0 → NodeLoanFault → Type 0
+OnlyWhereLent Met (fault.Node told) = OnlyWhere Met told
+OnlyWhereLent Met other = Unit {0}
 
 -- what such a refusal says of what its session has seen
 abbrev pub IsLoanFaultSeen : Setup → SessionView → Loan → NodeLoanFault → Type 0

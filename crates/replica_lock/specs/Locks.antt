@@ -16,13 +16,14 @@ use Rattle.replica_core.specs.Stands.{Stands}
 
 -- What stands behind the lock: what the replica keeps, its clerk, the stored entries with their ticks, and the totals
 -- by place: of the allowances out on each conit, of each client's turns, and of the entries made for each client. And
--- for how many more own writes and stored entries there surely is room.
+-- for how many more own writes, told writes of each other origin and stored entries there surely is room.
 pub record LockedView : Type 0 where
   pub core : Core
   pub clerk : ClerkView
   pub stored : List (ℕ × Entry)
   pub totals : List ℕ
   pub spare : ℕ
+  pub beside : ℕ
   pub room : ℕ
 
 -- where the totals of a client's turns stand, and those of the entries made for it; those of allowances stand first,

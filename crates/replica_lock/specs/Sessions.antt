@@ -16,6 +16,7 @@ use Rattle.run_model.specs.declared.entry.Entry.{Entry}
 use Rattle.run_model.specs.declared.entry.Message.{Message}
 use Rattle.run_history.specs.Seats.{DeskView}
 use Rattle.weight_ledger.specs.Seen.{TallyView}
+use Rattle.entry_journal.specs.EntryJournals.{JournalView}
 use Rattle.replica_lock.specs.Locks.{LockedView, turns_place, made_place}
 use Rattle.replica_lock.specs.Parcels.{message_to}
 use Rattle.replica_lock.specs.declared.fault.NodeFault.{NodeFault}
@@ -31,6 +32,7 @@ pub record NodeView : Type 0 where
 pub record TurnView : Type 0 where
   pub node : NodeView
   pub state : LockedView
+  pub journal : JournalView
 
 -- Which node a session is of (its cell, the table of its desk, the count of its conits, its replica), which client it
 -- has, its turns and the entries made for it, and what it has seen of the history.
@@ -127,4 +129,4 @@ abbrev pub IsFaultSeen : SessionView → NodeFault → Type 0
 IsFaultSeen session (fault.Full count stamp) =
     let part = part_of session.seen session.replica in
     (length part ≡ HISTORY_MAX) × (count ≡ HISTORY_MAX) × (stamp ≡ clock part)
-IsFaultSeen session fault.NoMemory = Unit {0}
+IsFaultSeen session other = Unit {0}

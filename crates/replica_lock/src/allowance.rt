@@ -7,7 +7,7 @@ use crate::label::Label;
 use crate::node::Node;
 use crate::session::Session;
 use std::marker::Model;
-use tact_io::Gate;
+use tact_io::{Gate, Journal};
 use weight_ledger::Tally;
 
 /// An amount that is reserved on a conit of a node, a plain count. It may be split, joined, spent and released, go to
@@ -53,7 +53,7 @@ impl Allowance {
     }
 }
 
-impl<'d, G: Gate> Node<'d, G> {
+impl<'d, J: Journal, G: Gate> Node<'d, J, G> {
     /// An allowance of nothing on a conit. It makes no entry, takes no memory and waits for nobody.
     pub fn empty(&self, session: &mut Session, conit: u32) -> Allowance
         requires session { IsSessionOf self.now session.old }

@@ -1,8 +1,8 @@
 //! Any call of a client, and what it moves between an allowance and the total of its conit.
-ghost use Rattle.std.specs.Prelude.{◌≡◌, ◌+◌, ◌-◌, ◌<◌, ◌≤◌, slice_index, slice_set, IfOk, IfErr, IsOk, OnErr, false};
+ghost use Rattle.std.specs.Prelude.{◌≡◌, ◌+◌, ◌-◌, ◌<◌, ◌≤◌, ◌≢◌, slice_index, slice_set, IsTrue, IfOk, IfErr, IsErrOf, OnErr, OnOk, false};
 ghost use Rattle.tact_base.specs.declared.limits.TheConstants.{MOMENT_MAX};
 ghost use Rattle.run_model.specs.Missing.{granted_on, used_on, reserved};
-ghost use Rattle.replica_core.specs.States.{is_full};
+ghost use Rattle.replica_lock.specs.Journals.{IsJournaled, OnlyWhere};
 ghost use Rattle.replica_lock.specs.Allowances.{IsAllowanceOf};
 ghost use Rattle.replica_lock.specs.Answering.{HasAnswered, HasRefused, MayAskWith};
 ghost use Rattle.replica_lock.specs.Locks.{IsLocked, part_in};
@@ -14,10 +14,10 @@ use crate::locked_box::{LockedBox, reserved, stand};
 use crate::session::Session;
 use crate::turn::{Turn, count};
 use run_model::{Reply, Request};
-use tact_io::Gate;
+use tact_io::{Gate, Journal};
 use weight_ledger::Held;
 
-impl<'n, 'd, G: Gate> Turn<'n, 'd, G> {
+impl<'n, 'd, J: Journal, G: Gate> Turn<'n, 'd, J, G> {
     // Answers a call of a session's client, as `Replica::call` does; draws it and stores it. The allowance is more by
     // what is granted, and less by what is used; a refusal leaves it as it was.
     pub(crate) fn ask(
@@ -43,7 +43,11 @@ impl<'n, 'd, G: Gate> Turn<'n, 'd, G> {
         ensures left { OnErr result (allowance.new ≡ allowance.old) }
         ensures spare { self.old.state.spare ≤ self.new.state.spare + 1 }
         ensures room { self.old.state.room ≤ self.new.state.room + 1 }
-        ensures enough { is_full self.old.state.core ≡ false → 0 < self.old.state.spare → 0 < self.old.state.room → IsOk result }
+        ensures journaled { IsJournaled self.new.state self.new.journal }
+        ensures going { OnOk result ((self.old.journal.halted ≡ false) × (self.new.journal.halted ≡ false)) }
+        ensures met { IfErr result (OnlyWhere (IsTrue J.tells → (met : J) × (J.faults met ≢ 0))) }
+        ensures enough { 0 < self.old.state.spare → 0 < self.old.state.room → 0 < self.old.journal.room → IsErrOf result NodeFault.NoMemory → ⊥ }
+        ensures journal_room { self.old.journal.room ≤ self.new.journal.room + 1 }
     {
         let node = self.node;
         node.gate.reached(session.replica, session.client);
@@ -52,6 +56,7 @@ impl<'n, 'd, G: Gate> Turn<'n, 'd, G> {
         self.held.agree(&mut allowance.tally);
         let before = reserved(&self.locked, allowance.conit);
         let answer = self.locked.call(
+            &mut self.journal,
             node.desk,
             &mut session.note,
             moment,
@@ -79,7 +84,12 @@ impl<'n, 'd, G: Gate> Turn<'n, 'd, G> {
 }
 
 // Moves the total of an allowance's conit from one number to another, and the allowance by as much.
-fn move_total(held: &mut Held<'_, LockedBox>, allowance: &mut Allowance, before: u64, after: u64)
+fn move_total<J: Journal>(
+    held: &mut Held<'_, LockedBox<J>>,
+    allowance: &mut Allowance,
+    before: u64,
+    after: u64,
+)
     requires cell { allowance.old.cell ≡ held.old.cell.id }
     requires conit { allowance.old.conit < held.old.cell.shared }
     requires before { slice_index held.old.book allowance.old.conit ≡ before }

@@ -19,7 +19,7 @@ impl Model for Stored {
 }
 
 impl Stored {
-    ghost use Rattle.std.specs.Prelude.{◌≡◌, length};
+    ghost use Rattle.std.specs.Prelude.{◌≡◌};
 
     /// The entries with their ticks, in the order in which they were drawn.
     pub fn pairs(&self) -> &[(u64, Entry)]
@@ -36,9 +36,10 @@ impl Stored {
     }
 }
 
-/// What a node leaves: the clerk, with its part of the history, and the entries that it stored.
+/// What a node leaves: the clerk, with its part of the history, the entries that it stored, and its journal.
 #[derive(Drop)]
-pub struct Ended {
+pub struct Ended<J> {
     pub clerk: Clerk,
     pub stored: Stored,
+    pub journal: J,
 }

@@ -2,14 +2,19 @@ use crate::parcel::Parcel;
 use replica_core::{CoreFault, LoanFault};
 use run_history::Clerk;
 use tact_base::NoMemory;
+use tact_io::Failed;
 
 /// Why a node made no entry.
 #[derive(Clone, Copy, Debug, PartialEq, Eq)]
 pub enum NodeFault {
+    /// Its journal failed in an earlier call, so it makes no more entries.
+    Halted,
     /// Its replica made 20,000 entries, or the replica's clock stands at 2^40: how many entries, and the clock.
     Full { count: u64, clock: u64 },
     /// An allocation was refused.
     NoMemory,
+    /// Its journal failed in this call. It may have the entry or not; the node hasn't made it, and is halted.
+    JournalFault,
 }
 
 impl From<NoMemory> for NodeFault {
@@ -20,6 +25,17 @@ impl From<NoMemory> for NodeFault {
 
     fn from(_fault: NoMemory) -> Self {
         NodeFault::NoMemory
+    }
+}
+
+impl From<Failed> for NodeFault {
+    ghost use Rattle.std.specs.Prelude.{◌≡◌};
+    ghost use Rattle.replica_lock.specs.declared.fault.NodeFault.TheVariants as fault;
+
+    ghost from_gives = { λ _ made. made ≡ fault.JournalFault };
+
+    fn from(_fault: Failed) -> Self {
+        NodeFault::JournalFault
     }
 }
 
@@ -108,10 +124,11 @@ impl From<NoMemory> for SessionFault {
     }
 }
 
-/// There was no memory for a node. Its clerk comes back.
+/// There was no memory for a node. Its clerk and its journal come back.
 #[derive(Drop)]
-pub struct NewFault {
+pub struct NewFault<J> {
     pub clerk: Clerk,
+    pub journal: J,
 }
 
 /// Why a node took no parcel, which comes back.

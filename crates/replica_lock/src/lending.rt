@@ -1,33 +1,35 @@
 //! What a node lends of its own bounds, and gives back of its shares of others'.
-ghost use Rattle.std.specs.Prelude.{◌≡◌, ◌≢◌, ◌+◌, ◌<◌, ◌≤◌, ◌^◌, List, slice_index, false, IfErr, OnErr, OnOk};
+ghost use Rattle.std.specs.Prelude.{◌≡◌, ◌≢◌, ℕ, ◌+◌, ◌<◌, ◌≤◌, ◌^◌, List, slice_index, false, IsTrue, IfErr, OnErr, OnOk};
 ghost use Rattle.tact_base.specs.declared.limits.TheConstants.{AMOUNT_MAX, CLIENTS, MOMENT_MAX};
 ghost use Rattle.run_model.specs.Histories.{IsPrefix};
 ghost use Rattle.run_model.specs.Runs.{IsRun};
 ghost use Rattle.run_model.specs.declared.entry.Act.TheVariants as act;
 ghost use Rattle.run_model.specs.declared.entry.Entry.{Entry};
 ghost use Rattle.replica_core.specs.Stands.{GoesOn, IsSameReplica, Stands};
-ghost use Rattle.replica_core.specs.States.{Core, is_full};
+ghost use Rattle.tact_base.specs.Setup.{Setup};
+ghost use Rattle.replica_core.specs.States.{is_full};
 ghost use Rattle.replica_lock.specs.Faults.{loan_fault};
-ghost use Rattle.replica_lock.specs.Loans.{IsLoanFaultOf, IsLoanFaultSeen, IsLoanInRange, act_of, amount_of, most_of};
+ghost use Rattle.replica_lock.specs.Loans.{IsLoanFaultOf, IsLoanFaultSeen, IsLoanInRange, IsLoanRefusal, MayMove, OnlyWhereLent, PassesMost, act_of, amount_of, most_of};
+ghost use Rattle.replica_lock.specs.Journals.{IsJournaled};
 ghost use Rattle.replica_lock.specs.Locks.{HasEntered, IsLocked, IsOfDesk, entry_in, made_place, one_more_at, part_in};
 ghost use Rattle.replica_lock.specs.Sessions.{HasHeard, HasMade, IsSessionOf};
 ghost use Rattle.replica_lock.specs.declared.loan.Loan.TheVariants as loan;
 
 use crate::NodeLoanFault;
 use crate::loan::Loan;
-use crate::locked::{Locked, count_entry, draw, may_enter};
+use crate::locked::{Locked, count_entry, draw};
 use crate::locked_box::stand;
 use crate::node::Node;
 use crate::session::Session;
 use crate::turn::{Turn, count_made};
+use entry_journal::EntryJournal;
 use replica_core::{LoanFault, Replica};
 use run_history::{Desk, Note};
 use run_model::{Act, Entry};
 use std::sync::Wait;
-use tact_base::RoomyList;
-use tact_io::Gate;
+use tact_io::{Gate, Journal};
 
-impl<'d, G: Gate> Node<'d, G> {
+impl<'d, J: Journal, G: Gate> Node<'d, J, G> {
     /// Lends a holder a further amount of its own bound on a conit, in a turn of its own. The moment of the entry is
     /// the greater of the handed one and that of the replica's last entry. `Full` comes first, then `Home` exactly
     /// where the amount passes what is at home, then `NoMemory`. None makes an entry.
@@ -49,6 +51,7 @@ impl<'d, G: Gate> Node<'d, G> {
         ensures lent { OnOk result (HasMade self.now.desk.setup session.old session.new moment (act.Lend holder conit amount)) }
         ensures refused { OnErr result (HasHeard self.now.desk.setup session.old session.new) }
         ensures fault { IfErr result (IsLoanFaultSeen self.now.desk.setup session.new (loan.Out holder conit amount)) }
+        ensures met { IfErr result (OnlyWhereLent (IsTrue J.tells → (met : J) × (J.faults met ≢ 0))) }
     {
         let mut turn = self.turn(rt);
         let answer = turn.lend(session, moment, holder, conit, amount);
@@ -77,6 +80,7 @@ impl<'d, G: Gate> Node<'d, G> {
         ensures given { OnOk result (HasMade self.now.desk.setup session.old session.new moment (act.Back owner conit amount)) }
         ensures refused { OnErr result (HasHeard self.now.desk.setup session.old session.new) }
         ensures fault { IfErr result (IsLoanFaultSeen self.now.desk.setup session.new (loan.Back owner conit amount)) }
+        ensures met { IfErr result (OnlyWhereLent (IsTrue J.tells → (met : J) × (J.faults met ≢ 0))) }
     {
         let mut turn = self.turn(rt);
         let answer = turn.give_back(session, moment, owner, conit, amount);
@@ -85,7 +89,7 @@ impl<'d, G: Gate> Node<'d, G> {
     }
 }
 
-impl<'n, 'd, G: Gate> Turn<'n, 'd, G> {
+impl<'n, 'd, J: Journal, G: Gate> Turn<'n, 'd, J, G> {
     /// Lends a holder a further amount of its own bound on a conit, as `Replica::lend` does; draws the entry and stores
     /// it. The amount is a plain count. `Full` comes first, then `Home` exactly where the amount passes what is at
     /// home.
@@ -110,9 +114,13 @@ impl<'n, 'd, G: Gate> Turn<'n, 'd, G> {
         ensures seen { session.new.seen ≡ self.new.state.clerk.seen }
         ensures lent { OnOk result (HasMade self.old.node.desk.setup session.old session.new moment (act.Lend holder conit amount)) }
         ensures refused { OnErr result (HasHeard self.old.node.desk.setup session.old session.new) }
-        ensures spare { self.new.state.spare ≡ self.old.state.spare }
+        ensures spare { self.old.state.spare ≤ self.new.state.spare }
         ensures room { self.old.state.room ≤ self.new.state.room + 1 }
-        ensures fault { IfErr result (IsLoanFaultOf self.old.state.core (part_in self.old.state) (loan.Out holder conit amount)) }
+        ensures journaled { IsJournaled self.new.state self.new.journal }
+        ensures going { OnOk result ((self.old.journal.halted ≡ false) × (self.new.journal.halted ≡ false)) }
+        ensures fault { IfErr result (IsLoanRefusal self.old.state.core (part_in self.old.state) self.old.journal self.new.journal (loan.Out holder conit amount)) }
+        ensures met { IfErr result (OnlyWhereLent (IsTrue J.tells → (met : J) × (J.faults met ≢ 0))) }
+        ensures journal_room { self.old.journal.room ≤ self.new.journal.room + 1 }
         ensures fault_seen { IfErr result (IsLoanFaultSeen self.old.node.desk.setup session.new (loan.Out holder conit amount)) }
         ensures err { OnErr result ((self.new.state.core ≡ self.old.state.core) × (self.new.state.stored ≡ self.old.state.stored) × (self.new.state.totals ≡ self.old.state.totals)) }
     {
@@ -151,9 +159,13 @@ impl<'n, 'd, G: Gate> Turn<'n, 'd, G> {
         ensures seen { session.new.seen ≡ self.new.state.clerk.seen }
         ensures given { OnOk result (HasMade self.old.node.desk.setup session.old session.new moment (act.Back owner conit amount)) }
         ensures refused { OnErr result (HasHeard self.old.node.desk.setup session.old session.new) }
-        ensures spare { self.new.state.spare ≡ self.old.state.spare }
+        ensures spare { self.old.state.spare ≤ self.new.state.spare }
         ensures room { self.old.state.room ≤ self.new.state.room + 1 }
-        ensures fault { IfErr result (IsLoanFaultOf self.old.state.core (part_in self.old.state) (loan.Back owner conit amount)) }
+        ensures journaled { IsJournaled self.new.state self.new.journal }
+        ensures going { OnOk result ((self.old.journal.halted ≡ false) × (self.new.journal.halted ≡ false)) }
+        ensures fault { IfErr result (IsLoanRefusal self.old.state.core (part_in self.old.state) self.old.journal self.new.journal (loan.Back owner conit amount)) }
+        ensures met { IfErr result (OnlyWhereLent (IsTrue J.tells → (met : J) × (J.faults met ≢ 0))) }
+        ensures journal_room { self.old.journal.room ≤ self.new.journal.room + 1 }
         ensures fault_seen { IfErr result (IsLoanFaultSeen self.old.node.desk.setup session.new (loan.Back owner conit amount)) }
         ensures err { OnErr result ((self.new.state.core ≡ self.old.state.core) × (self.new.state.stored ≡ self.old.state.stored) × (self.new.state.totals ≡ self.old.state.totals)) }
     {
@@ -185,17 +197,27 @@ impl<'n, 'd, G: Gate> Turn<'n, 'd, G> {
         ensures seen { session.new.seen ≡ self.new.state.clerk.seen }
         ensures made { OnOk result (HasMade self.old.node.desk.setup session.old session.new moment (act_of loan)) }
         ensures refused { OnErr result (HasHeard self.old.node.desk.setup session.old session.new) }
-        ensures spare { self.new.state.spare ≡ self.old.state.spare }
+        ensures spare { self.old.state.spare ≤ self.new.state.spare }
         ensures room { self.old.state.room ≤ self.new.state.room + 1 }
-        ensures fault { IfErr result (IsLoanFaultOf self.old.state.core (part_in self.old.state) loan) }
+        ensures journaled { IsJournaled self.new.state self.new.journal }
+        ensures going { OnOk result ((self.old.journal.halted ≡ false) × (self.new.journal.halted ≡ false)) }
+        ensures fault { IfErr result (IsLoanRefusal self.old.state.core (part_in self.old.state) self.old.journal self.new.journal loan) }
+        ensures met { IfErr result (OnlyWhereLent (IsTrue J.tells → (met : J) × (J.faults met ≢ 0))) }
+        ensures journal_room { self.old.journal.room ≤ self.new.journal.room + 1 }
         ensures fault_seen { IfErr result (IsLoanFaultSeen self.old.node.desk.setup session.new loan) }
         ensures err { OnErr result ((self.new.state.core ≡ self.old.state.core) × (self.new.state.stored ≡ self.old.state.stored) × (self.new.state.totals ≡ self.old.state.totals)) }
     {
         let node = self.node;
         stand(&self.locked);
         self.held.agree(&mut session.tally);
-        self.locked
-            .lend(node.desk, &mut session.note, moment, session.client, loan)?;
+        self.locked.lend(
+            &mut self.journal,
+            node.desk,
+            &mut session.note,
+            moment,
+            session.client,
+            loan,
+        )?;
         count_made(&mut self.held, session);
         Ok(())
     }
@@ -204,8 +226,9 @@ impl<'n, 'd, G: Gate> Turn<'n, 'd, G> {
 impl Locked {
     /// Makes the entry of a loan, for a session that has seen what a note has. The clerk learns the note; where it
     /// isn't refused the loan is drawn and stored; then the note sees what the clerk has seen.
-    pub fn lend(
+    pub fn lend<J: Journal>(
         &mut self,
+        journal: &mut EntryJournal<J>,
         desk: &Desk,
         note: &mut Note,
         moment: u64,
@@ -217,6 +240,7 @@ impl Locked {
         requires moment { moment ≤ MOMENT_MAX }
         requires client { client < CLIENTS }
         requires loan { IsLoanInRange self.old.core.setup self.old.core.replica loan }
+        requires journaled { IsJournaled self.old journal.old }
         ensures kept { IsLocked self.new }
         ensures label { (self.new.core.setup ≡ self.old.core.setup) × (self.new.core.replica ≡ self.old.core.replica) × (self.new.clerk.table ≡ self.old.clerk.table) }
         ensures note { (note.new.table ≡ note.old.table) × (note.new.seen ≡ self.new.clerk.seen) }
@@ -224,45 +248,44 @@ impl Locked {
         ensures entered { OnOk result (HasEntered self.old self.new note.old.seen (entry_in self.old moment (act_of loan))) }
         ensures rooms { OnOk result (slice_index self.old.totals (made_place self.old.core.setup.conits client) + 1 < 2 ^ 64) }
         ensures totals { OnOk result (self.new.totals ≡ one_more_at (made_place self.old.core.setup.conits client) self.old.totals) }
-        ensures spare { self.new.spare ≡ self.old.spare }
+        ensures spare { self.old.spare ≤ self.new.spare }
         ensures room { self.old.room ≤ self.new.room + 1 }
-        ensures fault { IfErr result (IsLoanFaultOf self.old.core (part_in self.old) loan) }
+        ensures journaled { IsJournaled self.new journal.new }
+        ensures going { OnOk result ((journal.old.halted ≡ false) × (journal.new.halted ≡ false)) }
+        ensures fault { IfErr result (IsLoanRefusal self.old.core (part_in self.old) journal.old journal.new loan) }
+        ensures met { IfErr result (OnlyWhereLent (IsTrue J.tells → (met : J) × (J.faults met ≢ 0))) }
+        ensures journal_room { journal.old.room ≤ journal.new.room + 1 }
         ensures err { OnErr result ((self.new.core ≡ self.old.core) × (self.new.stored ≡ self.old.stored) × (self.new.totals ≡ self.old.totals)) }
         ensures learnt { IsPrefix self.old.clerk.seen note.new.seen × IsPrefix note.old.seen note.new.seen }
     {
         self.learn(desk, note);
-        let answer = self.enter_loan(desk, moment, client, loan);
+        let answer = self.kept_loan(journal, desk, moment, client, loan);
         self.tell(desk, note);
         answer
     }
 
-    // Makes the entry of a loan.
-    fn enter_loan(
-        &mut self,
-        desk: &Desk,
-        moment: u64,
-        client: u32,
-        loan: Loan,
-    ) -> Result<(), NodeLoanFault>
+    // Makes the entry of a loan, whose amount doesn't pass what it may be. There is room for it.
+    pub(crate) fn enter_loan(&mut self, desk: &Desk, moment: u64, client: u32, loan: Loan)
         requires desk { IsOfDesk desk.now self.old }
         requires moment { moment ≤ MOMENT_MAX }
         requires client { client < CLIENTS }
         requires loan { IsLoanInRange self.old.core.setup self.old.core.replica loan }
+        requires free { is_full self.old.core ≡ false }
+        requires within { amount_of loan ≤ most_of self.old.core.setup self.old.core.replica (part_in self.old) loan }
+        requires room { 0 < self.old.room }
         ensures kept { IsLocked self.new }
         ensures label { (self.new.core.setup ≡ self.old.core.setup) × (self.new.core.replica ≡ self.old.core.replica) × (self.new.clerk.table ≡ self.old.clerk.table) }
-        ensures entered { OnOk result (HasEntered self.old self.new self.old.clerk.seen (entry_in self.old moment (act_of loan))) }
-        ensures rooms { OnOk result (slice_index self.old.totals (made_place self.old.core.setup.conits client) + 1 < 2 ^ 64) }
-        ensures totals { OnOk result (self.new.totals ≡ one_more_at (made_place self.old.core.setup.conits client) self.old.totals) }
+        ensures entered { HasEntered self.old self.new self.old.clerk.seen (entry_in self.old moment (act_of loan)) }
+        ensures rooms { slice_index self.old.totals (made_place self.old.core.setup.conits client) + 1 < 2 ^ 64 }
+        ensures totals { self.new.totals ≡ one_more_at (made_place self.old.core.setup.conits client) self.old.totals }
         ensures grows { IsPrefix self.old.clerk.seen self.new.clerk.seen }
         ensures run { IsRun desk.now.setup self.old.clerk.seen → IsRun desk.now.setup self.new.clerk.seen }
         ensures spare { self.new.spare ≡ self.old.spare }
         ensures room { self.old.room ≤ self.new.room + 1 }
-        ensures fault { IfErr result (IsLoanFaultOf self.old.core (part_in self.old) loan) }
-        ensures err { OnErr result ((self.new.core ≡ self.old.core) × (self.new.stored ≡ self.old.stored) × (self.new.totals ≡ self.old.totals) × (self.new.clerk ≡ self.old.clerk)) }
     {
         let replica = self.replica_number();
         let at = self.moment_after(moment);
-        move_loan(&mut self.replica, &mut self.stored, moment, loan)?;
+        move_loan(&mut self.replica, moment, loan);
         let done = act_of(loan);
         let entry = Entry {
             replica,
@@ -271,12 +294,11 @@ impl Locked {
         };
         draw(&mut self.clerk, &mut self.stored, desk, entry);
         count_entry(&mut self.totals, self.conits, client);
-        Ok(())
     }
 }
 
 // The act of a loan.
-fn act_of(loan: Loan) -> Act
+pub(crate) fn act_of(loan: Loan) -> Act
     ensures { result ≡ act_of loan }
 {
     match loan {
@@ -302,7 +324,7 @@ fn act_of(loan: Loan) -> Act
 }
 
 // What its amount is at most: what is at home, or what is free of a share.
-fn most_of(replica: &Replica, loan: Loan) -> u64
+pub(crate) fn most_of(replica: &Replica, loan: Loan) -> u64
     requires { IsLoanInRange replica.now.core.setup replica.now.core.replica loan }
     ensures { (part : List Entry) → Stands part replica.now.core → result ≡ most_of replica.now.core.setup replica.now.core.replica part loan }
 {
@@ -313,7 +335,7 @@ fn most_of(replica: &Replica, loan: Loan) -> u64
 }
 
 // Its amount.
-fn amount_of(loan: Loan) -> u64
+pub(crate) fn amount_of(loan: Loan) -> u64
     ensures { result ≡ amount_of loan }
 {
     match loan {
@@ -323,9 +345,9 @@ fn amount_of(loan: Loan) -> u64
 }
 
 // Why it is refused where its amount passes so much.
-fn passes(loan: Loan, most: u64) -> NodeLoanFault
+pub(crate) fn passes(loan: Loan, most: u64) -> NodeLoanFault
     requires { most < amount_of loan }
-    ensures { (core : Core) (part : List Entry) → is_full core ≡ false → most ≡ most_of core.setup core.replica part loan → IsLoanFaultOf core part loan result }
+    ensures { (setup : Setup) (replica : ℕ) (part : List Entry) → most ≡ most_of setup replica part loan → PassesMost setup replica part loan result }
 {
     match loan {
         Loan::Out { conit, .. } => NodeLoanFault::Home { conit, home: most },
@@ -333,7 +355,7 @@ fn passes(loan: Loan, most: u64) -> NodeLoanFault
     }
 }
 
-// The replica makes the entry of a loan, which it may.
+// The replica makes the entry of a loan.
 fn make_loan(replica: &mut Replica, moment: u64, loan: Loan) -> Result<(), LoanFault>
     requires moment { moment ≤ MOMENT_MAX }
     requires loan { IsLoanInRange replica.old.core.setup replica.old.core.replica loan }
@@ -357,30 +379,17 @@ fn make_loan(replica: &mut Replica, moment: u64, loan: Loan) -> Result<(), LoanF
     }
 }
 
-// The same, once there is room to store the entry.
-fn move_loan(
-    replica: &mut Replica,
-    stored: &mut RoomyList<(u64, Entry)>,
-    moment: u64,
-    loan: Loan,
-) -> Result<(), NodeLoanFault>
+// The same, which it may.
+fn move_loan(replica: &mut Replica, moment: u64, loan: Loan)
     requires moment { moment ≤ MOMENT_MAX }
     requires loan { IsLoanInRange replica.old.core.setup replica.old.core.replica loan }
-    ensures goes_on { OnOk result (GoesOn replica.old.core replica.new.core moment (λ part. act_of loan)) }
+    requires may { MayMove replica.old.core loan }
+    ensures goes_on { GoesOn replica.old.core replica.new.core moment (λ part. act_of loan) }
     ensures same { IsSameReplica replica.old.core replica.new.core }
     ensures spare { replica.new.spare ≡ replica.old.spare }
-    ensures stored { stored.new.items ≡ stored.old.items }
-    ensures room { stored.old.room ≤ stored.new.room }
-    ensures enough { OnOk result (0 < stored.new.room) }
-    ensures fault { IfErr result (λ told. (part : List Entry) → Stands part replica.old.core → IsLoanFaultOf replica.old.core part loan told) }
-    ensures err { OnErr result (replica.new ≡ replica.old) }
 {
-    may_enter(replica)?;
-    let most = most_of(replica, loan);
-    if amount_of(loan) > most {
-        return Err(passes(loan, most));
+    match make_loan(replica, moment, loan) {
+        Ok(()) => {}
+        Err(_) => unreachable!(),
     }
-    stored.reserve(1)?;
-    make_loan(replica, moment, loan)?;
-    Ok(())
 }

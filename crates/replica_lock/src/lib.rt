@@ -5,6 +5,7 @@ mod allowance;
 mod asking;
 mod ended;
 mod fault;
+mod keeping;
 mod label;
 mod lending;
 mod loan;

@@ -1,5 +1,5 @@
 //! The value behind a node's lock, and the entries that are made with it.
-ghost use Rattle.std.specs.Prelude.{[], ◌≡◌, ◌+◌, ◌*◌, ◌<◌, ◌≤◌, ◌^◌, true, false, length, slice_index, slice_set, IfOk, IfErr, IsOk, OnErr, OnOk};
+ghost use Rattle.std.specs.Prelude.{[], ◌≡◌, ◌+◌, ◌*◌, ◌<◌, ◌≤◌, ◌^◌, ◌≢◌, false, length, slice_index, slice_set, IsTrue, IsErrOf, IfOk, IfErr, IsOk, OnErr, OnOk};
 ghost use Rattle.tact_base.specs.Setup.{IsSetup};
 ghost use Rattle.tact_base.specs.declared.limits.TheConstants.{CLIENTS, MOMENT_MAX};
 ghost use Rattle.run_model.specs.Histories.{moment_at, calls_in, IsPrefix};
@@ -10,19 +10,22 @@ ghost use Rattle.run_model.specs.declared.entry.Act.TheVariants as act;
 ghost use Rattle.run_history.specs.Ticks.{entries_of};
 ghost use Rattle.split_budget.specs.Budgets.{reserved_on};
 ghost use Rattle.replica_core.specs.States.{is_full};
+ghost use Rattle.replica_core.specs.Stands.{GoesOn, IsSameReplica};
 ghost use Rattle.weight_ledger.specs.Amounts.{zeros};
 ghost use Rattle.replica_lock.specs.Answering.{MayAskWith};
-ghost use Rattle.replica_lock.specs.Faults.{IsNodeFaultOf};
+ghost use Rattle.replica_lock.specs.Journals.{IsJournaled, IsRefusal, OnlyWhere};
 ghost use Rattle.replica_lock.specs.declared.fault.NodeFault.TheVariants as fault;
 ghost use Rattle.replica_lock.specs.Locks.{HasDrawn, HasEntered, IsLocked, IsOfDesk, made_place, one_more_at, part_in, turns_place};
 
-use crate::{NewFault, NodeFault};
+use crate::NodeFault;
+use entry_journal::EntryJournal;
 use replica_core::Replica;
 use run_history::{Clerk, Desk, Note};
 use run_model::{Act, Config, Entry, Reply, Request};
 use std::alloc::{AllocError, Global};
 use std::marker::Model;
-use tact_base::{CLIENTS, HISTORY_MAX, Numbers, RoomyList, STAMP_MAX};
+use tact_base::{CLIENTS, Numbers, RoomyList};
+use tact_io::Journal;
 
 /// The value behind a node's lock: its replica, the clerk that draws the replica's entries, the entries that were drawn
 /// with their ticks, the totals by place that tallies outside add up, and the zeros that a sending is handed as firsts.
@@ -48,6 +51,7 @@ impl Model for Locked {
       stored = l.stored.items;
       totals = l.totals.items;
       spare = l.replica.spare;
+      beside = l.replica.beside;
       room = l.stored.room;
     } };
 
@@ -55,25 +59,25 @@ impl Model for Locked {
 }
 
 impl Locked {
-    /// The value of a node that made no entry.
-    pub fn new(alloc: Global, config: &Config, clerk: Clerk) -> Result<Locked, NewFault>
+    /// The value of a node that made no entry. Want of memory is the only error, and gives the clerk back.
+    pub fn new(alloc: Global, config: &Config, clerk: Clerk) -> Result<Locked, Clerk>
         requires among { clerk.replica < config.now.replicas }
         requires drawn { clerk.pairs ≡ [] }
         ensures core { IfOk result (λ made. (made.core.setup ≡ config.now) × (made.core.replica ≡ clerk.replica)) }
         ensures clerk { IfOk result (λ made. made.clerk ≡ clerk) }
         ensures totals { IfOk result (λ made. made.totals ≡ zeros (config.now.conits + 2 * CLIENTS)) }
-        ensures refused { IfErr result (λ fault. fault.clerk ≡ clerk) }
+        ensures refused { IfErr result (λ back. back ≡ clerk) }
     {
         let number = clerk.replica();
         let conits = config.conits();
         let Ok(replica) = Replica::new(alloc, config, number) else {
-            return Err(NewFault { clerk });
+            return Err(clerk);
         };
         let Ok(totals) = zeros(alloc, conits as usize + 2 * CLIENTS as usize) else {
-            return Err(NewFault { clerk });
+            return Err(clerk);
         };
         let Ok(firsts) = Numbers::filled(alloc, 0, config.replicas()) else {
-            return Err(NewFault { clerk });
+            return Err(clerk);
         };
         Ok(Locked {
             replica,
@@ -103,8 +107,9 @@ impl Locked {
     /// Answers a call of a client, for a session that has seen what a note has. It takes nothing out of what is
     /// reserved but on the conit, and there no more than there is. The clerk learns the note; where it isn't refused
     /// the call is drawn and stored; then the note sees what the clerk has seen.
-    pub fn call(
+    pub fn call<J: Journal>(
         &mut self,
+        journal: &mut EntryJournal<J>,
         desk: &Desk,
         note: &mut Note,
         moment: u64,
@@ -119,6 +124,7 @@ impl Locked {
         requires client { client < CLIENTS }
         requires conit { conit < self.old.core.setup.conits }
         requires asked { MayAskWith self.old.core.setup conit (reserved (part_in self.old) conit) request }
+        requires journaled { IsJournaled self.old journal.old }
         ensures kept { IsLocked self.new }
         ensures label { (self.new.core.setup ≡ self.old.core.setup) × (self.new.core.replica ≡ self.old.core.replica) × (self.new.clerk.table ≡ self.old.clerk.table) }
         ensures note { (note.new.table ≡ note.old.table) × (note.new.seen ≡ self.new.clerk.seen) }
@@ -134,13 +140,17 @@ impl Locked {
             (one_more_at (turns_place self.old.core.setup.conits client) self.old.totals)) conit (reserved (part_in self.new) conit)) }
         ensures spare { self.old.spare ≤ self.new.spare + 1 }
         ensures room { self.old.room ≤ self.new.room + 1 }
-        ensures enough { is_full self.old.core ≡ false → 0 < self.old.spare → 0 < self.old.room → IsOk result }
-        ensures fault { IfErr result (IsNodeFaultOf self.old.core) }
+        ensures journaled { IsJournaled self.new journal.new }
+        ensures going { OnOk result ((journal.old.halted ≡ false) × (journal.new.halted ≡ false)) }
+        ensures fault { IfErr result (IsRefusal self.old.core journal.old journal.new) }
+        ensures met { IfErr result (OnlyWhere (IsTrue J.tells → (met : J) × (J.faults met ≢ 0))) }
+        ensures enough { 0 < self.old.spare → 0 < self.old.room → 0 < journal.old.room → IsErrOf result NodeFault.NoMemory → ⊥ }
+        ensures journal_room { journal.old.room ≤ journal.new.room + 1 }
         ensures err { OnErr result ((self.new.core ≡ self.old.core) × (self.new.stored ≡ self.old.stored) × (self.new.totals ≡ self.old.totals)) }
         ensures learnt { IsPrefix self.old.clerk.seen note.new.seen × IsPrefix note.old.seen note.new.seen }
     {
         self.learn(desk, note);
-        let answer = self.enter_call(desk, moment, client, conit, request);
+        let answer = self.kept_call(journal, desk, moment, client, conit, request);
         self.tell(desk, note);
         answer
     }
@@ -150,9 +160,10 @@ impl Locked {
     /// Makes room for so many own writes and stored entries. Want of memory is its only error.
     pub fn make_room(&mut self, count: u64) -> Result<(), NodeFault>
         ensures kept { IsLocked self.new }
-        ensures value { self.new ≡ record self.old { spare = self.new.spare; room = self.new.room } }
+        ensures value { self.new ≡ record self.old { spare = self.new.spare; beside = self.new.beside; room = self.new.room } }
         ensures room { OnOk result ((count ≤ self.new.spare) × (count ≤ self.new.room)) }
         ensures no_less { (self.old.spare ≤ self.new.spare) × (self.old.room ≤ self.new.room) }
+        ensures enough { count ≤ self.old.spare → count ≤ self.old.room → IsOk result }
         ensures fault { IfErr result (λ told. told ≡ fault.NoMemory) }
     {
         self.stored.reserve(count)?;
@@ -238,54 +249,51 @@ impl Locked {
     }
 
     // How many calls of a client its part has.
-    fn calls_of(&self, client: u32) -> u64
+    pub(crate) fn calls_of(&self, client: u32) -> u64
         requires { client < CLIENTS }
         ensures { result ≡ calls_in (part_in self.now) client }
     {
         self.replica.calls(client)
     }
 
-    // Answers a call of a client that changes what is reserved on no other conit.
-    fn enter_call(
+    // Answers a call of a client that changes what is reserved on no other conit. There is room for it.
+    pub(crate) fn enter_call(
         &mut self,
         desk: &Desk,
         moment: u64,
         client: u32,
         conit: u32,
         request: Request,
-    ) -> Result<Reply, NodeFault>
+    ) -> Reply
         requires desk { IsOfDesk desk.now self.old }
         requires moment { moment ≤ MOMENT_MAX }
         requires client { client < CLIENTS }
         requires conit { conit < self.old.core.setup.conits }
         requires in_range { IsRequestInRange self.old.core.setup request }
         requires asked { MayAskWith self.old.core.setup conit (reserved (part_in self.old) conit) request }
+        requires free { is_full self.old.core ≡ false }
+        requires rooms { (0 < self.old.spare) × (0 < self.old.room) }
         ensures kept { IsLocked self.new }
         ensures label { (self.new.core.setup ≡ self.old.core.setup) × (self.new.core.replica ≡ self.old.core.replica) × (self.new.clerk.table ≡ self.old.clerk.table) }
-        ensures entered { IfOk result (λ reply. HasEntered self.old self.new self.old.clerk.seen (record {
+        ensures entered { HasEntered self.old self.new self.old.clerk.seen (record {
           replica = self.old.core.replica;
           moment = moment_at (part_in self.old) moment;
-          act = act.Call client (calls_in (part_in self.old) client) request reply;
-        })) }
-        ensures rooms { OnOk result ((slice_index self.old.totals (turns_place self.old.core.setup.conits client) + 1 < 2 ^ 64) ×
-            (slice_index self.old.totals (made_place self.old.core.setup.conits client) + 1 < 2 ^ 64)) }
-        ensures totals { OnOk result (self.new.totals ≡ slice_set (one_more_at (made_place self.old.core.setup.conits client)
-            (one_more_at (turns_place self.old.core.setup.conits client) self.old.totals)) conit (reserved (part_in self.new) conit)) }
+          act = act.Call client (calls_in (part_in self.old) client) request result;
+        }) }
+        ensures rooms { (slice_index self.old.totals (turns_place self.old.core.setup.conits client) + 1 < 2 ^ 64) ×
+            (slice_index self.old.totals (made_place self.old.core.setup.conits client) + 1 < 2 ^ 64) }
+        ensures totals { self.new.totals ≡ slice_set (one_more_at (made_place self.old.core.setup.conits client)
+            (one_more_at (turns_place self.old.core.setup.conits client) self.old.totals)) conit (reserved (part_in self.new) conit) }
         ensures grows { IsPrefix self.old.clerk.seen self.new.clerk.seen }
         ensures run { IsRun desk.now.setup self.old.clerk.seen → IsRun desk.now.setup self.new.clerk.seen }
         ensures spare { self.old.spare ≤ self.new.spare + 1 }
         ensures room { self.old.room ≤ self.new.room + 1 }
-        ensures enough { is_full self.old.core ≡ false → 0 < self.old.spare → 0 < self.old.room → IsOk result }
-        ensures fault { IfErr result (IsNodeFaultOf self.old.core) }
-        ensures err { OnErr result ((self.new.core ≡ self.old.core) × (self.new.stored ≡ self.old.stored) × (self.new.totals ≡ self.old.totals) × (self.new.clerk ≡ self.old.clerk)) }
     {
-        may_enter(&self.replica)?;
         let replica = self.replica_number();
         let at = self.moment_after(moment);
         let number = self.calls_of(client);
-        self.stored.reserve(1)?;
-        let reply = self.replica.call(moment, client, &request)?;
-        let answer = copied(&reply);
+        let reply = answer(&mut self.replica, moment, client, &request);
+        let given = copied(&reply);
         let entry = Entry {
             replica,
             moment: at,
@@ -299,22 +307,25 @@ impl Locked {
         draw(&mut self.clerk, &mut self.stored, desk, entry);
         count_call(&mut self.totals, self.conits, client);
         set_reserved(&mut self.totals, &self.replica, conit);
-        Ok(answer)
+        given
     }
 }
 
-// Whether an entry of a replica may follow.
-pub(crate) fn may_enter(replica: &Replica) -> Result<(), NodeFault>
-    ensures ok { OnOk result (is_full replica.now.core ≡ false) }
-    ensures err { OnErr result (is_full replica.now.core ≡ true) }
-    ensures fault { IfErr result (IsNodeFaultOf replica.now.core) }
+// The replica answers a call, for which there is room.
+fn answer(replica: &mut Replica, moment: u64, client: u32, request: &Request) -> Reply
+    requires moment { moment ≤ MOMENT_MAX }
+    requires client { client < CLIENTS }
+    requires in_range { IsRequestInRange replica.old.core.setup request.now }
+    requires free { is_full replica.old.core ≡ false }
+    requires room { 0 < replica.old.spare }
+    ensures goes_on { GoesOn replica.old.core replica.new.core moment (λ part. act.Call client (calls_in part client) request.now result) }
+    ensures same { IsSameReplica replica.old.core replica.new.core }
+    ensures spare { replica.old.spare ≤ replica.new.spare + 1 }
 {
-    let count = replica.count();
-    let clock = replica.clock();
-    if count >= HISTORY_MAX || clock >= STAMP_MAX {
-        return Err(NodeFault::Full { count, clock });
+    match replica.call(moment, client, request) {
+        Ok(reply) => reply,
+        Err(_) => unreachable!(),
     }
-    Ok(())
 }
 
 // Draws an entry, and stores it with its tick.

@@ -1,59 +1,77 @@
-ghost use Rattle.std.specs.Prelude.{◌≡◌, ◌<◌, IfOk, IfErr, slice_index};
+ghost use Rattle.std.specs.Prelude.{◌≡◌, ◌<◌, [], IsTrue, IfOk, IfErr, slice_index};
 ghost use Rattle.run_model.specs.Missing.{reserved};
+ghost use Rattle.replica_lock.specs.Journals.{IsJournaled};
 ghost use Rattle.replica_lock.specs.Locks.{IsLocked, part_in};
 
 use crate::NewFault;
 use crate::label::Label;
 use crate::locked::Locked;
+use entry_journal::EntryJournal;
 use std::alloc::{AllocFailed, Global};
 use std::marker::Model;
+use tact_io::Journal;
 use weight_ledger::Counted;
 
-/// The value behind a node's lock as its cell has it: in memory of its own, so that no more than a pointer goes out
-/// and back.
+/// The value behind a node's lock as its cell has it: that of its replica, in memory of its own, and the journal.
 #[derive(Drop)]
-pub struct LockedBox {
+pub struct LockedBox<J: Journal> {
     pub(crate) locked: Box<Locked>,
+    pub(crate) journal: EntryJournal<J>,
 }
 
-impl Model for LockedBox {
-    ghost use Rattle.replica_lock.specs.Locks.{LockedView};
+impl<J: Journal> Model for LockedBox<J> {
+    ghost use Rattle.replica_lock.specs.Journals.{IsJournaled, KeptView};
 
-    ghost Value = { LockedView };
+    ghost Value = { KeptView };
 
-    ghost view = { λ b. b.locked.value };
+    ghost view = { λ b. record { state = b.locked.value; journal = b.journal } };
+
+    ghost invariant = { λ b. IsJournaled b.locked.value b.journal };
 }
 
-impl Counted for LockedBox {
+impl<J: Journal> Counted for LockedBox<J> {
     type Label = Label;
 
     ghost use Rattle.replica_lock.specs.Nodes.{label_of};
 
-    ghost label = { label_of };
+    ghost label = { λ kept. label_of kept.state };
 
-    ghost totals = { λ locked. locked.totals };
+    ghost totals = { λ kept. kept.state.totals };
 }
 
-impl LockedBox {
-    /// Puts the value into memory of `alloc`. Want of memory is the only error, and gives its clerk back.
-    pub fn new(alloc: Global, locked: Locked) -> Result<LockedBox, NewFault>
-        ensures made { IfOk result (λ made. made ≡ locked) }
-        ensures refused { IfErr result (λ fault. fault.clerk ≡ locked.clerk) }
+impl<J: Journal> LockedBox<J> {
+    /// Puts the value of a node that made no entry into memory of `alloc`, with its journal, which has no piece where it
+    /// tells them. Want of memory is the only error, and gives its clerk and the journal back.
+    pub fn new(alloc: Global, locked: Locked, journal: J) -> Result<Self, NewFault<J>>
+        requires none { locked.stored ≡ [] }
+        requires empty { IsTrue J.tells → J.pieces journal ≡ [] }
+        ensures made { IfOk result (λ made. made.state ≡ locked) }
+        ensures pieces { IfOk result (λ made. made.journal.pieces ≡ J.pieces journal) }
+        ensures faults { IfOk result (λ made. made.journal.faults ≡ J.faults journal) }
+        ensures refused { IfErr result (λ fault. (fault.clerk ≡ locked.clerk) × (fault.journal ≡ journal)) }
     {
         match Box::new(alloc, locked) {
-            Ok(locked) => Ok(LockedBox { locked }),
+            Ok(locked) => Ok(LockedBox {
+                locked,
+                journal: EntryJournal::new(alloc, journal),
+            }),
             Err(AllocFailed { value }) => Err(NewFault {
                 clerk: value.into_clerk(),
+                journal,
             }),
         }
     }
 
-    /// The value, out of its memory.
-    pub fn into_locked(self) -> Locked
-        ensures { result ≡ self }
+    /// The value, out of its memory, and the journal.
+    pub fn into_parts(self) -> (Locked, J)
+        ensures locked { result.0 ≡ self.state }
+        ensures pieces { J.pieces result.1 ≡ self.journal.pieces }
+        ensures faults { J.faults result.1 ≡ self.journal.faults }
+        ensures tells { self.journal.tells ≡ J.tells }
+        ensures journaled { IsJournaled self.state self.journal }
     {
-        let LockedBox { locked } = self;
-        Box::into_inner(locked)
+        let LockedBox { locked, journal } = self;
+        (Box::into_inner(locked), journal.into_journal())
     }
 }
 

@@ -1,10 +1,11 @@
 //! Nodes, which their clients share.
-ghost use Rattle.std.specs.Prelude.{◌≡◌, ◌≢◌, ◌<◌, ◌≤◌, ℕ, [], ◌∷◌, ◌++◌, All, AllPairs, Contains, IfOk, IfErr, OnErr, OnOk, length, map, slice_index};
+ghost use Rattle.std.specs.Prelude.{◌≡◌, ◌≢◌, ◌<◌, ◌≤◌, ℕ, [], ◌∷◌, ◌++◌, All, AllPairs, Contains, IsTrue, IfOk, IfErr, OnErr, OnOk, length, map, slice_index};
 ghost use Rattle.tact_base.specs.declared.limits.TheConstants.{CLIENTS, MOMENT_MAX};
 ghost use Rattle.run_model.specs.Histories.{IsPrefix};
 ghost use Rattle.run_model.specs.Ranges.{IsRequestInRange};
 ghost use Rattle.run_history.specs.Ticks.{entries_of};
 ghost use Rattle.replica_lock.specs.Locks.{IsLocked, IsWriteOrRead, made_place, turns_place};
+ghost use Rattle.replica_lock.specs.Journals.{IsJournaled, LeavesPieces, OnlyWhere};
 ghost use Rattle.replica_lock.specs.Rosters.{AreAllSessions, HasCounts, HasPlacesOf, IsRosterOf, IsSessionFaultOf};
 ghost use Rattle.replica_lock.specs.Sessions.{HasCalled, HasHeard, IsFaultSeen, IsSessionOf, own_calls};
 
@@ -22,19 +23,19 @@ use std::alloc::Global;
 use std::marker::Model;
 use std::sync::Wait;
 use tact_base::{CLIENTS, Items};
-use tact_io::Gate;
+use tact_io::{Gate, Journal};
 use weight_ledger::{Cell, CellFault, Tally};
 
 /// A replica that its clients share under a lock, with its part of the history. Its calls wait for the lock, and
 /// promise what they say where they return.
 #[derive(Drop)]
-pub struct Node<'d, G: Gate> {
+pub struct Node<'d, J: Journal, G: Gate> {
     pub(crate) desk: &'d Desk,
-    pub(crate) cell: Cell<LockedBox>,
+    pub(crate) cell: Cell<LockedBox<J>>,
     pub(crate) gate: G,
 }
 
-impl<'d, G: Gate> Model for Node<'d, G> {
+impl<'d, J: Journal, G: Gate> Model for Node<'d, J, G> {
     ghost use Rattle.replica_lock.specs.Nodes.{KeepsNode};
     ghost use Rattle.replica_lock.specs.Sessions.{NodeView};
 
@@ -45,32 +46,39 @@ impl<'d, G: Gate> Model for Node<'d, G> {
     ghost invariant = { λ n. KeepsNode n.desk.now n.cell };
 }
 
-impl<'d, G: Gate> Node<'d, G> {
-    /// The node of a clerk that drew nothing, and its roster. The setup is that of the clerk's desk. Each call of a
-    /// client passes the gate once. Want of memory is the only error, and gives the clerk back,
-    /// which may have seen more.
+impl<'d, J: Journal, G: Gate> Node<'d, J, G> {
+    /// The node of a clerk that drew nothing, and its roster. The setup is that of the clerk's desk, and the journal has
+    /// no piece where it tells them. Each call of a client passes the gate once. Want of memory is the only error, and
+    /// gives the clerk back, which may have seen more, and the journal, which has the same pieces and counted no fault.
     pub fn new(
         alloc: Global,
         desk: &'d Desk,
         config: &Config,
         mut clerk: Clerk,
+        journal: J,
         gate: G,
-    ) -> Result<(Node<'d, G>, Roster), NewFault>
+    ) -> Result<(Node<'d, J, G>, Roster), NewFault<J>>
         requires setup { desk.now.setup ≡ config.now }
         requires clerk { clerk.table ≡ desk.now.table }
         requires drawn { clerk.pairs ≡ [] }
+        requires empty { IsTrue J.tells → J.pieces journal ≡ [] }
         ensures node { IfOk result (λ made. (made.0.desk ≡ desk.now) × (made.0.replica ≡ clerk.replica)) }
         ensures roster { IfOk result (λ made. IsRosterOf made.0 made.1) }
         ensures clients { IfOk result (λ made. made.1.clients ≡ []) }
         ensures refused { IfErr result (λ fault. fault.clerk ≡ record clerk { seen = fault.clerk.seen }) }
+        ensures pieces { IfErr result (λ fault. IsTrue J.tells → J.pieces fault.journal ≡ []) }
+        ensures faults { IfErr result (λ fault. J.faults fault.journal ≡ J.faults journal) }
     {
         let seen = clerk.note(desk);
         clerk.learn(desk, seen);
         let note = clerk.note(desk);
         let replica = clerk.replica();
         let conits = config.conits();
-        let locked = Locked::new(alloc, config, clerk)?;
-        let locked = LockedBox::new(alloc, locked)?;
+        let locked = match Locked::new(alloc, config, clerk) {
+            Ok(locked) => locked,
+            Err(clerk) => return Err(NewFault { clerk, journal }),
+        };
+        let locked = LockedBox::new(alloc, locked, journal)?;
         match Cell::new(alloc, locked, conits, 2 * CLIENTS) {
             Ok((cell, tally)) => {
                 let roster = Roster {
@@ -82,9 +90,13 @@ impl<'d, G: Gate> Node<'d, G> {
                 };
                 Ok((Node { desk, cell, gate }, roster))
             }
-            Err(CellFault { value }) => Err(NewFault {
-                clerk: value.into_locked().into_clerk(),
-            }),
+            Err(CellFault { value }) => {
+                let (locked, journal) = value.into_parts();
+                Err(NewFault {
+                    clerk: locked.into_clerk(),
+                    journal,
+                })
+            }
         }
     }
 
@@ -119,16 +131,18 @@ impl<'d, G: Gate> Node<'d, G> {
     }
 
     /// Takes the lock, which it holds until the turn ends.
-    pub fn turn<R: Wait>(&self, rt: &R) -> Turn<'_, 'd, G>
+    pub fn turn<R: Wait>(&self, rt: &R) -> Turn<'_, 'd, J, G>
         ensures node { result.node ≡ self.now }
         ensures kept { IsLocked result.state }
+        ensures journaled { IsJournaled result.state result.journal }
     {
-        let (held, LockedBox { locked }) = self.cell.lock(rt);
+        let (held, LockedBox { locked, journal }) = self.cell.lock(rt);
         stand(&locked);
         Turn {
             node: self,
             held,
             locked,
+            journal,
         }
     }
 
@@ -154,12 +168,14 @@ impl<'d, G: Gate> Node<'d, G> {
         turn.end();
     }
 
-    /// Ends the node where sessions of it may be gone. It gives the node's clerk and the entries that it stored, which
-    /// are what the clerk drew. Where all sessions are at hand, `finish` says more.
-    pub fn end<R: Wait>(self, rt: &R, roster: Roster) -> Ended
+    /// Ends the node where sessions of it may be gone. It gives the node's clerk, the entries that it stored, which are
+    /// what the clerk drew, and the journal: where that tells its pieces, they are those of the stored entries, or of
+    /// these and of one more whose append failed. Where all sessions are at hand, `finish` says more.
+    pub fn end<R: Wait>(self, rt: &R, roster: Roster) -> Ended<J>
         requires roster { IsRosterOf self roster }
         ensures clerk { (result.clerk.table ≡ self.entry.desk.table) × (result.clerk.replica ≡ self.entry.replica) }
         ensures stored { result.stored ≡ result.clerk.pairs }
+        ensures journal { LeavesPieces J.tells (J.pieces result.journal) (J.faults result.journal) (entries_of result.stored) }
     {
         let Node {
             desk: _,
@@ -173,13 +189,14 @@ impl<'d, G: Gate> Node<'d, G> {
     /// Ends the node, with the sessions of all clients that have one, in the order in which they came. It gives the
     /// node's clerk and the entries that it stored, which are what the clerk drew. Of each session's client these have
     /// as many calls as the session has seen, and no calls of others.
-    pub fn finish<R: Wait>(self, rt: &R, roster: Roster, sessions: Vec<Session>) -> Ended
+    pub fn finish<R: Wait>(self, rt: &R, roster: Roster, sessions: Vec<Session>) -> Ended<J>
         requires roster { IsRosterOf self roster }
         requires sessions { All (IsSessionOf self) sessions.items }
         requires whole { map (λ session. session.client) sessions.items ≡ roster.clients }
         ensures clerk { (result.clerk.table ≡ self.entry.desk.table) × (result.clerk.replica ≡ self.entry.replica) }
         ensures stored { result.stored ≡ result.clerk.pairs }
         ensures sessions { AreAllSessions roster.clients sessions.items (entries_of result.stored) }
+        ensures journal { LeavesPieces J.tells (J.pieces result.journal) (J.faults result.journal) (entries_of result.stored) }
     {
         let Node {
             desk: _,
@@ -205,6 +222,7 @@ impl<'d, G: Gate> Node<'d, G> {
         ensures called { IfOk result (HasCalled self.now.desk.setup session.old session.new moment request) }
         ensures refused { OnErr result (HasHeard self.now.desk.setup session.old session.new) }
         ensures fault { IfErr result (IsFaultSeen session.new) }
+        ensures met { IfErr result (OnlyWhere (IsTrue J.tells → (met : J) × (J.faults met ≢ 0))) }
     {
         let mut turn = self.turn(rt);
         let answer = turn.call(session, moment, request);
@@ -214,20 +232,27 @@ impl<'d, G: Gate> Node<'d, G> {
 }
 
 // What the value behind a node's lock leaves.
-fn ended(locked: LockedBox) -> Ended
-    ensures clerk { result.clerk ≡ locked.clerk }
-    ensures stored { result.stored ≡ locked.stored }
-    ensures kept { IsLocked locked }
+fn ended<J: Journal>(kept: LockedBox<J>) -> Ended<J>
+    ensures clerk { result.clerk ≡ kept.state.clerk }
+    ensures stored { result.stored ≡ kept.state.stored }
+    ensures kept { IsLocked kept.state }
+    ensures journal { LeavesPieces J.tells (J.pieces result.journal) (J.faults result.journal) (entries_of result.stored) }
 {
-    let (clerk, pairs) = locked.into_locked().into_parts();
+    let (locked, journal) = kept.into_parts();
+    let (clerk, pairs) = locked.into_parts();
     Ended {
         clerk,
         stored: Stored { pairs },
+        journal,
     }
 }
 
 // A tally with the places of all clients: of the sessions' clients with what is there, of the others with nothing.
-fn gathered(cell: &Cell<LockedBox>, roster: Roster, sessions: Vec<Session>) -> Tally<Label>
+fn gathered<J: Journal>(
+    cell: &Cell<LockedBox<J>>,
+    roster: Roster,
+    sessions: Vec<Session>,
+) -> Tally<Label>
     requires cell { roster.cell ≡ cell.now.id }
     requires sessions { All (λ session. (session.cell ≡ cell.now.id) × (session.conits ≡ roster.conits)) sessions.items }
     requires whole { map (λ session. session.client) sessions.items ≡ roster.clients }
@@ -245,7 +270,11 @@ fn gathered(cell: &Cell<LockedBox>, roster: Roster, sessions: Vec<Session>) -> T
 }
 
 // Gives the places of a session's client to a tally that has nothing of it.
-fn give_places(cell: &Cell<LockedBox>, tally: &mut Tally<Label>, mut session: Session)
+fn give_places<J: Journal>(
+    cell: &Cell<LockedBox<J>>,
+    tally: &mut Tally<Label>,
+    mut session: Session,
+)
     requires cell { (tally.old.id ≡ cell.now.id) × (session.cell ≡ cell.now.id) }
     requires nothing { session.client < CLIENTS → HasCounts session.conits session.client 0 0 tally.old }
     ensures cell { tally.new.id ≡ cell.now.id }

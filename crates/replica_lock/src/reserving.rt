@@ -1,10 +1,10 @@
 //! What a client reserves, releases and spends.
-ghost use Rattle.std.specs.Prelude.{◌≡◌, ◌+◌, ◌-◌, ◌<◌, ◌≤◌, unsigned_abs, IfOk, IfErr, IsOk, OnErr, OnOk, false};
+ghost use Rattle.std.specs.Prelude.{◌≡◌, ◌≢◌, ◌+◌, ◌-◌, ◌<◌, ◌≤◌, unsigned_abs, IsTrue, IfOk, IfErr, IsErrOf, OnErr, OnOk, false};
 ghost use Rattle.tact_base.specs.declared.limits.TheConstants.{AMOUNT_MAX, MOMENT_MAX};
 ghost use Rattle.run_model.specs.Ranges.{IsOpInRange, IsWeightInRange};
 ghost use Rattle.run_model.specs.declared.call.Reply.TheVariants as reply;
 ghost use Rattle.run_model.specs.declared.call.Request.TheVariants as request;
-ghost use Rattle.replica_core.specs.States.{is_full};
+ghost use Rattle.replica_lock.specs.Journals.{IsJournaled, OnlyWhere};
 ghost use Rattle.replica_lock.specs.Allowances.{IsAllowanceOf};
 ghost use Rattle.replica_lock.specs.Answering.{HasAnswered, HasRefused, IsReserved};
 ghost use Rattle.replica_lock.specs.Locks.{IsLocked};
@@ -18,7 +18,7 @@ use crate::turn::Turn;
 use run_model::{Reply, Request};
 use std::sync::Wait;
 use tact_base::{Op, Weight};
-use tact_io::Gate;
+use tact_io::{Gate, Journal};
 
 /// What a reserve answers.
 #[derive(Drop)]
@@ -36,7 +36,7 @@ pub struct Accepted {
     pub stamp: u64,
 }
 
-impl<'n, 'd, G: Gate> Turn<'n, 'd, G> {
+impl<'n, 'd, J: Journal, G: Gate> Turn<'n, 'd, J, G> {
     /// Reserves an amount on a conit for a session's client: as much of each share as its later held writes may weigh,
     /// of either sign. The amount is a plain count. It is a call of the client,
     /// which is drawn and stored with its reply.
@@ -59,7 +59,11 @@ impl<'n, 'd, G: Gate> Turn<'n, 'd, G> {
         ensures refused { IfErr result (HasRefused self.old self.new session.old session.new) }
         ensures spare { self.old.state.spare ≤ self.new.state.spare + 1 }
         ensures room { self.old.state.room ≤ self.new.state.room + 1 }
-        ensures enough { is_full self.old.state.core ≡ false → 0 < self.old.state.spare → 0 < self.old.state.room → IsOk result }
+        ensures journaled { IsJournaled self.new.state self.new.journal }
+        ensures going { OnOk result ((self.old.journal.halted ≡ false) × (self.new.journal.halted ≡ false)) }
+        ensures met { IfErr result (OnlyWhere (IsTrue J.tells → (met : J) × (J.faults met ≢ 0))) }
+        ensures enough { 0 < self.old.state.spare → 0 < self.old.state.room → 0 < self.old.journal.room → IsErrOf result NodeFault.NoMemory → ⊥ }
+        ensures journal_room { self.old.journal.room ≤ self.new.journal.room + 1 }
     {
         let mut granted = self.node.empty(session, conit);
         let reply = self.ask(
@@ -96,7 +100,11 @@ impl<'n, 'd, G: Gate> Turn<'n, 'd, G> {
         ensures left { OnErr result (allowance.new ≡ allowance.old) }
         ensures spare { self.old.state.spare ≤ self.new.state.spare + 1 }
         ensures room { self.old.state.room ≤ self.new.state.room + 1 }
-        ensures enough { is_full self.old.state.core ≡ false → 0 < self.old.state.spare → 0 < self.old.state.room → IsOk result }
+        ensures journaled { IsJournaled self.new.state self.new.journal }
+        ensures going { OnOk result ((self.old.journal.halted ≡ false) × (self.new.journal.halted ≡ false)) }
+        ensures met { IfErr result (OnlyWhere (IsTrue J.tells → (met : J) × (J.faults met ≢ 0))) }
+        ensures enough { 0 < self.old.state.spare → 0 < self.old.state.room → 0 < self.old.journal.room → IsErrOf result NodeFault.NoMemory → ⊥ }
+        ensures journal_room { self.old.journal.room ≤ self.new.journal.room + 1 }
     {
         let amount = allowance.amount;
         let request = Request::Release {
@@ -135,7 +143,11 @@ impl<'n, 'd, G: Gate> Turn<'n, 'd, G> {
         ensures left { OnErr result (allowance.new ≡ allowance.old) }
         ensures spare { self.old.state.spare ≤ self.new.state.spare + 1 }
         ensures room { self.old.state.room ≤ self.new.state.room + 1 }
-        ensures enough { is_full self.old.state.core ≡ false → 0 < self.old.state.spare → 0 < self.old.state.room → IsOk result }
+        ensures journaled { IsJournaled self.new.state self.new.journal }
+        ensures going { OnOk result ((self.old.journal.halted ≡ false) × (self.new.journal.halted ≡ false)) }
+        ensures met { IfErr result (OnlyWhere (IsTrue J.tells → (met : J) × (J.faults met ≢ 0))) }
+        ensures enough { 0 < self.old.state.spare → 0 < self.old.state.room → 0 < self.old.journal.room → IsErrOf result NodeFault.NoMemory → ⊥ }
+        ensures journal_room { self.old.journal.room ≤ self.new.journal.room + 1 }
     {
         let reply = self.ask(session, allowance, moment, Request::Held { weight, op })?;
         match reply {
@@ -145,7 +157,7 @@ impl<'n, 'd, G: Gate> Turn<'n, 'd, G> {
     }
 }
 
-impl<'d, G: Gate> Node<'d, G> {
+impl<'d, J: Journal, G: Gate> Node<'d, J, G> {
     /// Reserves an amount on a conit, a plain count, in a turn of its own. `Full` and `NoMemory` make no entry, and
     /// leave the session as it was, but for what it has seen.
     pub fn reserve<R: Wait>(
@@ -164,6 +176,7 @@ impl<'d, G: Gate> Node<'d, G> {
             (HasCalled self.now.desk.setup session.old session.new moment (request.Reserve conit amount))) }
         ensures refused { OnErr result (HasHeard self.now.desk.setup session.old session.new) }
         ensures fault { IfErr result (IsFaultSeen session.new) }
+        ensures met { IfErr result (OnlyWhere (IsTrue J.tells → (met : J) × (J.faults met ≢ 0))) }
     {
         let mut turn = self.turn(rt);
         let answer = turn.reserve(session, moment, conit, amount);
@@ -189,6 +202,7 @@ impl<'d, G: Gate> Node<'d, G> {
         ensures allowance { OnOk result (allowance.new ≡ record allowance.old { amount = 0 }) }
         ensures refused { OnErr result (HasHeard self.now.desk.setup session.old session.new) }
         ensures fault { IfErr result (IsFaultSeen session.new) }
+        ensures met { IfErr result (OnlyWhere (IsTrue J.tells → (met : J) × (J.faults met ≢ 0))) }
         ensures left { OnErr result (allowance.new ≡ allowance.old) }
     {
         let mut turn = self.turn(rt);
@@ -221,6 +235,7 @@ impl<'d, G: Gate> Node<'d, G> {
         ensures allowance { OnOk result (allowance.new ≡ record allowance.old { amount = allowance.old.amount - unsigned_abs weight.nweight }) }
         ensures refused { OnErr result (HasHeard self.now.desk.setup session.old session.new) }
         ensures fault { IfErr result (IsFaultSeen session.new) }
+        ensures met { IfErr result (OnlyWhere (IsTrue J.tells → (met : J) × (J.faults met ≢ 0))) }
         ensures left { OnErr result (allowance.new ≡ allowance.old) }
     {
         let mut turn = self.turn(rt);

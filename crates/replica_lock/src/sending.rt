@@ -1,31 +1,33 @@
 //! What a node sends.
-ghost use Rattle.std.specs.Prelude.{◌≡◌, ◌≢◌, ◌<◌, ◌≤◌, ◌+◌, ◌^◌, slice_index, ◌↔◌, IsTrue, IfOk, IfErr, OnErr, OnOk};
+ghost use Rattle.std.specs.Prelude.{◌≡◌, ◌≢◌, ◌<◌, ◌≤◌, ◌+◌, ◌^◌, slice_index, false, ◌↔◌, IsTrue, IfOk, IfErr, OnErr, OnOk};
 ghost use Rattle.tact_base.specs.Setup.{IsSetup};
 ghost use Rattle.tact_base.specs.declared.limits.TheConstants.{CLIENTS, MOMENT_MAX};
 ghost use Rattle.run_model.specs.Histories.{IsPrefix};
 ghost use Rattle.run_model.specs.Runs.{IsDue, IsRun};
 ghost use Rattle.run_model.specs.declared.entry.Act.TheVariants as act;
 ghost use Rattle.anti_entropy.specs.Counts.{IsBehind};
-ghost use Rattle.replica_lock.specs.Faults.{IsNodeFaultOf};
+ghost use Rattle.replica_core.specs.States.{IsKept, is_full};
+ghost use Rattle.replica_lock.specs.Journals.{IsJournaled, IsRefusal, OnlyWhere};
 ghost use Rattle.run_history.specs.Ticks.{entries_of};
 ghost use Rattle.replica_lock.specs.Locks.{HasDrawn, HasEntered, IsLocked, IsOfDesk, entry_in, made_place, one_more_at, part_in};
 ghost use Rattle.replica_lock.specs.Parcels.{message_to};
 ghost use Rattle.replica_lock.specs.Sessions.{HasHeard, HasSent, IsFaultSeen, IsSessionOf};
 
 use crate::NodeFault;
-use crate::locked::{Locked, count_entry, draw, may_enter};
+use crate::locked::{Locked, count_entry, draw};
 use crate::locked_box::stand;
 use crate::node::Node;
 use crate::parcel::Parcel;
 use crate::session::Session;
 use crate::turn::{Turn, count_made};
+use entry_journal::EntryJournal;
 use run_history::{Clerk, Desk, Note};
 use run_model::{Act, Entry, Message};
 use std::sync::Wait;
 use tact_base::RoomyList;
-use tact_io::Gate;
+use tact_io::{Gate, Journal};
 
-impl<'d, G: Gate> Node<'d, G> {
+impl<'d, J: Journal, G: Gate> Node<'d, J, G> {
     /// Sends a message to another replica, in a turn of its own: by origin its writes begin past those that the other
     /// is known to have. The moment of the entry is the greater of the handed one and that of the replica's last entry.
     pub fn send<R: Wait>(
@@ -43,6 +45,7 @@ impl<'d, G: Gate> Node<'d, G> {
         ensures parcel { IfOk result (λ parcel. (parcel.desk ≡ self.now.desk.table) × (parcel.seen ≡ session.new.seen)) }
         ensures refused { OnErr result (HasHeard self.now.desk.setup session.old session.new) }
         ensures fault { IfErr result (IsFaultSeen session.new) }
+        ensures met { IfErr result (OnlyWhere (IsTrue J.tells → (met : J) × (J.faults met ≢ 0))) }
     {
         let mut turn = self.turn(rt);
         let answer = turn.send(session, moment, to);
@@ -51,7 +54,7 @@ impl<'d, G: Gate> Node<'d, G> {
     }
 }
 
-impl<'n, 'd, G: Gate> Turn<'n, 'd, G> {
+impl<'n, 'd, J: Journal, G: Gate> Turn<'n, 'd, J, G> {
     /// Whether a message to a replica is due: of some other origin it has more writes than it knows that replica to
     /// have. It makes no entry and takes no memory.
     pub fn due(&self, to: u32) -> bool
@@ -78,18 +81,27 @@ impl<'n, 'd, G: Gate> Turn<'n, 'd, G> {
         ensures seen { session.new.seen ≡ self.new.state.clerk.seen }
         ensures sent { IfOk result (λ parcel. HasSent self.old.node.desk.setup session.old session.new moment to parcel.message) }
         ensures refused { OnErr result (HasHeard self.old.node.desk.setup session.old session.new) }
-        ensures spare { self.new.state.spare ≡ self.old.state.spare }
+        ensures spare { self.old.state.spare ≤ self.new.state.spare }
         ensures room { self.old.state.room ≤ self.new.state.room + 1 }
-        ensures fault { IfErr result (IsNodeFaultOf self.old.state.core) }
+        ensures journaled { IsJournaled self.new.state self.new.journal }
+        ensures going { OnOk result ((self.old.journal.halted ≡ false) × (self.new.journal.halted ≡ false)) }
+        ensures fault { IfErr result (IsRefusal self.old.state.core self.old.journal self.new.journal) }
+        ensures met { IfErr result (OnlyWhere (IsTrue J.tells → (met : J) × (J.faults met ≢ 0))) }
+        ensures journal_room { self.old.journal.room ≤ self.new.journal.room + 1 }
         ensures fault_seen { IfErr result (IsFaultSeen session.new) }
         ensures err { OnErr result ((self.new.state.core ≡ self.old.state.core) × (self.new.state.stored ≡ self.old.state.stored) × (self.new.state.totals ≡ self.old.state.totals)) }
     {
         let node = self.node;
         stand(&self.locked);
         self.held.agree(&mut session.tally);
-        let parcel = self
-            .locked
-            .send(node.desk, &mut session.note, moment, session.client, to)?;
+        let parcel = self.locked.send(
+            &mut self.journal,
+            node.desk,
+            &mut session.note,
+            moment,
+            session.client,
+            to,
+        )?;
         count_made(&mut self.held, session);
         Ok(parcel)
     }
@@ -121,8 +133,9 @@ impl Locked {
     /// Sends a message to another replica, for a session that has seen what a note has. The clerk learns the note;
     /// where it isn't refused the sending is drawn and stored; then the note sees what the clerk has seen,
     /// and so has the parcel.
-    pub fn send(
+    pub fn send<J: Journal>(
         &mut self,
+        journal: &mut EntryJournal<J>,
         desk: &Desk,
         note: &mut Note,
         moment: u64,
@@ -135,6 +148,7 @@ impl Locked {
         requires client { client < CLIENTS }
         requires to { to < self.old.core.setup.replicas }
         requires other { to ≢ self.old.core.replica }
+        requires journaled { IsJournaled self.old journal.old }
         ensures kept { IsLocked self.new }
         ensures label { (self.new.core.setup ≡ self.old.core.setup) × (self.new.core.replica ≡ self.old.core.replica) × (self.new.clerk.table ≡ self.old.clerk.table) }
         ensures note { (note.new.table ≡ note.old.table) × (note.new.seen ≡ self.new.clerk.seen) }
@@ -144,51 +158,58 @@ impl Locked {
         ensures parcel { IfOk result (λ parcel. (parcel.desk ≡ desk.now.table) × (parcel.seen ≡ note.new.seen)) }
         ensures rooms { OnOk result (slice_index self.old.totals (made_place self.old.core.setup.conits client) + 1 < 2 ^ 64) }
         ensures totals { OnOk result (self.new.totals ≡ one_more_at (made_place self.old.core.setup.conits client) self.old.totals) }
-        ensures spare { self.new.spare ≡ self.old.spare }
+        ensures spare { self.old.spare ≤ self.new.spare }
         ensures room { self.old.room ≤ self.new.room + 1 }
-        ensures fault { IfErr result (IsNodeFaultOf self.old.core) }
+        ensures journaled { IsJournaled self.new journal.new }
+        ensures going { OnOk result ((journal.old.halted ≡ false) × (journal.new.halted ≡ false)) }
+        ensures fault { IfErr result (IsRefusal self.old.core journal.old journal.new) }
+        ensures met { IfErr result (OnlyWhere (IsTrue J.tells → (met : J) × (J.faults met ≢ 0))) }
+        ensures journal_room { journal.old.room ≤ journal.new.room + 1 }
         ensures err { OnErr result ((self.new.core ≡ self.old.core) × (self.new.stored ≡ self.old.stored) × (self.new.totals ≡ self.old.totals)) }
         ensures learnt { IsPrefix self.old.clerk.seen note.new.seen × IsPrefix note.old.seen note.new.seen }
     {
         self.learn(desk, note);
-        let answer = self.enter_send(desk, moment, client, to);
+        let answer = self.kept_send(journal, desk, moment, client, to);
         self.tell(desk, note);
         answer
     }
 
-    // Sends a message to another replica. The second of it, which the parcel carries, is made before anything changes.
-    fn enter_send(
+    // Sends a message to another replica, the one that is due, of which the parcel carries a second. There is room for
+    // it.
+    pub(crate) fn enter_send(
         &mut self,
         desk: &Desk,
         moment: u64,
         client: u32,
         to: u32,
-    ) -> Result<Parcel, NodeFault>
+        message: Message,
+        carried: Message,
+    ) -> Parcel
         requires desk { IsOfDesk desk.now self.old }
         requires moment { moment ≤ MOMENT_MAX }
         requires client { client < CLIENTS }
         requires to { to < self.old.core.setup.replicas }
         requires other { to ≢ self.old.core.replica }
+        requires sound { IsKept self.old.core }
+        requires free { is_full self.old.core ≡ false }
+        requires room { 0 < self.old.room }
+        requires message { message ≡ message_to self.old.core.setup self.old.core.replica (part_in self.old) moment to }
+        requires carried { carried ≡ message }
         ensures kept { IsLocked self.new }
         ensures label { (self.new.core.setup ≡ self.old.core.setup) × (self.new.core.replica ≡ self.old.core.replica) × (self.new.clerk.table ≡ self.old.clerk.table) }
-        ensures entered { IfOk result (λ parcel. HasEntered self.old self.new self.old.clerk.seen (entry_in self.old moment (act.Send parcel.message))) }
-        ensures message { IfOk result (λ parcel. parcel.message ≡ message_to self.old.core.setup self.old.core.replica (part_in self.old) moment to) }
-        ensures parcel { IfOk result (λ parcel. (parcel.desk ≡ desk.now.table) × (parcel.seen ≡ self.new.clerk.seen)) }
-        ensures rooms { OnOk result (slice_index self.old.totals (made_place self.old.core.setup.conits client) + 1 < 2 ^ 64) }
-        ensures totals { OnOk result (self.new.totals ≡ one_more_at (made_place self.old.core.setup.conits client) self.old.totals) }
+        ensures entered { HasEntered self.old self.new self.old.clerk.seen (entry_in self.old moment (act.Send message)) }
+        ensures parcel { result ≡ record { message = message; desk = desk.now.table; seen = self.new.clerk.seen } }
+        ensures rooms { slice_index self.old.totals (made_place self.old.core.setup.conits client) + 1 < 2 ^ 64 }
+        ensures totals { self.new.totals ≡ one_more_at (made_place self.old.core.setup.conits client) self.old.totals }
         ensures grows { IsPrefix self.old.clerk.seen self.new.clerk.seen }
         ensures run { IsRun desk.now.setup self.old.clerk.seen → IsRun desk.now.setup self.new.clerk.seen }
         ensures spare { self.new.spare ≡ self.old.spare }
         ensures room { self.old.room ≤ self.new.room + 1 }
-        ensures fault { IfErr result (IsNodeFaultOf self.old.core) }
-        ensures err { OnErr result ((self.new.core ≡ self.old.core) × (self.new.stored ≡ self.old.stored) × (self.new.totals ≡ self.old.totals) × (self.new.clerk ≡ self.old.clerk)) }
     {
-        may_enter(&self.replica)?;
         let replica = self.replica_number();
         let at = self.moment_after(moment);
-        let carried = self.replica.message(moment, to, &self.firsts)?;
-        self.stored.reserve(1)?;
-        let message = self.replica.send(moment, to, &self.firsts)?;
+        self.replica
+            .enter_sending(moment, to, &self.firsts, &message);
         let entry = Entry {
             replica,
             moment: at,
@@ -196,7 +217,7 @@ impl Locked {
         };
         let parcel = draw_sending(&mut self.clerk, &mut self.stored, desk, entry, carried);
         count_entry(&mut self.totals, self.conits, client);
-        Ok(parcel)
+        parcel
     }
 }
 

@@ -1,5 +1,5 @@
 //! What a node takes.
-ghost use Rattle.std.specs.Prelude.{◌≡◌, ◌<◌, ◌≤◌, ◌+◌, ◌^◌, slice_index, false, ◌↔◌, IsTrue, IfErr, OnErr, OnOk};
+ghost use Rattle.std.specs.Prelude.{◌≡◌, ◌≢◌, ◌<◌, ◌≤◌, ◌+◌, ◌^◌, length, slice_index, false, ◌↔◌, IsTrue, IfErr, OnErr, OnOk};
 ghost use Rattle.tact_base.specs.Setup.{IsSetup};
 ghost use Rattle.tact_base.specs.declared.limits.TheConstants.{CLIENTS, MOMENT_MAX};
 ghost use Rattle.run_model.specs.Histories.{IsPrefix};
@@ -9,26 +9,26 @@ ghost use Rattle.run_model.specs.declared.entry.Act.TheVariants as act;
 ghost use Rattle.replica_core.specs.Stands.{GoesOn, IsSameReplica};
 ghost use Rattle.replica_core.specs.States.{is_full};
 ghost use Rattle.replica_core.specs.Taking.{FitsAt};
-ghost use Rattle.replica_lock.specs.Faults.{IsNodeFaultOf};
+ghost use Rattle.replica_lock.specs.Journals.{IsJournaled, IsRefusal, OnlyWhere};
 ghost use Rattle.replica_lock.specs.Locks.{HasEntered, IsLocked, IsOfDesk, entry_in, made_place, one_more_at, part_in};
 ghost use Rattle.replica_lock.specs.Parcels.{HasSending, IsAnswerDue};
 ghost use Rattle.replica_lock.specs.Sessions.{HasHeard, HasMade, IsFaultSeen, IsSessionOf};
 
-use crate::locked::{Locked, count_entry, draw, may_enter};
+use crate::TakeFault;
+use crate::locked::{Locked, count_entry, draw};
 use crate::locked_box::stand;
 use crate::node::Node;
 use crate::parcel::Parcel;
 use crate::session::Session;
 use crate::turn::{Turn, count_made};
-use crate::{NodeFault, TakeFault};
+use entry_journal::EntryJournal;
 use replica_core::Replica;
 use run_history::{Desk, Note};
 use run_model::{Act, Entry, Message};
 use std::sync::Wait;
-use tact_base::RoomyList;
-use tact_io::Gate;
+use tact_io::{Gate, Journal};
 
-impl<'d, G: Gate> Node<'d, G> {
+impl<'d, J: Journal, G: Gate> Node<'d, J, G> {
     /// Takes a parcel that is addressed to its replica, in a turn of its own. The moment of the entry is the greater of
     /// the handed one and that of the replica's last entry. A refusal gives the parcel back, with the same message.
     pub fn take<R: Wait>(
@@ -46,6 +46,7 @@ impl<'d, G: Gate> Node<'d, G> {
         ensures told { IsPrefix parcel.seen session.new.seen }
         ensures refused { OnErr result (HasHeard self.now.desk.setup session.old session.new) }
         ensures fault { IfErr result (λ refused. IsFaultSeen session.new refused.fault) }
+        ensures met { IfErr result (λ refused. OnlyWhere (IsTrue J.tells → (met : J) × (J.faults met ≢ 0)) refused.fault) }
         ensures back { IfErr result (λ refused. refused.parcel ≡ parcel) }
     {
         let mut turn = self.turn(rt);
@@ -55,7 +56,7 @@ impl<'d, G: Gate> Node<'d, G> {
     }
 }
 
-impl<'n, 'd, G: Gate> Turn<'n, 'd, G> {
+impl<'n, 'd, J: Journal, G: Gate> Turn<'n, 'd, J, G> {
     /// Whether a message is to be answered by one to its sender: it has writes, or of some origin the replica has more
     /// than it tells of. It makes no entry and takes no memory.
     pub fn answer_due(&self, message: &Message) -> bool
@@ -84,9 +85,13 @@ impl<'n, 'd, G: Gate> Turn<'n, 'd, G> {
         ensures taken { OnOk result (HasMade self.old.node.desk.setup session.old session.new moment (act.Take parcel.message)) }
         ensures told { IsPrefix parcel.seen session.new.seen }
         ensures refused { OnErr result (HasHeard self.old.node.desk.setup session.old session.new) }
-        ensures spare { self.new.state.spare ≡ self.old.state.spare }
+        ensures spare { self.old.state.spare ≤ self.new.state.spare }
         ensures room { self.old.state.room ≤ self.new.state.room + 1 }
-        ensures fault { IfErr result (λ refused. IsNodeFaultOf self.old.state.core refused.fault) }
+        ensures journaled { IsJournaled self.new.state self.new.journal }
+        ensures going { OnOk result ((self.old.journal.halted ≡ false) × (self.new.journal.halted ≡ false)) }
+        ensures fault { IfErr result (λ refused. IsRefusal self.old.state.core self.old.journal self.new.journal refused.fault) }
+        ensures met { IfErr result (λ refused. OnlyWhere (IsTrue J.tells → (met : J) × (J.faults met ≢ 0)) refused.fault) }
+        ensures journal_room { self.old.journal.room ≤ self.new.journal.room + 1 }
         ensures fault_seen { IfErr result (λ refused. IsFaultSeen session.new refused.fault) }
         ensures back { IfErr result (λ refused. refused.parcel ≡ parcel) }
         ensures err { OnErr result ((self.new.state.core ≡ self.old.state.core) × (self.new.state.stored ≡ self.old.state.stored) × (self.new.state.totals ≡ self.old.state.totals)) }
@@ -94,7 +99,14 @@ impl<'n, 'd, G: Gate> Turn<'n, 'd, G> {
         let node = self.node;
         stand(&self.locked);
         self.held.agree(&mut session.tally);
-        self.locked.take(node.desk, &mut session.note, moment, session.client, parcel)?;
+        self.locked.take(
+            &mut self.journal,
+            node.desk,
+            &mut session.note,
+            moment,
+            session.client,
+            parcel,
+        )?;
         count_made(&mut self.held, session);
         Ok(())
     }
@@ -120,8 +132,9 @@ impl Locked {
     /// Takes a parcel that is addressed to its replica, for a session that has seen what a note has. The clerk learns
     /// that note and the parcel's; where it isn't refused the taking is drawn and stored; then the note sees what the
     /// clerk has seen.
-    pub fn take(
+    pub fn take<J: Journal>(
         &mut self,
+        journal: &mut EntryJournal<J>,
         desk: &Desk,
         note: &mut Note,
         moment: u64,
@@ -134,6 +147,7 @@ impl Locked {
         requires client { client < CLIENTS }
         requires parcel { parcel.desk ≡ desk.now.table }
         requires addressed { parcel.message.to ≡ self.old.core.replica }
+        requires journaled { IsJournaled self.old journal.old }
         ensures kept { IsLocked self.new }
         ensures label { (self.new.core.setup ≡ self.old.core.setup) × (self.new.core.replica ≡ self.old.core.replica) × (self.new.clerk.table ≡ self.old.clerk.table) }
         ensures note { (note.new.table ≡ note.old.table) × (note.new.seen ≡ self.new.clerk.seen) }
@@ -141,63 +155,55 @@ impl Locked {
         ensures entered { OnOk result (HasEntered self.old self.new note.old.seen (entry_in self.old moment (act.Take parcel.message))) }
         ensures rooms { OnOk result (slice_index self.old.totals (made_place self.old.core.setup.conits client) + 1 < 2 ^ 64) }
         ensures totals { OnOk result (self.new.totals ≡ one_more_at (made_place self.old.core.setup.conits client) self.old.totals) }
-        ensures spare { self.new.spare ≡ self.old.spare }
+        ensures spare { self.old.spare ≤ self.new.spare }
         ensures room { self.old.room ≤ self.new.room + 1 }
-        ensures fault { IfErr result (λ refused. IsNodeFaultOf self.old.core refused.fault) }
+        ensures journaled { IsJournaled self.new journal.new }
+        ensures going { OnOk result ((journal.old.halted ≡ false) × (journal.new.halted ≡ false)) }
+        ensures fault { IfErr result (λ refused. IsRefusal self.old.core journal.old journal.new refused.fault) }
+        ensures met { IfErr result (λ refused. OnlyWhere (IsTrue J.tells → (met : J) × (J.faults met ≢ 0)) refused.fault) }
+        ensures journal_room { journal.old.room ≤ journal.new.room + 1 }
         ensures back { IfErr result (λ refused. refused.parcel ≡ parcel) }
         ensures err { OnErr result ((self.new.core ≡ self.old.core) × (self.new.stored ≡ self.old.stored) × (self.new.totals ≡ self.old.totals)) }
         ensures learnt { IsPrefix self.old.clerk.seen note.new.seen × IsPrefix note.old.seen note.new.seen × IsPrefix parcel.seen note.new.seen }
     {
         self.learn(desk, note);
         self.learn(desk, &mut parcel.note);
-        let answer = self.enter_take(desk, moment, client, parcel);
+        let answer = self.kept_take(journal, desk, moment, client, parcel);
         self.tell(desk, note);
         answer
     }
 
-    // Takes a parcel whose message the clerk has seen sent to its replica.
-    fn enter_take(
-        &mut self,
-        desk: &Desk,
-        moment: u64,
-        client: u32,
-        parcel: Parcel,
-    ) -> Result<(), TakeFault>
+    // Takes a parcel whose message the clerk has seen sent to its replica. There is room for it.
+    pub(crate) fn enter_take(&mut self, desk: &Desk, moment: u64, client: u32, parcel: Parcel)
         requires desk { IsOfDesk desk.now self.old }
         requires moment { moment ≤ MOMENT_MAX }
         requires client { client < CLIENTS }
         requires addressed { parcel.message.to ≡ self.old.core.replica }
         requires sent { HasSending self.old.clerk.seen parcel.message }
         requires run { IsRun desk.now.setup self.old.clerk.seen }
+        requires free { is_full self.old.core ≡ false }
+        requires rooms { (length parcel.message.writes ≤ self.old.beside) × (0 < self.old.room) }
         ensures kept { IsLocked self.new }
         ensures label { (self.new.core.setup ≡ self.old.core.setup) × (self.new.core.replica ≡ self.old.core.replica) × (self.new.clerk.table ≡ self.old.clerk.table) }
-        ensures entered { OnOk result (HasEntered self.old self.new self.old.clerk.seen (entry_in self.old moment (act.Take parcel.message))) }
-        ensures rooms { OnOk result (slice_index self.old.totals (made_place self.old.core.setup.conits client) + 1 < 2 ^ 64) }
-        ensures totals { OnOk result (self.new.totals ≡ one_more_at (made_place self.old.core.setup.conits client) self.old.totals) }
+        ensures entered { HasEntered self.old self.new self.old.clerk.seen (entry_in self.old moment (act.Take parcel.message)) }
+        ensures rooms { slice_index self.old.totals (made_place self.old.core.setup.conits client) + 1 < 2 ^ 64 }
+        ensures totals { self.new.totals ≡ one_more_at (made_place self.old.core.setup.conits client) self.old.totals }
         ensures grows { IsPrefix self.old.clerk.seen self.new.clerk.seen }
         ensures run { IsRun desk.now.setup self.new.clerk.seen }
         ensures spare { self.new.spare ≡ self.old.spare }
         ensures room { self.old.room ≤ self.new.room + 1 }
-        ensures fault { IfErr result (λ refused. IsNodeFaultOf self.old.core refused.fault) }
-        ensures back { IfErr result (λ refused. refused.parcel ≡ parcel) }
-        ensures err { OnErr result ((self.new.core ≡ self.old.core) × (self.new.stored ≡ self.old.stored) × (self.new.totals ≡ self.old.totals) × (self.new.clerk ≡ self.old.clerk)) }
     {
         let replica = self.replica_number();
         let at = self.moment_after(moment);
-        match take_in(&mut self.replica, &mut self.stored, moment, &parcel.message) {
-            Ok(()) => {
-                let Parcel { message, note: _ } = parcel;
-                let entry = Entry {
-                    replica,
-                    moment: at,
-                    act: Act::Take { message },
-                };
-                draw(&mut self.clerk, &mut self.stored, desk, entry);
-                count_entry(&mut self.totals, self.conits, client);
-                Ok(())
-            }
-            Err(fault) => Err(TakeFault { fault, parcel }),
-        }
+        take_in(&mut self.replica, moment, &parcel.message);
+        let Parcel { message, note: _ } = parcel;
+        let entry = Entry {
+            replica,
+            moment: at,
+            act: Act::Take { message },
+        };
+        draw(&mut self.clerk, &mut self.stored, desk, entry);
+        count_entry(&mut self.totals, self.conits, client);
     }
 }
 
@@ -211,26 +217,18 @@ fn told_count(message: &Message, origin: u32) -> u64
     }
 }
 
-// The replica takes a message, once there is room to store the entry.
-fn take_in(
-    replica: &mut Replica,
-    stored: &mut RoomyList<(u64, Entry)>,
-    moment: u64,
-    message: &Message,
-) -> Result<(), NodeFault>
+// The replica takes a message, for whose writes there is room.
+fn take_in(replica: &mut Replica, moment: u64, message: &Message)
     requires moment { moment ≤ MOMENT_MAX }
-    requires fits { is_full replica.old.core ≡ false → FitsAt replica.old.core message.now }
-    ensures goes_on { OnOk result (GoesOn replica.old.core replica.new.core moment (λ part. act.Take message.now)) }
+    requires free { is_full replica.old.core ≡ false }
+    requires fits { FitsAt replica.old.core message.now }
+    requires room { length message.now.writes ≤ replica.old.beside }
+    ensures goes_on { GoesOn replica.old.core replica.new.core moment (λ part. act.Take message.now) }
     ensures same { IsSameReplica replica.old.core replica.new.core }
     ensures spare { replica.new.spare ≡ replica.old.spare }
-    ensures stored { stored.new.items ≡ stored.old.items }
-    ensures room { stored.old.room ≤ stored.new.room }
-    ensures enough { OnOk result (0 < stored.new.room) }
-    ensures fault { IfErr result (IsNodeFaultOf replica.old.core) }
-    ensures err { OnErr result (replica.new ≡ replica.old) }
 {
-    may_enter(replica)?;
-    stored.reserve(1)?;
-    replica.take(moment, message)?;
-    Ok(())
+    match replica.take(moment, message) {
+        Ok(()) => {}
+        Err(_) => unreachable!(),
+    }
 }

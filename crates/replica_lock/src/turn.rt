@@ -1,12 +1,11 @@
 //! Turns: the lock of a node, held over several calls.
-ghost use Rattle.std.specs.Prelude.{◌≡◌, ◌≢◌, ◌+◌, ◌*◌, ◌<◌, ◌≤◌, ◌^◌, slice_index, IfOk, IfErr, IsOk, OnErr, OnOk, false};
+ghost use Rattle.std.specs.Prelude.{◌≡◌, ◌≢◌, ◌+◌, ◌*◌, ◌<◌, ◌≤◌, ◌^◌, slice_index, IsTrue, IfOk, IfErr, IsErrOf, OnErr, OnOk, false};
 ghost use Rattle.tact_base.specs.declared.limits.TheConstants.{CLIENTS, CONITS_MAX, MOMENT_MAX};
 ghost use Rattle.run_model.specs.Histories.{moment_at, calls_in, IsPrefix};
 ghost use Rattle.run_model.specs.Ranges.{IsRequestInRange};
 ghost use Rattle.run_model.specs.declared.entry.Act.TheVariants as act;
-ghost use Rattle.replica_core.specs.States.{is_full};
-ghost use Rattle.replica_lock.specs.Faults.{IsNodeFaultOf};
-ghost use Rattle.replica_lock.specs.declared.fault.NodeFault.TheVariants as fault;
+ghost use Rattle.entry_journal.specs.EntryJournals.{IsUntouched};
+ghost use Rattle.replica_lock.specs.Journals.{IsJournaled, IsRefusal, IsRoomRefusal, OnlyWhere};
 ghost use Rattle.replica_lock.specs.Locks.{HasEntered, IsLocked, IsWriteOrRead, made_place, one_more_at, part_in, turns_place};
 ghost use Rattle.replica_lock.specs.Sessions.{HasCalled, HasHeard, IsFaultSeen, IsSessionOf};
 
@@ -16,43 +15,57 @@ use crate::locked::Locked;
 use crate::locked_box::{LockedBox, stand};
 use crate::node::Node;
 use crate::session::Session;
+use entry_journal::EntryJournal;
 use run_history::Note;
 use run_model::{Reply, Request};
 use std::marker::Model;
 use tact_base::CLIENTS;
-use tact_io::Gate;
+use tact_io::{Gate, Journal};
 use weight_ledger::{Held, Tally};
 
 /// The lock of a node, held over several calls. It can't be dropped: `end` gives the lock back.
-pub struct Turn<'n, 'd, G: Gate> {
-    pub(crate) node: &'n Node<'d, G>,
-    pub(crate) held: Held<'n, LockedBox>,
+pub struct Turn<'n, 'd, J: Journal, G: Gate> {
+    pub(crate) node: &'n Node<'d, J, G>,
+    pub(crate) held: Held<'n, LockedBox<J>>,
     pub(crate) locked: Box<Locked>,
+    pub(crate) journal: EntryJournal<J>,
 }
 
-impl<'n, 'd, G: Gate> Model for Turn<'n, 'd, G> {
+impl<'n, 'd, J: Journal, G: Gate> Model for Turn<'n, 'd, J, G> {
+    ghost use Rattle.replica_lock.specs.Journals.{IsJournaled};
     ghost use Rattle.replica_lock.specs.Nodes.{KeepsTurn};
     ghost use Rattle.replica_lock.specs.Sessions.{TurnView};
 
     ghost Value = { TurnView };
 
-    ghost view = { λ t. record { node = t.node.now; state = t.locked.value } };
+    ghost view = { λ t. record { node = t.node.now; state = t.locked.value; journal = t.journal } };
 
-    ghost invariant = { λ t. KeepsTurn t.node.now t.held t.locked.value };
+    ghost invariant = { λ t. KeepsTurn t.node.now t.held t.locked.value × IsJournaled t.locked.value t.journal };
 }
 
-impl<'n, 'd, G: Gate> Turn<'n, 'd, G> {
-    /// Makes room for `count` writes and stored entries, which lasts until the turn made so many entries. `NoMemory` is
-    /// its only error; it leaves everything as it was, but for what room there is.
+impl<'n, 'd, J: Journal, G: Gate> Turn<'n, 'd, J, G> {
+    /// Makes room for `count` writes and stored entries with their pieces in the journal, which lasts until the turn made
+    /// so many entries. `Halted` comes exactly where the node is halted, and else `NoMemory` alone; both leave everything
+    /// as it was, but for what room there is.
     pub fn make_room(&mut self, count: u64) -> Result<(), NodeFault>
         ensures node { self.new.node ≡ self.old.node }
         ensures kept { IsLocked self.new.state }
-        ensures state { self.new.state ≡ record self.old.state { spare = self.new.state.spare; room = self.new.state.room } }
-        ensures room { OnOk result ((count ≤ self.new.state.spare) × (count ≤ self.new.state.room)) }
-        ensures no_less { (self.old.state.spare ≤ self.new.state.spare) × (self.old.state.room ≤ self.new.state.room) }
-        ensures fault { IfErr result (λ told. told ≡ fault.NoMemory) }
+        ensures state { self.new.state ≡ record self.old.state { spare = self.new.state.spare; beside = self.new.state.beside; room = self.new.state.room } }
+        ensures journaled { IsJournaled self.new.state self.new.journal }
+        ensures journal { IsUntouched self.old.journal self.new.journal }
+        ensures going { OnOk result (self.old.journal.halted ≡ false) }
+        ensures room { OnOk result ((count ≤ self.new.state.spare) × (count ≤ self.new.state.room) × (count ≤ self.new.journal.room)) }
+        ensures no_less { (self.old.state.spare ≤ self.new.state.spare) × (self.old.state.room ≤ self.new.state.room) × (self.old.journal.room ≤ self.new.journal.room) }
+        ensures fault { IfErr result (IsRoomRefusal self.old.journal) }
+        ensures met { IfErr result (OnlyWhere (IsTrue J.tells → (met : J) × (J.faults met ≢ 0))) }
     {
-        self.locked.make_room(count)
+        stand(&self.locked);
+        if self.journal.is_halted() {
+            return Err(NodeFault::Halted);
+        }
+        self.locked.make_room(count)?;
+        self.journal.make_room(count)?;
+        Ok(())
     }
 
     // The session learns what a note has seen, and all that the clerk has seen.
@@ -62,6 +75,7 @@ impl<'n, 'd, G: Gate> Turn<'n, 'd, G> {
         ensures node { self.new.node ≡ self.old.node }
         ensures kept { IsLocked self.new.state }
         ensures state { self.new.state ≡ record self.old.state { clerk = record self.old.state.clerk { seen = self.new.state.clerk.seen } } }
+        ensures journal { self.new.journal ≡ self.old.journal }
         ensures seen { session.new.seen ≡ self.new.state.clerk.seen }
         ensures heard { HasHeard self.old.node.desk.setup session.old session.new }
         ensures note { IsPrefix note.seen session.new.seen }
@@ -97,8 +111,12 @@ impl<'n, 'd, G: Gate> Turn<'n, 'd, G> {
         ensures refused { OnErr result (HasHeard self.old.node.desk.setup session.old session.new) }
         ensures spare { self.old.state.spare ≤ self.new.state.spare + 1 }
         ensures room { self.old.state.room ≤ self.new.state.room + 1 }
-        ensures enough { is_full self.old.state.core ≡ false → 0 < self.old.state.spare → 0 < self.old.state.room → IsOk result }
-        ensures fault { IfErr result (IsNodeFaultOf self.old.state.core) }
+        ensures journaled { IsJournaled self.new.state self.new.journal }
+        ensures going { OnOk result ((self.old.journal.halted ≡ false) × (self.new.journal.halted ≡ false)) }
+        ensures enough { 0 < self.old.state.spare → 0 < self.old.state.room → 0 < self.old.journal.room → IsErrOf result NodeFault.NoMemory → ⊥ }
+        ensures journal_room { self.old.journal.room ≤ self.new.journal.room + 1 }
+        ensures fault { IfErr result (IsRefusal self.old.state.core self.old.journal self.new.journal) }
+        ensures met { IfErr result (OnlyWhere (IsTrue J.tells → (met : J) × (J.faults met ≢ 0))) }
         ensures fault_seen { IfErr result (IsFaultSeen session.new) }
         ensures err { OnErr result ((self.new.state.core ≡ self.old.state.core) × (self.new.state.stored ≡ self.old.state.stored) × (self.new.state.totals ≡ self.old.state.totals)) }
     {
@@ -113,15 +131,16 @@ impl<'n, 'd, G: Gate> Turn<'n, 'd, G> {
             node: _,
             held,
             locked,
+            journal,
         } = self;
-        held.end(LockedBox { locked });
+        held.end(LockedBox { locked, journal });
     }
 }
 
 // Counts a call among a client's turns and among the entries made for it,
 // in the totals and in the tally that owns them.
-pub(crate) fn count(
-    held: &mut Held<'_, LockedBox>,
+pub(crate) fn count<J: Journal>(
+    held: &mut Held<'_, LockedBox<J>>,
     tally: &mut Tally<Label>,
     conits: u32,
     client: u32,
@@ -143,7 +162,7 @@ pub(crate) fn count(
 }
 
 // Counts an entry that is no call among those made for a session's client, in the totals and at the session.
-pub(crate) fn count_made(held: &mut Held<'_, LockedBox>, session: &mut Session)
+pub(crate) fn count_made<J: Journal>(held: &mut Held<'_, LockedBox<J>>, session: &mut Session)
     requires cell { session.old.cell ≡ held.old.cell.id }
     requires places { (held.old.cell.shared ≡ session.old.conits) × (held.old.cell.owned ≡ 2 * CLIENTS) }
     requires agrees { slice_index held.old.book (made_place session.old.conits session.old.client) ≡ session.old.made }

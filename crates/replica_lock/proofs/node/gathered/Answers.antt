@@ -21,7 +21,7 @@ module _ (cell : TableId) (width : ℕ) (sessions : List SessionView) (done : Li
       (subst (λ items. Contains items session) split (Contains-append_right done (session ∷ rest) session (Contains-first session session rest refl)))).1
 
 pub give_places-requires-clause-nothing : goal.give_places-requires-clause-nothing
-give_places-requires-clause-nothing c among =
+give_places-requires-clause-nothing g c among =
     let done = c.loop-session.yielded in
     let session = c.in-Some.session in
     let old = c.loop-session.tally in
@@ -34,7 +34,7 @@ give_places-requires-clause-nothing c among =
     (not_done c.args.roster.conits c.args.roster.clients done session rest old old whole apart among (λ p turns made. (refl, λ owned. owned))))
 
 pub loop-session-preserved : goal.loop-session-preserved
-loop-session-preserved c =
+loop-session-preserved g c =
     let invariant = c.loop-session.invariant in
     let done = c.loop-session.yielded in
     let session = c.in-Some.session in
@@ -60,7 +60,7 @@ loop-session-preserved c =
     )
 
 pub returns-clause-among : goal.returns-clause-among
-returns-clause-among c =
+returns-clause-among g c =
     let invariant = c.loop-session.invariant in
     let all : c.loop-session.yielded ≡ c.args.sessions.items = grind (arith, common_steps) in
     subst (All (λ (client : ℕ). client < CLIENTS)) (ap (map (λ (s : SessionView). s.client)) all ∙ c.requires.whole)

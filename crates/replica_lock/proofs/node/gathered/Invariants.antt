@@ -5,7 +5,7 @@ use Rattle.replica_lock.specs.Sessions.{SessionView, own_calls}
 use Rattle.replica_lock.proofs.node.gathered.Given as goal
 
 abbrev pub invariant-loop-session : goal.invariant-loop-session
-invariant-loop-session l =
+invariant-loop-session g l =
     (l.yielded ++ l.session-iterator.rest.items ≡ l.fn.sessions.items)
     × (l.tally.id ≡ l.fn.cell.id)
     × All (λ (s : SessionView). s.client < CLIENTS) l.yielded

@@ -10,8 +10,8 @@ use Rattle.replica_lock.proofs.Allowing.{in_range-asked}
 use Rattle.replica_lock.proofs.Entering.{call_entry, IfOk-learnt}
 use Rattle.replica_lock.proofs.locked.Locked.call.Goals as goal
 
-pub enter_call-answer-requires-clause-in_range : goal.enter_call-answer-requires-clause-in_range
-enter_call-answer-requires-clause-in_range c =
+pub kept_call-answer-requires-clause-in_range : goal.kept_call-answer-requires-clause-in_range
+kept_call-answer-requires-clause-in_range g c =
     let locked = c.learn.new.self in
     let value = c.learn.ensures.value in
     let setup : locked.core.setup ≡ c.args.desk.now.setup = ap (λ (v : LockedView). v.core.setup) value ∙ c.requires.desk.1 in
@@ -22,12 +22,12 @@ enter_call-answer-requires-clause-in_range c =
     (subst (λ (v : LockedView). MayAskWith v.core.setup c.args.conit (reserved (part_in v) c.args.conit) c.args.request) (sym value) c.requires.asked)
 
 pub returns-clause-entered : goal.returns-clause-entered
-returns-clause-entered c = rw c.tell.ensures.value
-    (IfOk-learnt _ c.args.self.now c.learn.new.self c.enter_call-answer.new.self c.args.note.now.seen
+returns-clause-entered g c = rw c.tell.ensures.value
+    (IfOk-learnt _ c.args.self.now c.learn.new.self c.kept_call-answer.new.self c.args.note.now.seen
     (λ (v : LockedView) reply. call_entry v.core.replica (moment_at (part_in v) c.args.moment) c.args.client (calls_in (part_in v) c.args.client) c.args.request reply)
-    c.learn.ensures.value (λ x. refl) c.learn.ensures.mine c.learn.ensures.told c.enter_call-answer.ensures.entered)
+    c.learn.ensures.value (λ x. refl) c.learn.ensures.mine c.learn.ensures.told c.kept_call-answer.ensures.entered)
 
 pub returns-clause-learnt : goal.returns-clause-learnt
-returns-clause-learnt c =
-    let grows = c.enter_call-answer.ensures.grows in
+returns-clause-learnt g c =
+    let grows = c.kept_call-answer.ensures.grows in
     rw c.tell.ensures.note (IsPrefix-trans _ _ _ c.learn.ensures.mine grows, IsPrefix-trans _ _ _ c.learn.ensures.told grows)

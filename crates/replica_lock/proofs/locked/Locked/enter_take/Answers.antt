@@ -1,8 +1,9 @@
-use Rattle.std.proofs.Common.{replicate, sym, ap, ◌∙◌, subst}
+use Rattle.std.proofs.Common.{◌≡◌, false, replicate, sym, ap, ◌∙◌, subst}
 use Rattle.tact_base.specs.Setup.{Setup}
 use Rattle.run_model.specs.Histories.{moment_at}
 use Rattle.run_model.specs.Runs.{IsRun}
 use Rattle.run_model.specs.declared.entry.Act.TheVariants as act
+use Rattle.replica_core.specs.States.{is_full}
 use Rattle.replica_lock.specs.Locks.{HasEntered, LockedView, made_place, one_more_at, part_in}
 use Rattle.replica_lock.specs.Parcels.{HasSending, ParcelView}
 use Rattle.replica_lock.proofs.Entering.{HasEntered-drawn, drawn-grows}
@@ -18,14 +19,15 @@ take_in-requires-clause-fits c =
     (ap (λ (p : ParcelView). p.message.to) c.parcel.view_is ∙ c.requires.addressed ∙ ap (λ (v : LockedView). v.core.replica) is)
     (subst (λ (p : ParcelView). HasSending c.self.inside.clerk.seen p.message) (sym c.parcel.view_is)
     (subst (λ (v : LockedView). HasSending v.clerk.seen c.args.parcel.message) is c.requires.sent))
+    (subst (λ (v : LockedView). is_full v.core ≡ false) is c.requires.free)
 
 pub draw-requires-clause-due : goal.draw-requires-clause-due
 draw-requires-clause-due c =
     let is = sym c.self.view_is in
-    rw c.in-Ok.ensures.stored (made-due _ c.take_in.new.replica.core c.args.moment (act.Take c.parcel.inside.message) _ _ c.self.invariant.0 c.in-Ok.ensures.goes_on
+    (made-due _ c.take_in.new.replica.core c.args.moment (act.Take c.parcel.inside.message) _ _ c.self.invariant.0 c.take_in.ensures.goes_on
     (c.replica_number-replica.ensures ∙ ap (λ (v : LockedView). v.core.replica) is)
     (c.moment_after-at.ensures ∙ ap (λ (v : LockedView). moment_at (part_in v) c.args.moment) is)
-    _ (sym c.requires.desk.1 ∙ ap (λ (v : LockedView). v.core.setup) is ∙ sym c.in-Ok.ensures.same.0))
+    _ (sym c.requires.desk.1 ∙ ap (λ (v : LockedView). v.core.setup) is ∙ sym c.take_in.ensures.same.0))
 
 pub draw-requires-clause-sent : goal.draw-requires-clause-sent
 draw-requires-clause-sent c =
@@ -35,7 +37,7 @@ draw-requires-clause-sent c =
 pub count_entry-requires-clause-made : goal.count_entry-requires-clause-made
 count_entry-requires-clause-made c =
     let is = sym c.self.view_is in
-    rw c.self.invariant.1 (made-room _ c.take_in.new.replica.core c.args.moment (act.Take c.parcel.inside.message) _ _ c.self.invariant.0 c.in-Ok.ensures.goes_on
+    rw c.self.invariant.1 (made-room _ c.take_in.new.replica.core c.args.moment (act.Take c.parcel.inside.message) _ _ c.self.invariant.0 c.take_in.ensures.goes_on
     (c.replica_number-replica.ensures ∙ ap (λ (v : LockedView). v.core.replica) is)
     (c.moment_after-at.ensures ∙ ap (λ (v : LockedView). moment_at (part_in v) c.args.moment) is)
     c.args.client c.requires.client)
@@ -43,29 +45,29 @@ count_entry-requires-clause-made c =
 pub invariant_of-self : goal.invariant_of-self
 invariant_of-self c =
     let is = sym c.self.view_is in
-    let stands = made-stands _ c.take_in.new.replica.core c.args.moment (act.Take c.parcel.inside.message) _ _ c.self.invariant.0 c.in-Ok.ensures.goes_on
+    let stands = made-stands _ c.take_in.new.replica.core c.args.moment (act.Take c.parcel.inside.message) _ _ c.self.invariant.0 c.take_in.ensures.goes_on
     (c.replica_number-replica.ensures ∙ ap (λ (v : LockedView). v.core.replica) is)
     (c.moment_after-at.ensures ∙ ap (λ (v : LockedView). moment_at (part_in v) c.args.moment) is) in
     let totals = c.count_entry.ensures ∙ ap (λ n. one_more_at (made_place n c.args.client) c.self.inside.totals.items) c.self.invariant.1 in (
-      IsLocked-made _ _ _ c.args.client _ c.self.invariant.0 c.requires.client c.in-Ok.ensures.same c.draw.ensures.drawn c.draw.ensures.stored (quiet-take _) stands totals,
-      c.self.invariant.1 ∙ sym (ap (λ (s : Setup). s.conits) c.in-Ok.ensures.same.0),
-      c.self.invariant.2 ∙ sym (ap (λ (s : Setup). replicate s.replicas 0) c.in-Ok.ensures.same.0),
+      IsLocked-made _ _ _ c.args.client _ c.self.invariant.0 c.requires.client c.take_in.ensures.same c.draw.ensures.drawn c.draw.ensures.stored (quiet-take _) stands totals,
+      c.self.invariant.1 ∙ sym (ap (λ (s : Setup). s.conits) c.take_in.ensures.same.0),
+      c.self.invariant.2 ∙ sym (ap (λ (s : Setup). replicate s.replicas 0) c.take_in.ensures.same.0),
     )
 
-pub returns-in-Ok-clause-kept : goal.returns-in-Ok-clause-kept
-returns-in-Ok-clause-kept c =
+pub returns-clause-kept : goal.returns-clause-kept
+returns-clause-kept c =
     let is = sym c.self.view_is in
-    let stands = made-stands _ c.take_in.new.replica.core c.args.moment (act.Take c.parcel.inside.message) _ _ c.self.invariant.0 c.in-Ok.ensures.goes_on
+    let stands = made-stands _ c.take_in.new.replica.core c.args.moment (act.Take c.parcel.inside.message) _ _ c.self.invariant.0 c.take_in.ensures.goes_on
     (c.replica_number-replica.ensures ∙ ap (λ (v : LockedView). v.core.replica) is)
     (c.moment_after-at.ensures ∙ ap (λ (v : LockedView). moment_at (part_in v) c.args.moment) is) in
     let totals = c.count_entry.ensures ∙ ap (λ n. one_more_at (made_place n c.args.client) c.self.inside.totals.items) c.self.invariant.1 in
-    IsLocked-made _ _ _ c.args.client _ c.self.invariant.0 c.requires.client c.in-Ok.ensures.same c.draw.ensures.drawn c.draw.ensures.stored (quiet-take _) stands totals
+    IsLocked-made _ _ _ c.args.client _ c.self.invariant.0 c.requires.client c.take_in.ensures.same c.draw.ensures.drawn c.draw.ensures.stored (quiet-take _) stands totals
 
-pub returns-in-Ok-clause-entered : goal.returns-in-Ok-clause-entered
-returns-in-Ok-clause-entered c =
+pub returns-clause-entered : goal.returns-clause-entered
+returns-clause-entered c =
     let is = sym c.self.view_is in
     let before = Rattle.replica_lock.specs.declared.locked.Locked.TheView.view c.self.inside in
-    let same = made-spelled before c.take_in.new.replica.core c.args.moment (act.Take c.parcel.inside.message) _ _ c.self.invariant.0 c.in-Ok.ensures.goes_on
+    let same = made-spelled before c.take_in.new.replica.core c.args.moment (act.Take c.parcel.inside.message) _ _ c.self.invariant.0 c.take_in.ensures.goes_on
     (c.replica_number-replica.ensures ∙ ap (λ (v : LockedView). v.core.replica) is)
     (c.moment_after-at.ensures ∙ ap (λ (v : LockedView). moment_at (part_in v) c.args.moment) is) in
     let after : LockedView = record {
@@ -74,19 +76,20 @@ returns-in-Ok-clause-entered c =
       stored = c.draw.new.stored.items;
       totals = c.count_entry.new.totals.items;
       spare = c.take_in.new.replica.spare;
+      beside = c.take_in.new.replica.beside;
       room = c.draw.new.stored.room;
     } in
-    let entered = HasEntered-drawn before after _ c.args.client _ c.self.invariant.0 c.requires.client c.in-Ok.ensures.same c.draw.ensures.drawn c.draw.ensures.stored
+    let entered = HasEntered-drawn before after _ c.args.client _ c.self.invariant.0 c.requires.client c.take_in.ensures.same c.draw.ensures.drawn c.draw.ensures.stored
     (c.replica_number-replica.ensures ∙ ap (λ (v : LockedView). v.core.replica) is) (sym c.requires.desk.1 ∙ ap (λ (v : LockedView). v.core.setup) is) in
     rw (← c.self.view_is, ← c.parcel.view_is) (subst (λ e. HasEntered before after c.self.inside.clerk.seen e) (sym same) entered)
 
-pub returns-in-Ok-clause-grows : goal.returns-in-Ok-clause-grows
-returns-in-Ok-clause-grows c = rw (← c.self.view_is) (drawn-grows _ _ _ _ c.draw.ensures.drawn)
+pub returns-clause-grows : goal.returns-clause-grows
+returns-clause-grows c = rw (← c.self.view_is) (drawn-grows _ _ _ _ c.draw.ensures.drawn)
 
-pub returns-in-Ok-clause-rooms : goal.returns-in-Ok-clause-rooms
-returns-in-Ok-clause-rooms c =
+pub returns-clause-rooms : goal.returns-clause-rooms
+returns-clause-rooms c =
     let is = sym c.self.view_is in
-    rw (← c.self.view_is) (made-room _ c.take_in.new.replica.core c.args.moment (act.Take c.parcel.inside.message) _ _ c.self.invariant.0 c.in-Ok.ensures.goes_on
+    rw (← c.self.view_is) (made-room _ c.take_in.new.replica.core c.args.moment (act.Take c.parcel.inside.message) _ _ c.self.invariant.0 c.take_in.ensures.goes_on
     (c.replica_number-replica.ensures ∙ ap (λ (v : LockedView). v.core.replica) is)
     (c.moment_after-at.ensures ∙ ap (λ (v : LockedView). moment_at (part_in v) c.args.moment) is)
     c.args.client c.requires.client)

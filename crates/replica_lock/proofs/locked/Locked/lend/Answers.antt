@@ -4,11 +4,11 @@ use Rattle.replica_lock.proofs.Making.{OnOk-learnt}
 use Rattle.replica_lock.proofs.locked.Locked.lend.Goals as goal
 
 pub returns-clause-entered : goal.returns-clause-entered
-returns-clause-entered c = rw c.tell.ensures.value
-    (OnOk-learnt _ c.args.self.now c.learn.new.self c.enter_loan-answer.new.self c.args.note.now.seen c.args.moment (act_of c.args.loan)
-    c.learn.ensures.value c.learn.ensures.mine c.learn.ensures.told c.enter_loan-answer.ensures.entered)
+returns-clause-entered g c = rw c.tell.ensures.value
+    (OnOk-learnt _ c.args.self.now c.learn.new.self c.kept_loan-answer.new.self c.args.note.now.seen c.args.moment (act_of c.args.loan)
+    c.learn.ensures.value c.learn.ensures.mine c.learn.ensures.told c.kept_loan-answer.ensures.entered)
 
 pub returns-clause-learnt : goal.returns-clause-learnt
-returns-clause-learnt c =
-    let grows = c.enter_loan-answer.ensures.grows in
+returns-clause-learnt g c =
+    let grows = c.kept_loan-answer.ensures.grows in
     rw c.tell.ensures.note (IsPrefix-trans _ _ _ c.learn.ensures.mine grows, IsPrefix-trans _ _ _ c.learn.ensures.told grows)

@@ -8,23 +8,23 @@ use Rattle.replica_lock.specs.Parcels.{ParcelView}
 use Rattle.replica_lock.proofs.Making.{OnOk-learnt}
 use Rattle.replica_lock.proofs.locked.Locked.take.Goals as goal
 
-pub enter_take-answer-requires-clause-sent : goal.enter_take-answer-requires-clause-sent
-enter_take-answer-requires-clause-sent c =
+pub kept_take-answer-requires-clause-sent : goal.kept_take-answer-requires-clause-sent
+kept_take-answer-requires-clause-sent g c =
     WasSent-more c.parcel.inside.note.seen c.learn-2.new.self.clerk.seen (act.Take c.parcel.inside.message) c.learn-2.ensures.told c.parcel.invariant
 
 pub returns-clause-entered : goal.returns-clause-entered
-returns-clause-entered c = rw (c.tell.ensures.value, ← c.parcel.view_is)
-    (OnOk-learnt _ c.args.self.now c.learn-2.new.self c.enter_take-answer.new.self c.args.note.now.seen c.args.moment (act.Take c.parcel.inside.message)
+returns-clause-entered g c = rw (c.tell.ensures.value, ← c.parcel.view_is)
+    (OnOk-learnt _ c.args.self.now c.learn-2.new.self c.kept_take-answer.new.self c.args.note.now.seen c.args.moment (act.Take c.parcel.inside.message)
     (c.learn-2.ensures.value ∙ ap (λ (v : LockedView). record v { clerk = c.learn-2.new.self.clerk }) c.learn.ensures.value)
     (IsPrefix-trans _ _ _ c.learn.ensures.mine c.learn-2.ensures.mine) (IsPrefix-trans _ _ _ c.learn.ensures.told c.learn-2.ensures.mine)
-    c.enter_take-answer.ensures.entered)
+    c.kept_take-answer.ensures.entered)
 
 pub returns-clause-learnt : goal.returns-clause-learnt
-returns-clause-learnt c =
-    let grows = c.enter_take-answer.ensures.grows in
+returns-clause-learnt g c =
+    let grows = c.kept_take-answer.ensures.grows in
     let later = IsPrefix-trans _ _ _ c.learn-2.ensures.mine grows in
     rw c.tell.ensures.note (
       IsPrefix-trans _ _ _ c.learn.ensures.mine later,
       IsPrefix-trans _ _ _ c.learn.ensures.told later,
-      subst (λ (p : ParcelView). IsPrefix p.seen c.enter_take-answer.new.self.clerk.seen) c.parcel.view_is (IsPrefix-trans _ _ _ c.learn-2.ensures.told grows),
+      subst (λ (p : ParcelView). IsPrefix p.seen c.kept_take-answer.new.self.clerk.seen) c.parcel.view_is (IsPrefix-trans _ _ _ c.learn-2.ensures.told grows),
     )

@@ -10,7 +10,7 @@ use Rattle.replica_lock.proofs.node.Node.finish.Goals as goal
 
 pub returns-clause-sessions : goal.returns-clause-sessions
 returns-clause-sessions g c =
-    let locked = c.end.result in
+    let locked = c.end.result.state in
     let tally = c.gathered-tally.result in
     let roster = c.args.roster in
     let sessions = c.args.sessions.items in

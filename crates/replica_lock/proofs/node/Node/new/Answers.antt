@@ -15,7 +15,7 @@ invariant_of-roster g c = record {
       ∙ ap (part_of c.note-note.new.self.seen) c.replica-replica.ensures.replica ∙ c.replica-replica.ensures.own
       ∙ ap (λ (k : ClerkView). entries_of k.pairs) c.note-note.ensures.kept ∙ ap entries_of c.learn.ensures.drawn
       ∙ ap (λ (k : ClerkView). entries_of k.pairs) c.note-seen.ensures.kept ∙ ap entries_of c.requires.drawn;
-  apart = subst (AllPairs (λ (one other : ℕ). one ≢ other)) (sym c.new-in-Ok.ensures) (AllPairs-nil (λ (one other : ℕ). one ≢ other));
-  nothing = λ client among. counts-first _ client _ (ap (λ (t : TallyView). t.amounts) c.in-Ok.ensures.tally);
-  free = λ client among free. places-first _ client _ among (ap (λ (t : TallyView). t.amounts) c.in-Ok.ensures.tally) (ap (λ (t : TallyView). t.owns) c.in-Ok.ensures.tally);
+  apart = subst (AllPairs (λ (one other : ℕ). one ≢ other)) (sym c.new-in-Ok-new.ensures) (AllPairs-nil (λ (one other : ℕ). one ≢ other));
+  nothing = λ client among. counts-first _ client _ (ap (λ (t : TallyView). t.amounts) c.in-Ok-new.ensures.tally);
+  free = λ client among free. places-first _ client _ among (ap (λ (t : TallyView). t.amounts) c.in-Ok-new.ensures.tally) (ap (λ (t : TallyView). t.owns) c.in-Ok-new.ensures.tally);
 }

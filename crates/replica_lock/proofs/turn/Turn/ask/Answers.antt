@@ -19,7 +19,7 @@ use Rattle.replica_lock.proofs.turn.Turn.ask.Goals as goal
 leaves : (g : _) (c : goal.In-Err g)
     → HasLeft c.self.inside.node.now c.self.inside.locked.value (the_view c.session.inside) (noted (the_view c.session.inside) c.agree.new.tally c.call-answer.new.note)
 leaves g c =
-    let agrees = agreed c.self.view_is c.session.view_is c.requires.session c.self.invariant c.stand.ensures c.session.invariant c.agree.ensures.owned c.agree.ensures.tally refl in
+    let agrees = agreed c.self.view_is c.session.view_is c.requires.session c.self.invariant.0 c.stand.ensures c.session.invariant c.agree.ensures.owned c.agree.ensures.tally refl in
     let told = c.in-Err.ensures in
     left c.call-answer.new.note agrees told.kept (rw c.deref_mut.ensures.value at told.err.0)
     (rw c.deref_mut.ensures.value at told.err.1) told.note told.learnt.1 c.node.view_is told.run
@@ -37,7 +37,7 @@ move_total-requires-clause-enough g c =
 pub invariant_of-session : goal.invariant_of-session
 invariant_of-session g c =
     let before : SessionView = the_view c.session.inside in
-    let knows = tells (agreed c.self.view_is c.session.view_is c.requires.session c.self.invariant c.stand.ensures c.session.invariant c.agree.ensures.owned c.agree.ensures.tally refl) in
+    let knows = tells (agreed c.self.view_is c.session.view_is c.requires.session c.self.invariant.0 c.stand.ensures c.session.invariant c.agree.ensures.owned c.agree.ensures.tally refl) in
     let told = c.in-Ok.ensures in
     let pushed = calls-entered _ c.call-answer.new.self _ _ _ _ _ _ (rw c.deref_mut.ensures.value at told.entered) in
     KeepsSession-counted before c.session.inside.tally c.agree.new.tally c.count.new.tally _ _ _ c.session.invariant c.agree.ensures.tally c.count.ensures.id c.count.ensures.turns c.count.ensures.made
@@ -57,7 +57,7 @@ returns-in-Ok-clause-moved g c =
 
 pub returns-in-Ok-clause-answered : goal.returns-in-Ok-clause-answered
 returns-in-Ok-clause-answered g c =
-    let agrees = agreed c.self.view_is c.session.view_is c.requires.session c.self.invariant c.stand.ensures c.session.invariant c.agree.ensures.owned c.agree.ensures.tally refl in
+    let agrees = agreed c.self.view_is c.session.view_is c.requires.session c.self.invariant.0 c.stand.ensures c.session.invariant c.agree.ensures.owned c.agree.ensures.tally refl in
     let knows = tells agrees in
     let told = c.in-Ok.ensures in
     let value = session_as c.session.inside.replica c.session.inside.conits c.session.inside.client (c.session.inside.calls + 1) (c.session.inside.made + 1) _ _ _ _ _ _
@@ -72,7 +72,7 @@ returns-in-Ok-clause-answered g c =
       totals = (rw c.deref_mut.ensures.value at told.totals)
           ∙ ap (λ n. set (one_more_at (made_place n client) (one_more_at (turns_place n client) c.self.inside.locked.value.totals))
           conit (reserved (part_in c.call-answer.new.self) conit)) (sym width);
-      called = HasCalled-entered _ c.self.invariant.keeps.sound _ c.call-answer.new.self _ _ _ _ _ knows.setup knows.replica knows.calls knows.known entered value;
+      called = HasCalled-entered _ c.self.invariant.0.keeps.sound _ c.call-answer.new.self _ _ _ _ _ knows.setup knows.replica knows.calls knows.known entered value;
     })
 
 pub returns-in-Err-clause-refused : goal.returns-in-Err-clause-refused
@@ -86,5 +86,5 @@ returns-in-Err-clause-refused g c =
       totals = rw c.deref_mut.ensures.value at told.err.2;
       heard = of.heard;
       fault = fault;
-      fault_seen = of.fault c.in-Err.fault fault;
+      fault_seen = of.fault c.self.inside.journal c.call-answer.new.journal c.in-Err.fault fault;
     })

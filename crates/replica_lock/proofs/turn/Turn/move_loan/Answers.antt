@@ -12,14 +12,14 @@ use Rattle.replica_lock.proofs.turn.Turn.move_loan.Goals.{After-from_residual}
 leaves : (g : _) (c : After-from_residual g)
     → HasLeft c.self.inside.node.now c.self.inside.locked.value (the_view c.session.inside) (noted (the_view c.session.inside) c.agree.new.tally c.lend.new.note)
 leaves g c =
-    let agrees = agreed c.self.view_is c.session.view_is c.requires.session c.self.invariant c.stand.ensures c.session.invariant c.agree.ensures.owned c.agree.ensures.tally refl in
+    let agrees = agreed c.self.view_is c.session.view_is c.requires.session c.self.invariant.0 c.stand.ensures c.session.invariant c.agree.ensures.owned c.agree.ensures.tally refl in
     let told = c.in_err-lend.ensures in
     left c.lend.new.note agrees told.kept
     (rw c.deref_mut.ensures.value at told.err.0) (rw c.deref_mut.ensures.value at told.err.1) told.note told.learnt.1 c.node.view_is told.run
 
 pub returns-clause-made : goal.returns-clause-made
 returns-clause-made g c =
-    let agrees = agreed c.self.view_is c.session.view_is c.requires.session c.self.invariant c.stand.ensures c.session.invariant c.agree.ensures.owned c.agree.ensures.tally refl in
+    let agrees = agreed c.self.view_is c.session.view_is c.requires.session c.self.invariant.0 c.stand.ensures c.session.invariant c.agree.ensures.owned c.agree.ensures.tally refl in
     rw (c.count_made.ensures.session, ← c.self.view_is, ← c.session.view_is)
     (made c.lend.new.note c.args.moment (act_of c.args.loan) agrees c.in_ok-lend.ensures.note
     (rw c.deref_mut.ensures.value at c.in_ok-lend.ensures.entered) ((quiet-loan c.args.loan).calls c.session.inside.client))
@@ -32,4 +32,4 @@ returns-in_err-lend-clause-refused g c =
 pub returns-in_err-lend-clause-fault_seen : goal.returns-in_err-lend-clause-fault_seen
 returns-in_err-lend-clause-fault_seen g c =
     let p = err_from_is_err_and c.from_residual.result c.from_residual.ensures.1 in
-    rw (p.1, p.2, ← c.self.view_is) ((leaves g c).loan_fault c.args.loan c.in_err-lend.field-0.0 (rw c.deref_mut.ensures.value at c.in_err-lend.ensures.fault))
+    rw (p.1, p.2, ← c.self.view_is) ((leaves g c).loan_fault c.args.loan c.self.inside.journal c.lend.new.journal c.in_err-lend.field-0.0 (rw c.deref_mut.ensures.value at c.in_err-lend.ensures.fault))

@@ -1,4 +1,4 @@
-use Rattle.std.proofs.Common.{refl, ap, subst}
+use Rattle.std.proofs.Common.{rules, ap, subst}
 use Rattle.run_model.specs.Histories.{moment_at}
 use Rattle.run_model.specs.declared.call.Request.TheVariants as request
 use Rattle.replica_lock.specs.Allowances.{AllowanceView}
@@ -27,5 +27,9 @@ returns-in_default g c =
       refused = tt;
       spare = c.ask.ensures.spare;
       room = c.ask.ensures.room;
-      enough = λ free spare room. refl;
+      journaled = c.ask.ensures.journaled;
+      going = c.in_ok-reply.ensures.going;
+      met = tt;
+      enough = λ spare room journal told. search rules;
+      journal_room = c.ask.ensures.journal_room;
     }
