@@ -1,6 +1,6 @@
 -- What a closed history has of a replica and of a client: told by a front of it that was seen, by the pairs that the
 -- replica's clerk drew, and by the setup.
-use Rattle.std.proofs.Common.{◌≡◌, ℕ, ◌<◌, ◌≤◌, ◌==◌, false, List, [], ◌∷◌, flat_map, length, map, refl, sym, ap, ◌∙◌, subst, ne_eqb, arith}
+use Rattle.std.proofs.Common.{◌≡◌, ℕ, ◌<◌, ◌≤◌, ◌==◌, false, List, [], flat_map, length, map, refl, sym, ap, ◌∙◌, subst, ne_eqb, arith}
 use Rattle.std.proofs.lemmas.List.Elements.{All-weaker}
 use Rattle.std.proofs.lemmas.List.Folds.{flat_map-map}
 use Rattle.tact_base.specs.Roomy.{Roomy}

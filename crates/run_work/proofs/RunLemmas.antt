@@ -25,9 +25,10 @@ use Rattle.work_load.specs.Ranges.{IsClientAfter}
 use Rattle.work_load.specs.Workloads.{Workload}
 use Rattle.work_load.specs.declared.plan.Client.{Client}
 use Rattle.work_load.specs.declared.plan.Item.{Item}
-use Rattle.run_work.specs.Ends.{AreDrawn, HaveEnded, HasNoted, IsStopBy, noted_calls}
+use Rattle.run_work.specs.Ends.{AreDrawn, HaveEnded, HasNoted, noted_calls}
 use Rattle.run_work.specs.Finished.{HasFinished, IsFaultBy, IsFaultOf, IsHeard, IsStopHeard}
 use Rattle.run_work.specs.Runs.{IsDoneRun, IsFullRun, IsRunOf, IsStoppedRun}
+use Rattle.run_work.specs.Stops.{IsStopBy}
 use Rattle.run_work.specs.declared.closing.Drawn.{Drawn}
 use Rattle.run_work.specs.declared.leaving.Stop.{Stop}
 use Rattle.run_work.specs.declared.run.Finished.{Finished}
@@ -235,6 +236,7 @@ module _ (plan : Workload) (tries : ℕ) (desk : DeskView) (finished : Finished)
           → IsStoppedRun plan tries told
       by_fault stop (node.Full count stamp) stopped front full is_told = subst (IsStoppedRun plan tries) (sym is_told) (full_run stop count stamp stopped front full)
       by_fault stop node.NoMemory stopped front full is_told = subst (IsStoppedRun plan tries) (sym is_told) tt
+      by_fault stop other stopped front full is_told = absurd full
 
       go : (stop : Option Stop)
           → finished.stop ≡ stop
@@ -244,6 +246,13 @@ module _ (plan : Workload) (tries : ℕ) (desk : DeskView) (finished : Finished)
       go None same of heard = absurd of
       go (Some stop) same of heard =
           by_fault stop stop.fault same (heard_in desk.setup finished.drawn.clerks.items history stop.note some is heard.1) heard.0.1 of
+
+-- where a run stopped, some part tells why
+pub some_part : (desk : DeskView) (clerks : List ClerkView) (stop : Option Stop)
+    → IfSome stop (IsStopHeard desk clerks)
+    → IfSome stop (λ (stop : Stop). (part : List Entry) × IsStopBy stop.fault part)
+some_part desk clerks None heard = tt
+some_part desk clerks (Some stop) heard = (part_of stop.note.seen stop.replica, heard.0.1)
 
 -- what a run's end gives of each outcome
 pub done_by : (plan : Workload) (tries : ℕ) (run : List Entry) (stop : Option Stop) (result : Result (List Entry) RunFault)

@@ -4,16 +4,16 @@ use Rattle.std.specs.List.{AllZip}
 use Rattle.run_model.specs.Histories.{calls_of, part_of}
 use Rattle.tact_base.specs.Setup.{Setup}
 use Rattle.run_history.specs.Seats.{DeskView, NoteView}
-use Rattle.replica_lock.specs.Sessions.{IsFaultSeen, NodeView, SessionView, own_calls}
+use Rattle.replica_lock.specs.Sessions.{NodeView, SessionView, own_calls}
 use Rattle.replica_lock.specs.declared.fault.NodeFault.{NodeFault}
-use Rattle.replica_lock.specs.declared.fault.NodeFault.TheVariants as fault
 use Rattle.work_load.specs.Attempts.{Attempts, Begun}
 use Rattle.work_load.proofs.AttemptLemmas.{Begun-from_Attempts}
 use Rattle.run_work.proofs.Zips.{AllZip-join, AllZip-less, AllZip-size}
 use Rattle.work_load.specs.declared.plan.Client.{Client}
-use Rattle.run_work.specs.Ends.{HasNoted, HasStopped, HaveEnded, HaveServed, IsStop, IsStopBy, note_of, stop_of}
+use Rattle.run_work.specs.Ends.{HasNoted, HasStopped, HaveEnded, HaveServed, IsStop, note_of, stop_of}
 use Rattle.run_work.specs.Serving.{IsClientServed}
 use Rattle.run_work.specs.Sites.{AreSites, SitesView}
+use Rattle.run_work.specs.Stops.{IsStopBy, IsStopSeen}
 use Rattle.run_work.specs.Working.{HasEnded, HasWorked, WorkerView}
 use Rattle.run_work.specs.declared.leaving.Stop.{Stop}
 
@@ -101,11 +101,9 @@ HaveServed-more setup clients notes worker before after is has stopped served no
 -- where a worker ended with a fault, it stopped
 stops_by : (told : NodeFault) (session : SessionView) (replica : ℕ)
     → session.replica ≡ replica
-    → IsFaultSeen session told
+    → IsStopSeen session told
     → IsStopBy told (part_of session.seen replica)
-stops_by (fault.Full count stamp) session replica at seen =
-    subst (λ (r : ℕ). IsStopBy (fault.Full count stamp) (part_of session.seen r)) at seen
-stops_by fault.NoMemory session replica at seen = tt
+stops_by told session replica at seen = subst (λ (r : ℕ). IsStopBy told (part_of session.seen r)) at seen
 
 pub IsStop-more : (tries : ℕ) (desk : DeskView) (worker : WorkerView) (before after : Option Stop)
     → worker.node.desk ≡ desk

@@ -4,12 +4,13 @@ use Rattle.run_history.specs.Seats.{DeskView}
 use Rattle.work_load.specs.Attempts.{Attempts, Begun}
 use Rattle.work_load.specs.declared.plan.Client.{Client}
 use Rattle.work_load.specs.declared.plan.Item.{Item}
-use Rattle.replica_lock.specs.Sessions.{IsFaultSeen, IsSessionOf, NodeView, SessionView, own_calls}
+use Rattle.replica_lock.specs.Sessions.{IsSessionOf, NodeView, SessionView, own_calls}
 use Rattle.replica_lock.specs.declared.fault.NodeFault.{NodeFault}
 use Rattle.run_work.specs.Holding.{IsLater}
 use Rattle.run_work.specs.Served.{AreLent}
 use Rattle.run_work.specs.Serving.{AreHeededBut, HasLent, IsClientServed, IsHeededBut}
 use Rattle.run_work.specs.Sites.{SitesView}
+use Rattle.run_work.specs.Stops.{IsStopSeen}
 use Rattle.run_work.specs.Trying.{HasBegun, HasDone}
 use Rattle.run_work.specs.Working.{HasEnded, HasWorked, IsBusyFor, IsFresh, IsWorker, WorkerView}
 use Rattle.run_work.proofs.GoingOn.{IsSessionOf-later, client-later, replica-later}
@@ -114,7 +115,7 @@ module _ (tries : ℕ) (before : WorkerView) (place : ℕ) (now : WorkerView) (w
     pub HasWorked-fault : (fault : NodeFault)
         → 0 < tries
         → HasBegun tries here (own_calls now.session) (own_calls after.session)
-        → IsFaultSeen after.session fault
+        → IsStopSeen after.session fault
         → (sites : SitesView)
         → IsFresh sites before
         → HasWorked sites tries (record after { end = Some fault })

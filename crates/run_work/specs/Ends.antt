@@ -2,16 +2,14 @@
 use Rattle.std.specs.Prelude.{◌≡◌, ◌≢◌, ◌⊎◌, ℕ, ◌+◌, ◌*◌, ◌<◌, ◌≤◌, ◌==◌, ◌&&◌, ◌||◌, Bool, nat_lt, List, [], ◌∷◌, ◌++◌, All, AllPairs, Contains, filter, fold, length, map, sum_by, get_or, if◌then◌else◌, Option, Some, None}
 use Rattle.std.specs.List.{AllZip}
 use Rattle.tact_base.specs.Setup.{Setup}
-use Rattle.tact_base.specs.declared.limits.TheConstants.{CLIENTS, HISTORY_MAX}
+use Rattle.tact_base.specs.declared.limits.TheConstants.{CLIENTS}
 use Rattle.run_model.specs.Histories.{calls_in, calls_of, part_of}
-use Rattle.run_model.specs.Taking.{clock}
 use Rattle.run_model.specs.declared.entry.Entry.{Entry}
 use Rattle.run_history.specs.Seats.{ClerkView, DeskView, NoteView}
 use Rattle.run_history.specs.Ticks.{entries_of}
 use Rattle.replica_lock.specs.Rosters.{IsRosterOf}
 use Rattle.replica_lock.specs.Sessions.{IsSessionOf, NodeView, SessionView, own_calls}
 use Rattle.replica_lock.specs.declared.fault.NodeFault.{NodeFault}
-use Rattle.replica_lock.specs.declared.fault.NodeFault.TheVariants as fault
 use Rattle.work_load.specs.Attempts.{Attempts, Begun, is_call}
 use Rattle.work_load.specs.Clients.{is_of}
 use Rattle.work_load.specs.declared.plan.Client.{Client}
@@ -19,6 +17,7 @@ use Rattle.postbox.specs.Posts.{PostboxView}
 use Rattle.atomic_table.specs.Seated.{TableId}
 use Rattle.run_work.specs.Serving.{IsClientServed}
 use Rattle.run_work.specs.Sites.{SitesView}
+use Rattle.run_work.specs.Stops.{IsStopBy}
 use Rattle.run_work.specs.Working.{WorkerView}
 use Rattle.run_work.specs.declared.closing.Drawn.{Drawn}
 use Rattle.run_work.specs.declared.leaving.Stop.{Stop}
@@ -76,11 +75,7 @@ pub record AreWhole (clients : List Client) (notes : List NoteView) (nodes : Lis
 abbrev pub AreKeys : List PostboxView → List TableId → Type 0
 AreKeys inboxes keys = keys ≡ map (λ (inbox : PostboxView). inbox.cell) inboxes
 
--- what a stop tells of what the session had seen: full, where the replica made as many entries as it may, with both numbers
-abbrev pub IsStopBy : NodeFault → List Entry → Type 0
-IsStopBy (fault.Full count stamp) part = (length part ≡ HISTORY_MAX) × (count ≡ HISTORY_MAX) × (stamp ≡ clock part)
-IsStopBy fault.NoMemory part = Unit {0}
-
+-- a stop that its note has seen
 abbrev pub IsStop : DeskView → Stop → Type 0
 IsStop desk stop = (stop.note.table ≡ desk.table) × IsStopBy stop.fault (part_of stop.note.seen stop.replica)
 

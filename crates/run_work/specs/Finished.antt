@@ -49,6 +49,7 @@ pub record HasFinished (plan : Workload) (tries : ℕ) (desk : DeskView) (finish
 abbrev pub IsFaultBy : List Entry → Stop → NodeFault → RunFault → Type 0
 IsFaultBy run stop (node.Full count stamp) told = told ≡ fault.Full stop.replica count stamp run
 IsFaultBy run stop node.NoMemory told = told ≡ fault.NoMemory
+IsFaultBy run stop other told = ⊥
 
 abbrev pub IsFaultOf : List Entry → Option Stop → RunFault → Type 0
 IsFaultOf run (Some stop) told = IsFaultBy run stop stop.fault told

@@ -1,4 +1,5 @@
 pub mod Holding
+pub mod Stops
 pub mod Trying
 pub mod Sites
 pub mod Working

@@ -3,7 +3,7 @@ use Rattle.std.specs.Prelude.{◌≡◌, ℕ, ◌+◌, ◌*◌, ◌≤◌, List,
 use Rattle.tact_base.specs.Setup.{IsSetup}
 use Rattle.run_history.specs.Seats.{DeskView}
 use Rattle.replica_lock.specs.Allowances.{AllowanceView}
-use Rattle.replica_lock.specs.Sessions.{IsFaultSeen, IsSessionOf, NodeView, SessionView, own_calls}
+use Rattle.replica_lock.specs.Sessions.{IsSessionOf, NodeView, SessionView, own_calls}
 use Rattle.replica_lock.specs.declared.fault.NodeFault.{NodeFault}
 use Rattle.work_load.specs.Attempts.{Attempts, Begun}
 use Rattle.work_load.specs.Ranges.{IsItemOf}
@@ -11,6 +11,7 @@ use Rattle.work_load.specs.declared.plan.Client.{Client}
 use Rattle.run_work.specs.Holding.{Holds}
 use Rattle.run_work.specs.Serving.{IsClientServed}
 use Rattle.run_work.specs.Sites.{SitesView}
+use Rattle.run_work.specs.Stops.{IsStopSeen}
 
 -- its node, its client, the session of the client and what this holds by conit, and the fault that it ended with, if any
 pub record WorkerView : Type 0 where
@@ -36,7 +37,7 @@ pub record IsWorker (desk : DeskView) (worker : WorkerView) : Type 0 where
 -- of an item
 abbrev pub HasEnded : ℕ → Client → SessionView → Option NodeFault → Type 0
 HasEnded tries client session None = Attempts tries client.items (own_calls session)
-HasEnded tries client session (Some fault) = Begun tries client.items (own_calls session) × IsFaultSeen session fault
+HasEnded tries client session (Some fault) = Begun tries client.items (own_calls session) × IsStopSeen session fault
 
 -- of so many items and each call at most 24 entries were made
 abbrev pub IsBusyFor : ℕ → SessionView → Type 0

@@ -16,7 +16,7 @@ use run_model::Entry;
 use std::alloc::Global;
 use std::sync::Wait;
 use tact_base::{NoMemory, RoomyList};
-use tact_io::Gate;
+use tact_io::{Gate, SureJournal};
 
 /// By replica, the clerks of a run and the entries that they drew, with their ticks.
 #[derive(Drop)]
@@ -52,7 +52,7 @@ pub(crate) fn end_inboxes<R: Wait>(
 pub(crate) fn finish_all<R: Wait, G: Gate>(
     rt: &R,
     alloc: Global,
-    nodes: Vec<Node<'_, G>>,
+    nodes: Vec<Node<'_, SureJournal, G>>,
     ends: Vec<End>,
 ) -> Result<Drawn, NoMemory>
     requires ends { (clients : List Client) × (notes : List NoteView) × AreWhole clients notes nodes.items ends.items }
@@ -73,7 +73,7 @@ pub(crate) fn finish_all<R: Wait, G: Gate>(
         let Some(End { roster, sessions }) = ends.next() else {
             unreachable!()
         };
-        let Ended { clerk, stored } = node.finish(rt, roster, sessions);
+        let Ended { clerk, stored, .. } = node.finish(rt, roster, sessions);
         drawn.clerks.push(clerk)?;
         drawn.parts.push(stored.into_pairs())?;
     }

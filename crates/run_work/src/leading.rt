@@ -2,11 +2,12 @@
 ghost use Rattle.std.specs.Prelude.{◌≡◌, ◌≢◌, ◌<◌, ◌≤◌, ◌+◌, IfErr, IfOk, List, OnOk, length, map};
 ghost use Rattle.run_model.specs.Histories.{IsPrefix};
 ghost use Rattle.run_model.specs.declared.entry.Entry.{Entry};
-ghost use Rattle.replica_lock.specs.Sessions.{IsFaultSeen, IsSessionOf};
+ghost use Rattle.replica_lock.specs.Sessions.{IsSessionOf};
 ghost use Rattle.postbox.specs.Posts.{IsFor};
 ghost use Rattle.run_work.specs.Ends.{IsStop, made_by};
 ghost use Rattle.run_work.specs.Rounds.{HasSeen, HasSeenSending, HasSeenTaking, IsLead};
 ghost use Rattle.run_work.specs.Settling.{HasGoneOn, HasSeated, IsEndOf};
+ghost use Rattle.run_work.specs.Stops.{IsStopSeen};
 
 use crate::leaving::Stop;
 use crate::seat::{End, session_of};
@@ -15,11 +16,11 @@ use replica_lock::{Node, NodeFault, Parcel, Session, TakeFault};
 use run_history::Note;
 use std::sync::Wait;
 use tact_base::NoMemory;
-use tact_io::{Clock, Gate};
+use tact_io::{Clock, Gate, SureJournal};
 
 impl End {
     /// A session of client 0 where there is none. `NoMemory` is the only error.
-    pub(crate) fn seat<G: Gate>(&mut self, node: &Node<'_, G>) -> Result<(), NoMemory>
+    pub(crate) fn seat<G: Gate>(&mut self, node: &Node<'_, SureJournal, G>) -> Result<(), NoMemory>
         requires end { IsEndOf node.now self.old }
         requires whole { map (λ session. session.client) self.old.sessions.items ≡ self.old.roster.clients }
         ensures end { IsEndOf node.now self.new }
@@ -51,7 +52,7 @@ impl End {
         &mut self,
         rt: &R,
         clock: &C,
-        node: &Node<'_, G>,
+        node: &Node<'_, SureJournal, G>,
         to: u32,
     ) -> Result<Parcel, Stop>
         requires end { IsEndOf node.now self.old }
@@ -78,7 +79,7 @@ impl End {
         &mut self,
         rt: &R,
         clock: &C,
-        node: &Node<'_, G>,
+        node: &Node<'_, SureJournal, G>,
         parcel: Parcel,
     ) -> Result<(), Stop>
         requires end { IsEndOf node.now self.old }
@@ -99,7 +100,12 @@ impl End {
     }
 
     /// Hears what a note has seen.
-    pub(crate) fn hear<R: Wait, G: Gate>(&mut self, rt: &R, node: &Node<'_, G>, note: Note)
+    pub(crate) fn hear<R: Wait, G: Gate>(
+        &mut self,
+        rt: &R,
+        node: &Node<'_, SureJournal, G>,
+        note: Note,
+    )
         requires end { IsEndOf node.now self.old }
         requires ready { 0 < length self.old.sessions.items }
         requires note { note.table ≡ node.now.desk.table }
@@ -112,7 +118,7 @@ impl End {
     }
 
     /// A note of what the session has seen.
-    pub(crate) fn note<G: Gate>(&mut self, node: &Node<'_, G>) -> Note
+    pub(crate) fn note<G: Gate>(&mut self, node: &Node<'_, SureJournal, G>) -> Note
         requires end { IsEndOf node.now self.old }
         requires ready { 0 < length self.old.sessions.items }
         ensures on { HasGoneOn self.old self.new }
@@ -125,7 +131,7 @@ impl End {
     }
 
     /// That there was no memory for the replica.
-    pub(crate) fn no_memory<G: Gate>(&mut self, node: &Node<'_, G>) -> Stop
+    pub(crate) fn no_memory<G: Gate>(&mut self, node: &Node<'_, SureJournal, G>) -> Stop
         requires end { IsEndOf node.now self.old }
         requires ready { 0 < length self.old.sessions.items }
         ensures on { HasGoneOn self.old self.new }
@@ -138,9 +144,9 @@ impl End {
 }
 
 // Where a session's replica stopped, and what the session has seen.
-fn stop<G: Gate>(node: &Node<'_, G>, session: &mut Session, fault: NodeFault) -> Stop
+fn stop<G: Gate>(node: &Node<'_, SureJournal, G>, session: &mut Session, fault: NodeFault) -> Stop
     requires session { IsSessionOf node.now session.old }
-    requires fault { IsFaultSeen session.old fault }
+    requires fault { IsStopSeen session.old fault }
     ensures session { session.new ≡ session.old }
     ensures stop { IsStop node.now.desk result }
 {

@@ -1,6 +1,7 @@
 //! The run of a plan.
 ghost use Rattle.std.specs.Prelude.{◌≡◌, ◌≢◌, ◌<◌, [], All, IfErr, IfOk, IfSome, List, None, OnOk, ℕ, length, map};
 ghost use Rattle.run_model.specs.Histories.{IsPrefix};
+ghost use Rattle.run_model.specs.declared.entry.Entry.{Entry};
 ghost use Rattle.run_history.specs.Seats.{fresh_clerks, NoteView};
 ghost use Rattle.work_load.specs.Attempts.{settling as settled_most};
 ghost use Rattle.work_load.specs.Workloads.{IsWorkload};
@@ -9,6 +10,7 @@ ghost use Rattle.run_work.specs.Ends.{AreEnds, AreWhole, HaveEnded, HaveServed, 
 ghost use Rattle.run_work.specs.Finished.{HasFinished, IsFaultOf};
 ghost use Rattle.run_work.specs.Runs.{IsDoneRun, IsStoppedRun};
 ghost use Rattle.run_work.specs.Settling.{AreSettled, HaveMet};
+ghost use Rattle.run_work.specs.Stops.{IsStopBy};
 ghost use Rattle.run_work.specs.Working.{HasWorked, IsFresh};
 
 use crate::closing::{Drawn, end_inboxes, finish_all};
@@ -115,24 +117,22 @@ pub fn run_plan<R: Threads + Wait + Sync, C: Clock + Sync, G: Gate + Sync>(
 
 // A run, or why it stopped.
 fn end_run(run: Run, stop: Option<Stop>) -> Result<Run, RunFault>
+    requires stop { IfSome stop (λ stop. (part : List Entry) × IsStopBy stop.fault part) }
     ensures done { IfOk result (λ ended. (ended ≡ run) × (stop ≡ None)) }
     ensures stopped { IfErr result (IsFaultOf run stop) }
 {
     match stop {
         None => Ok(run),
-        Some(
-            Stop {
+        Some(Stop { replica, fault, .. }) => match fault {
+            NodeFault::Full { count, clock } => Err(RunFault::Full {
                 replica,
-                fault: NodeFault::Full { count, clock },
-                ..
-            },
-        ) => Err(RunFault::Full {
-            replica,
-            count,
-            clock,
-            run,
-        }),
-        Some(_) => Err(RunFault::NoMemory),
+                count,
+                clock,
+                run,
+            }),
+            NodeFault::NoMemory => Err(RunFault::NoMemory),
+            NodeFault::Halted | NodeFault::JournalFault => unreachable!(),
+        },
     }
 }
 

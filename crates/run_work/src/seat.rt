@@ -18,7 +18,7 @@ use replica_lock::{Allowance, Node, Roster, Session, SessionFault};
 use run_history::{Clerk, Desk};
 use std::alloc::Global;
 use tact_base::NoMemory;
-use tact_io::Gate;
+use tact_io::{Gate, SureJournal};
 use work_load::{Client, Plan};
 
 /// What ends a node: its roster, and the sessions of its clients when they come back.
@@ -59,7 +59,8 @@ pub(crate) fn open<'d, 'g, G: Gate>(
         let replica = clerk.replica();
         let note = clerk.note(desk);
         let (inbox, key) = Postbox::new(alloc, plan.link(replica), note, replica)?;
-        let Ok((node, roster)) = Node::new(alloc, desk, plan.config(), clerk, gate) else {
+        let journal = SureJournal::new(alloc);
+        let Ok((node, roster)) = Node::new(alloc, desk, plan.config(), clerk, journal, gate) else {
             return Err(NoMemory);
         };
         nodes.push(node)?;
@@ -147,7 +148,7 @@ fn seat<'s, 'd, 'g, G: Gate>(
 
 // The session of a client that has none yet.
 pub(crate) fn session_of<G: Gate>(
-    node: &Node<'_, G>,
+    node: &Node<'_, SureJournal, G>,
     roster: &mut Roster,
     client: u32,
 ) -> Result<Session, NoMemory>
@@ -169,7 +170,7 @@ pub(crate) fn session_of<G: Gate>(
 // An allowance of nothing for each conit.
 fn nothing<G: Gate>(
     alloc: Global,
-    node: &Node<'_, G>,
+    node: &Node<'_, SureJournal, G>,
     session: &mut Session,
     conits: u32,
 ) -> Result<Vec<Allowance>, NoMemory>

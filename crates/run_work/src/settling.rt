@@ -22,13 +22,13 @@ use run_history::{Desk, Note};
 use std::marker::Model;
 use std::sync::Wait;
 use tact_base::NoMemory;
-use tact_io::{Clock, Gate};
+use tact_io::{Clock, Gate, SureJournal};
 
 /// The replicas of a run, by number, when its workers have ended: their nodes, what ends these, and their inboxes.
 #[derive(Drop)]
 pub(crate) struct Settling<'d, 'g, G: Gate> {
     pub(crate) desk: &'d Desk,
-    pub(crate) nodes: Vec<Node<'d, &'g G>>,
+    pub(crate) nodes: Vec<Node<'d, SureJournal, &'g G>>,
     pub(crate) ends: Vec<End>,
     pub(crate) inboxes: Vec<Inbox<Parcel>>,
 }

@@ -8,14 +8,14 @@ use postbox::Postbox;
 use replica_lock::Node;
 use run_history::Desk;
 use std::marker::Model;
-use tact_io::Gate;
+use tact_io::{Gate, SureJournal};
 
 /// The node and the inbox of each replica of a desk, by number.
 #[derive(Drop)]
 pub(crate) struct Sites<'d, 'g, G: Gate> {
     pub(crate) desk: &'d Desk,
     pub(crate) conits: u32,
-    pub(crate) nodes: Vec<Node<'d, &'g G>>,
+    pub(crate) nodes: Vec<Node<'d, SureJournal, &'g G>>,
     pub(crate) inboxes: Vec<Postbox>,
 }
 
@@ -55,7 +55,7 @@ impl<'d, 'g, G: Gate> Sites<'d, 'g, G> {
     }
 
     /// The node of a replica.
-    pub(crate) fn node(&self, replica: u32) -> &Node<'d, &'g G>
+    pub(crate) fn node(&self, replica: u32) -> &Node<'d, SureJournal, &'g G>
         requires { replica < self.now.desk.setup.replicas }
         ensures node { slice_get self.now.nodes replica ≡ Some result.now }
         ensures at { IsNodeAt self.now.desk replica result.now }

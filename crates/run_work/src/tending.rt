@@ -1,9 +1,9 @@
 //! What a worker takes and sends between its tries.
 ghost use Rattle.std.specs.Prelude.{◌≡◌, ◌≢◌, ◌<◌, IfErr, IfSome, OnOk};
-ghost use Rattle.replica_lock.specs.Sessions.{IsFaultSeen};
 ghost use Rattle.postbox.specs.Posts.{IsFor};
 ghost use Rattle.run_work.specs.Holding.{IsQuiet};
 ghost use Rattle.run_work.specs.Serving.{HasSentTo, IsOther};
+ghost use Rattle.run_work.specs.Stops.{IsStopSeen};
 
 use crate::worker::{Worker, moment};
 use replica_lock::{NodeFault, Parcel, TakeFault};
@@ -30,7 +30,7 @@ impl<'s, 'd, 'g, G: Gate> Worker<'s, 'd, 'g, G> {
         ensures same { self.new ≡ record self.old { session = self.new.session } }
         ensures quiet { IsQuiet 23 self.old.session self.new.session }
         ensures sent { OnOk result (IfSome wish (λ to. HasSentTo to self.old.session self.new.session)) }
-        ensures fault { IfErr result (IsFaultSeen self.new.session) }
+        ensures fault { IfErr result (IsStopSeen self.new.session) }
     {
         let answers = self.take_some(rt, clock)?;
         match wish {
@@ -43,7 +43,7 @@ impl<'s, 'd, 'g, G: Gate> Worker<'s, 'd, 'g, G> {
     fn take_some<R: Wait, C: Clock>(&mut self, rt: &R, clock: &C) -> Result<Answers, NodeFault>
         ensures same { self.new ≡ record self.old { session = self.new.session } }
         ensures quiet { IsQuiet 16 self.old.session self.new.session }
-        ensures fault { IfErr result (IsFaultSeen self.new.session) }
+        ensures fault { IfErr result (IsStopSeen self.new.session) }
     {
         let mut answers = [false; REPLICAS_MAX as usize];
         for _taken in 0..TAKES {
@@ -69,7 +69,7 @@ impl<'s, 'd, 'g, G: Gate> Worker<'s, 'd, 'g, G> {
         requires { IsFor self.old.node.desk.table self.old.node.replica parcel }
         ensures same { self.new ≡ record self.old { session = self.new.session } }
         ensures quiet { IsQuiet 1 self.old.session self.new.session }
-        ensures fault { IfErr result (IsFaultSeen self.new.session) }
+        ensures fault { IfErr result (IsStopSeen self.new.session) }
     {
         let mut turn = self.node.turn(rt);
         let due = turn.answer_due(parcel.message());
@@ -87,7 +87,7 @@ impl<'s, 'd, 'g, G: Gate> Worker<'s, 'd, 'g, G> {
         ensures same { self.new ≡ record self.old { session = self.new.session } }
         ensures quiet { IsQuiet 1 self.old.session self.new.session }
         ensures sent { OnOk result (HasSentTo to self.old.session self.new.session) }
-        ensures fault { IfErr result (IsFaultSeen self.new.session) }
+        ensures fault { IfErr result (IsStopSeen self.new.session) }
     {
         let parcel = self.node.send(rt, &mut self.session, moment(clock), to)?;
         self.sites.inbox(to).put(rt, self.sites.desk(), parcel)?;
@@ -103,7 +103,7 @@ impl<'s, 'd, 'g, G: Gate> Worker<'s, 'd, 'g, G> {
     ) -> Result<(), NodeFault>
         ensures same { self.new ≡ record self.old { session = self.new.session } }
         ensures quiet { IsQuiet 7 self.old.session self.new.session }
-        ensures fault { IfErr result (IsFaultSeen self.new.session) }
+        ensures fault { IfErr result (IsStopSeen self.new.session) }
     {
         for to in 0..self.sites.count() {
             if to != self.session.replica() {
@@ -125,7 +125,7 @@ impl<'s, 'd, 'g, G: Gate> Worker<'s, 'd, 'g, G> {
         requires other { to ≢ self.old.node.replica }
         ensures same { self.new ≡ record self.old { session = self.new.session } }
         ensures quiet { IsQuiet 1 self.old.session self.new.session }
-        ensures fault { IfErr result (IsFaultSeen self.new.session) }
+        ensures fault { IfErr result (IsStopSeen self.new.session) }
     {
         let mut turn = self.node.turn(rt);
         if !answer && !turn.due(to) {

@@ -1,13 +1,14 @@
 //! A worker: what does the items of one client.
 ghost use Rattle.std.specs.Prelude.{◌≡◌, ◌≢◌, ◌<◌, ◌≤◌, ◌++◌, unsigned_abs, IfErr, OnErr, OnOk, IfOk};
 ghost use Rattle.tact_base.specs.declared.limits.TheConstants.{MOMENT_MAX};
-ghost use Rattle.replica_lock.specs.Sessions.{IsFaultSeen, own_calls};
+ghost use Rattle.replica_lock.specs.Sessions.{own_calls};
 ghost use Rattle.run_model.specs.Ranges.{IsOpInRange, IsRequestInRange};
 ghost use Rattle.replica_lock.specs.Locks.{IsWriteOrRead};
 ghost use Rattle.work_load.specs.Ranges.{IsAmountOf, IsItemOf, IsWeightOf};
 ghost use Rattle.work_load.specs.declared.plan.Item.TheVariants as item;
 ghost use Rattle.run_work.specs.Holding.{IsLater};
 ghost use Rattle.run_work.specs.Serving.{HasLent, Owes};
+ghost use Rattle.run_work.specs.Stops.{IsStopSeen};
 ghost use Rattle.run_work.specs.Trying.{HasAsked, HasTried, loaned_by, tried_by};
 
 use crate::site::Sites;
@@ -18,14 +19,14 @@ use run_model::{Reply, Request};
 use std::marker::Model;
 use std::sync::Wait;
 use tact_base::{MOMENT_MAX, Op, Weight, Weights};
-use tact_io::{Clock, Gate};
+use tact_io::{Clock, Gate, SureJournal};
 use work_load::{Client, Item};
 
 /// A client of a workload at its node: its session, what it holds by conit, and the fault that it ended with, if any.
 #[derive(Drop)]
 pub(crate) struct Worker<'s, 'd, 'g, G: Gate> {
     pub(crate) sites: &'s Sites<'d, 'g, G>,
-    pub(crate) node: &'s Node<'d, &'g G>,
+    pub(crate) node: &'s Node<'d, SureJournal, &'g G>,
     pub(crate) client: &'s Client,
     pub(crate) session: Session,
     pub(crate) allowances: Vec<Allowance>,
@@ -100,7 +101,7 @@ impl<'s, 'd, 'g, G: Gate> Worker<'s, 'd, 'g, G> {
         ensures owes { IfOk result (λ tried. Owes self.old.node.desk.setup tried self.old.session self.new.session) }
         ensures lent { OnOk result (HasLent self.old.node.desk.setup item.now self.old.session self.new.session) }
         ensures refused { OnErr result (own_calls self.new.session ≡ own_calls self.old.session) }
-        ensures fault { IfErr result (IsFaultSeen self.new.session) }
+        ensures fault { IfErr result (IsStopSeen self.new.session) }
     {
         let moment = moment(clock);
         match *item {
@@ -138,7 +139,7 @@ impl<'s, 'd, 'g, G: Gate> Worker<'s, 'd, 'g, G> {
         ensures tried { IfOk result (λ tried. HasAsked request tried (own_calls self.old.session) (own_calls self.new.session)) }
         ensures owes { IfOk result (λ tried. Owes self.old.node.desk.setup tried self.old.session self.new.session) }
         ensures refused { OnErr result (own_calls self.new.session ≡ own_calls self.old.session) }
-        ensures fault { IfErr result (IsFaultSeen self.new.session) }
+        ensures fault { IfErr result (IsStopSeen self.new.session) }
     {
         let reply = self.node.call(rt, &mut self.session, moment, request)?;
         Ok(tried(&reply))
@@ -160,7 +161,7 @@ impl<'s, 'd, 'g, G: Gate> Worker<'s, 'd, 'g, G> {
         ensures tried { IfOk result (λ tried. HasTried (item.Held weight op) tried (own_calls self.old.session) (own_calls self.new.session)) }
         ensures owes { IfOk result (λ tried. Owes self.old.node.desk.setup tried self.old.session self.new.session) }
         ensures refused { OnErr result (own_calls self.new.session ≡ own_calls self.old.session) }
-        ensures fault { IfErr result (IsFaultSeen self.new.session) }
+        ensures fault { IfErr result (IsStopSeen self.new.session) }
     {
         let held = &mut self.allowances[weight.conit as usize];
         if held.amount() < weight.nweight.unsigned_abs() {
@@ -189,7 +190,7 @@ impl<'s, 'd, 'g, G: Gate> Worker<'s, 'd, 'g, G> {
         ensures tried { IfOk result (λ tried. HasTried (item.Reserve conit amount) tried (own_calls self.old.session) (own_calls self.new.session)) }
         ensures owes { IfOk result (λ tried. Owes self.old.node.desk.setup tried self.old.session self.new.session) }
         ensures refused { OnErr result (own_calls self.new.session ≡ own_calls self.old.session) }
-        ensures fault { IfErr result (IsFaultSeen self.new.session) }
+        ensures fault { IfErr result (IsStopSeen self.new.session) }
     {
         match self
             .node
@@ -215,7 +216,7 @@ impl<'s, 'd, 'g, G: Gate> Worker<'s, 'd, 'g, G> {
         ensures tried { IfOk result (λ tried. HasTried (item.Release conit) tried (own_calls self.old.session) (own_calls self.new.session)) }
         ensures owes { IfOk result (λ tried. Owes self.old.node.desk.setup tried self.old.session self.new.session) }
         ensures refused { OnErr result (own_calls self.new.session ≡ own_calls self.old.session) }
-        ensures fault { IfErr result (IsFaultSeen self.new.session) }
+        ensures fault { IfErr result (IsStopSeen self.new.session) }
     {
         let held = &mut self.allowances[conit as usize];
         self.node.release(rt, &mut self.session, held, moment)?;

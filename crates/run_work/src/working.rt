@@ -1,11 +1,12 @@
 //! How a worker does its items.
 ghost use Rattle.std.specs.Prelude.{◌≡◌, ℕ, ◌+◌, ◌*◌, ◌<◌, [], None, IfErr, OnErr, OnOk};
-ghost use Rattle.replica_lock.specs.Sessions.{IsFaultSeen, own_calls};
+ghost use Rattle.replica_lock.specs.Sessions.{own_calls};
 ghost use Rattle.work_load.specs.Ranges.{IsItemOf};
 ghost use Rattle.run_work.specs.Holding.{IsLater};
 ghost use Rattle.run_work.specs.Serving.{HasLent, IsHeededBut};
 ghost use Rattle.run_work.specs.Trying.{HasBegun, HasDone};
 ghost use Rattle.run_work.specs.Sites.{SitesView};
+ghost use Rattle.run_work.specs.Stops.{IsStopSeen};
 ghost use Rattle.run_work.specs.Working.{HasWorked, IsBusyFor, IsFresh};
 
 use crate::trying::Tried;
@@ -49,7 +50,7 @@ impl<'s, 'd, 'g, G: Gate> Worker<'s, 'd, 'g, G> {
         ensures lent { OnOk result (HasLent self.old.node.desk.setup item.now self.old.session self.new.session) }
         ensures begun { OnErr result (HasBegun tries item.now (own_calls self.old.session) (own_calls self.new.session)) }
         ensures busy { (count : ℕ) → IsBusyFor count self.old.session → IsBusyFor (count + 1) self.new.session }
-        ensures fault { IfErr result (IsFaultSeen self.new.session) }
+        ensures fault { IfErr result (IsStopSeen self.new.session) }
     {
         for _tried in 0..tries {
             match self.attempt(rt, clock, item)? {

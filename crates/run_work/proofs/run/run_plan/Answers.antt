@@ -5,7 +5,7 @@ use Rattle.run_work.specs.Finished.{IsFaultOf}
 use Rattle.run_work.specs.Runs.{IsDoneRun}
 use Rattle.run_work.proofs.Closed.{IsMerge-parts}
 use Rattle.run_work.proofs.Finishing.{some_clerk}
-use Rattle.run_work.proofs.RunLemmas.{IsClosed, IsDoneRun-closed, IsStoppedRun-closed, clerks_are, done_by, stopped_by}
+use Rattle.run_work.proofs.RunLemmas.{IsClosed, IsDoneRun-closed, IsStoppedRun-closed, clerks_are, done_by, some_part, stopped_by}
 use Rattle.run_work.proofs.run.run_plan.Goals as goal
 use Rattle.run_work.proofs.run.run_plan.Goals.{In_ok-entries}
 
@@ -17,6 +17,11 @@ pub in_order-requires : goal.in_order-requires
 in_order-requires g c =
     IsMerge-parts c.in_ok-drawn.field-0.drawn.clerks.items c.in_ok-drawn.field-0.drawn.parts.items c.close-history.result
     (sym c.in_ok-drawn.ensures.drawn.parts) c.close-history.ensures.merge
+
+pub end_run-requires : goal.end_run-requires
+end_run-requires g c = record {
+  stop = some_part c.in_ok-desk.desk c.in_ok-drawn.field-0.drawn.clerks.items c.in_ok-drawn.field-0.stop c.in_ok-drawn.ensures.stop;
+}
 
 -- the setup of the desk is the plan's, and there is a clerk
 setup_is : (g : _) (c : In_ok-entries g) → c.in_ok-desk.desk.setup ≡ c.args.plan.now.setup
