@@ -7,22 +7,10 @@ use rollback_apply::{Image, value_after};
 use std::alloc::Global;
 use std::process::Abort;
 use std::test::Fail;
-use tact_base::{Op, Weights, Write, drop_front};
+use tact_base::{NoMemory, Op, Weights, Write, drop_front};
 use test_draws::next;
 
 const MOST: i64 = 1_000_000_000_000_000;
-
-fn put(key: u64, value: i64) -> Op {
-    Op::Put { key, value }
-}
-
-fn add(key: u64, delta: i64) -> Op {
-    Op::Add { key, delta }
-}
-
-fn shift(from: u64, to: u64, amount: u64) -> Op {
-    Op::Shift { from, to, amount }
-}
 
 // The image of operations, each put in at the end.
 fn folded(alloc: Global, ops: &[Op]) -> Result<Image, Fail> {
@@ -34,82 +22,100 @@ fn folded(alloc: Global, ops: &[Op]) -> Result<Image, Fail> {
     Ok(image)
 }
 
+// What a key holds after operations, each put in at the end; and by their fold from scratch.
+fn held(alloc: Global, ops: &[Op], key: u64) -> Result<[i64; 2], Fail> {
+    Ok([folded(alloc, ops)?.get(key), value_after(alloc, ops, key)?])
+}
+
+#[rattlefmt::skip]
+static FOLDED: [(&[Op], u64, i64); 25] = [
+    // An absent key, and one that is 0.
+    (&[], 7, 0),
+    (&[Op::Put { key: 7, value: 0 }], 7, 0),
+    (&[Op::Put { key: 7, value: 3 }, Op::Put { key: 7, value: 0 }], 7, 0),
+    (&[Op::Put { key: 7, value: 3 }], 8, 0),
+    // The caps, which hold for sums alone.
+    (&[Op::Put { key: 1, value: MOST }, Op::Add { key: 1, delta: 1 }], 1, MOST),
+    (&[Op::Put { key: 1, value: -MOST }, Op::Add { key: 1, delta: -1 }], 1, -MOST),
+    (&[Op::Put { key: 1, value: MOST - 1 }, Op::Add { key: 1, delta: 1 }], 1, MOST),
+    (&[Op::Put { key: 1, value: i64::MAX }], 1, i64::MAX),
+    (&[Op::Put { key: 1, value: i64::MAX }, Op::Add { key: 1, delta: 0 }], 1, MOST),
+    (&[Op::Put { key: 1, value: i64::MIN }], 1, i64::MIN),
+    (&[Op::Put { key: 1, value: i64::MIN }, Op::Add { key: 1, delta: i64::MIN }], 1, -MOST),
+    (&[Op::Add { key: 1, delta: i64::MAX }], 1, MOST),
+    // Exactly the amount held, and one more.
+    (&[Op::Put { key: 1, value: 5 }, Op::Shift { from: 1, to: 2, amount: 5 }], 1, 0),
+    (&[Op::Put { key: 1, value: 5 }, Op::Shift { from: 1, to: 2, amount: 5 }], 2, 5),
+    (&[Op::Put { key: 1, value: 5 }, Op::Shift { from: 1, to: 2, amount: 6 }], 1, 5),
+    (&[Op::Put { key: 1, value: 5 }, Op::Shift { from: 1, to: 2, amount: 6 }], 2, 0),
+    (&[Op::Put { key: 1, value: -1 }, Op::Shift { from: 1, to: 2, amount: 0 }], 1, -1),
+    // Between equal keys, and more than any key holds.
+    (&[Op::Put { key: 1, value: 5 }, Op::Shift { from: 1, to: 1, amount: 5 }], 1, 5),
+    (&[Op::Put { key: 1, value: i64::MAX }, Op::Shift { from: 1, to: 2, amount: u64::MAX }], 1, i64::MAX),
+    (&[Op::Put { key: 1, value: i64::MAX }, Op::Shift { from: 1, to: 2, amount: u64::MAX }], 2, 0),
+    // The key that receives stops at the cap.
+    (&[Op::Put { key: 1, value: 5 }, Op::Put { key: 2, value: MOST - 1 }, Op::Shift { from: 1, to: 2, amount: 5 }], 1, 0),
+    (&[Op::Put { key: 1, value: 5 }, Op::Put { key: 2, value: MOST - 1 }, Op::Shift { from: 1, to: 2, amount: 5 }], 2, MOST),
+    // The amount 0 acts, also on an absent key.
+    (&[Op::Shift { from: 1, to: 2, amount: 0 }], 1, 0),
+    (&[Op::Shift { from: 1, to: 2, amount: 0 }], 2, 0),
+    (&[Op::Put { key: 2, value: i64::MAX }, Op::Shift { from: 1, to: 2, amount: 0 }], 2, MOST),
+];
+
 #[test]
 fn folds_operations(rt: HostRuntime) -> Result<(), Fail> {
-    for (ops, key, value) in [
-        // An absent key, and one that is 0.
-        ([].as_slice(), 7, 0),
-        ([put(7, 0)].as_slice(), 7, 0),
-        ([put(7, 3), put(7, 0)].as_slice(), 7, 0),
-        ([put(7, 3)].as_slice(), 8, 0),
-        // The caps, which hold for sums alone.
-        ([put(1, MOST), add(1, 1)].as_slice(), 1, MOST),
-        ([put(1, -MOST), add(1, -1)].as_slice(), 1, -MOST),
-        ([put(1, MOST - 1), add(1, 1)].as_slice(), 1, MOST),
-        ([put(1, i64::MAX)].as_slice(), 1, i64::MAX),
-        ([put(1, i64::MAX), add(1, 0)].as_slice(), 1, MOST),
-        ([put(1, i64::MIN)].as_slice(), 1, i64::MIN),
-        ([put(1, i64::MIN), add(1, i64::MIN)].as_slice(), 1, -MOST),
-        ([add(1, i64::MAX)].as_slice(), 1, MOST),
-        // Exactly the amount held, and one more.
-        ([put(1, 5), shift(1, 2, 5)].as_slice(), 1, 0),
-        ([put(1, 5), shift(1, 2, 5)].as_slice(), 2, 5),
-        ([put(1, 5), shift(1, 2, 6)].as_slice(), 1, 5),
-        ([put(1, 5), shift(1, 2, 6)].as_slice(), 2, 0),
-        ([put(1, -1), shift(1, 2, 0)].as_slice(), 1, -1),
-        // Between equal keys, and more than any key holds.
-        ([put(1, 5), shift(1, 1, 5)].as_slice(), 1, 5),
-        (
-            [put(1, i64::MAX), shift(1, 2, u64::MAX)].as_slice(),
-            1,
-            i64::MAX,
-        ),
-        ([put(1, i64::MAX), shift(1, 2, u64::MAX)].as_slice(), 2, 0),
-        // The key that receives stops at the cap.
-        (
-            [put(1, 5), put(2, MOST - 1), shift(1, 2, 5)].as_slice(),
-            1,
-            0,
-        ),
-        (
-            [put(1, 5), put(2, MOST - 1), shift(1, 2, 5)].as_slice(),
-            2,
-            MOST,
-        ),
-        // The amount 0 acts, also on an absent key.
-        ([shift(1, 2, 0)].as_slice(), 1, 0),
-        ([shift(1, 2, 0)].as_slice(), 2, 0),
-        ([put(2, i64::MAX), shift(1, 2, 0)].as_slice(), 2, MOST),
-    ] {
-        let image = folded(rt.alloc(), ops)?;
-        assert_eq!(rt; image.get(key), value, "{key} after {ops:?}");
-        assert_eq!(rt; value_after(rt.alloc(), ops, key), Ok(value));
+    for &(ops, key, value) in &FOLDED {
+        assert_eq!(rt; held(rt.alloc(), ops, key)?, [value; 2], "of {ops:?}");
     }
     Ok(())
 }
 
+// What keys 1 and 2 hold.
+fn both(image: &Image) -> [i64; 2] {
+    [image.get(1), image.get(2)]
+}
+
+// What keys held before operations: keys 1 and 2 before that at place 0, keys 1 to 3 before that at place 1, and key 1
+// before that at place 2.
+fn befores(image: &Image) -> [Option<i64>; 6] {
+    [
+        image.before(0, 1),
+        image.before(0, 2),
+        image.before(1, 1),
+        image.before(1, 2),
+        image.before(1, 3),
+        image.before(2, 1),
+    ]
+}
+
+// A shift, an addition before it that makes it act, and the commit of the addition: what keys 1 and 2 hold after each,
+// and what keys held before operations after each of the last two.
+fn acting(alloc: Global) -> Result<([[i64; 2]; 3], [[Option<i64>; 6]; 2]), NoMemory> {
+    let mut image = Image::new(alloc);
+    image.reserve(2)?;
+    image.insert_at(
+        0,
+        Op::Shift {
+            from: 1,
+            to: 2,
+            amount: 5,
+        },
+    );
+    let shifted = both(&image);
+    image.insert_at(0, Op::Add { key: 1, delta: 5 });
+    let added = both(&image);
+    let tentative = befores(&image);
+    image.commit(1);
+    Ok(([shifted, added, both(&image)], [tentative, befores(&image)]))
+}
+
 #[test]
 fn a_late_operation_makes_a_shift_act(rt: HostRuntime) -> Result<(), Fail> {
-    let mut image = Image::new(rt.alloc());
-    assert_eq!(rt; image.reserve(2), Ok(()));
-    image.insert_at(0, shift(1, 2, 5));
-    assert_eq!(rt; image.get(2), 0);
-    image.insert_at(0, add(1, 5));
-    assert_eq!(rt; (image.get(1), image.get(2)), (0, 5));
-    for (place, key, value) in [
-        (0, 1, Some(0)),
-        (0, 2, None),
-        (1, 1, Some(5)),
-        (1, 2, Some(0)),
-        (1, 3, None),
-        (2, 1, None),
-    ] {
-        assert_eq!(rt; image.before(place, key), value, "{key} before {place}");
-    }
-    image.commit(1);
-    assert_eq!(rt; (image.get(1), image.get(2)), (0, 5));
-    assert_eq!(rt; image.before(0, 1), None);
-    assert_eq!(rt; image.before(1, 1), Some(5));
+    let (values, befores) = acting(rt.alloc())?;
+    assert_eq!(rt; values, [[0, 0], [0, 5], [0, 5]]);
+    let tentative = [Some(0), None, Some(5), Some(0), None, None];
+    let committed = [None, None, Some(5), Some(0), None, None];
+    assert_eq!(rt; befores, [tentative, committed]);
     Ok(())
 }
 
@@ -127,9 +133,19 @@ fn op_of(number: u64) -> Op {
     let key = key_of(number >> 48);
     let amount = (number >> 24) % 32;
     match (number >> 60) % 3 {
-        0 => put(key, amount as i64),
-        1 => add(key, amount as i64 - 16),
-        _ => shift(key, key_of(number >> 36), amount),
+        0 => Op::Put {
+            key,
+            value: amount as i64,
+        },
+        1 => Op::Add {
+            key,
+            delta: amount as i64 - 16,
+        },
+        _ => Op::Shift {
+            from: key,
+            to: key_of(number >> 36),
+            amount,
+        },
     }
 }
 
@@ -244,22 +260,72 @@ fn put_two(
     replace(late, place, &rest)
 }
 
-// What keys hold after committed operations and then tentative ones, from scratch.
+// The same of two operations and a place that come from a number.
+fn put_drawn(
+    alloc: Global,
+    image: &mut Image,
+    late: &mut Vec<Op>,
+    committed: u64,
+    number: u64,
+) -> Result<(), Fail>
+    requires same { image.old.ops ≡ late.old.items }
+    requires committed { committed ≡ image.old.committed }
+    requires small { committed < 2 ^ 63 }
+    requires room { 2 ≤ image.old.room }
+    ensures same { OnOk result (image.new.ops ≡ late.new.items) }
+    ensures committed { image.new.committed ≡ image.old.committed }
+{
+    let place = place_in(number, late.len());
+    let (first, last) = (write(op_of(number))?, write(op_of(next(number)))?);
+    put_two(alloc, image, late, committed, place, first, last)
+}
+
+// What keys 0 to 3 hold after committed operations and then tentative ones, from scratch.
+fn from_scratch(alloc: Global, early: &[Op], late: &[Op]) -> Result<[i64; 4], NoMemory> {
+    let mut all = Vec::from_slice(alloc, early)?;
+    all.extend_from_slice(late)?;
+    let mut values = [0; 4];
+    for key in 0..4 {
+        values[key] = value_after(alloc, &all, key as u64)?;
+    }
+    Ok(values)
+}
+
+// Keys 0 to 3 hold what they do from scratch.
 fn assert_same(
     rt: &(impl Abort + AllocGlobal),
     image: &Image,
     early: &[Op],
     late: &[Op],
-) -> Result<(), Fail> {
-    let mut all = Vec::from_slice(rt.alloc(), early)?;
-    all.extend_from_slice(late)?;
-    for key in 0..4 {
-        assert_eq!(rt;
-            image.get(key),
-            value_after(rt.alloc(), &all, key)?,
-            "at key {key}"
-        );
-    }
+) -> Result<(), NoMemory> {
+    let values = [image.get(0), image.get(1), image.get(2), image.get(3)];
+    assert_eq!(rt; values, from_scratch(rt.alloc(), early, late)?);
+    Ok(())
+}
+
+// Puts in one operation and goes over the values, puts in two, commits a quarter of the tentative ones and goes over
+// the values again. Places and operations come from a number.
+fn turn(
+    rt: &(impl Abort + AllocGlobal),
+    image: &mut Image,
+    early: &mut Vec<Op>,
+    late: &mut Vec<Op>,
+    number: u64,
+) -> Result<(), Fail>
+    requires same { image.old.ops ≡ late.old.items }
+    requires committed { image.old.committed ≡ vec_len early.old }
+    ensures same { OnOk result (image.new.ops ≡ late.new.items) }
+    ensures committed { OnOk result (image.new.committed ≡ vec_len early.new) }
+{
+    let committed = early.len() as u64;
+    let place = place_in(number, late.len());
+    image.reserve(3)?;
+    put_one(image, late, committed, place, op_of(number))?;
+    assert_same(rt, image, early, late)?;
+    put_drawn(rt.alloc(), image, late, committed, next(number))?;
+    let going = late.len() / 4;
+    commit_some(image, early, late, going)?;
+    assert_same(rt, image, early, late)?;
     Ok(())
 }
 
@@ -270,27 +336,8 @@ fn late_operations_and_batches_fold_as_in_order(rt: HostRuntime) -> Result<(), F
     let mut late: Vec<Op> = Vec::new(rt.alloc());
     let mut number = 1;
     for _ in 0..300 {
-        let committed = early.len() as u64;
         number = next(number);
-        let place = place_in(number, late.len());
-        image.reserve(3)?;
-        put_one(&mut image, &mut late, committed, place, op_of(number))?;
-        assert_same(&rt, &image, &early, &late)?;
-        let second = next(number);
-        let place = place_in(second, late.len());
-        let (first, last) = (write(op_of(second))?, write(op_of(next(second)))?);
-        put_two(
-            rt.alloc(),
-            &mut image,
-            &mut late,
-            committed,
-            place,
-            first,
-            last,
-        )?;
-        let going = late.len() / 4;
-        commit_some(&mut image, &mut early, &mut late, going)?;
-        assert_same(&rt, &image, &early, &late)?;
+        turn(&rt, &mut image, &mut early, &mut late, number)?;
     }
     Ok(())
 }

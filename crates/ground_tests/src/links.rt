@@ -40,11 +40,11 @@ fn parcel_of(number: u64) -> Parcel
     Parcel { number }
 }
 
-fn plan(lose: u64, double: u64, turn: u64) -> LinkPlan {
+fn plan([lose, double, turn]: [u64; 3]) -> LinkPlan {
     LinkPlan { lose, double, turn }
 }
 
-fn counts(puts: u64, copies: u64, taken: u64, lost: u64, waiting: u64) -> Counts {
+fn counts([puts, copies, taken, lost, waiting]: [u64; 5]) -> Counts {
     Counts {
         puts,
         copies,
@@ -105,70 +105,89 @@ fn assert_put(
     Ok(())
 }
 
+// What comes out of an inbox of this plan into which so many items were put as are counted, and what is counted before,
+// after the items, and once more.
+fn assert_plan(
+    rt: &(impl Abort + AllocGlobal),
+    plan: LinkPlan,
+    total: Counts,
+    order: &[u64],
+) -> Result<(), Fail> {
+    let mut inbox = filled(rt.alloc(), plan, total.puts)?;
+    assert_counts(rt, &inbox, plan, total);
+    assert_taken(rt, &mut inbox, plan, order)?;
+    let after = Counts {
+        taken: total.waiting,
+        waiting: 0,
+        ..total
+    };
+    assert_counts(rt, &inbox, plan, after);
+    assert_taken(rt, &mut inbox, plan, &[])?;
+    assert_counts(rt, &inbox, plan, after);
+    Ok(())
+}
+
+static PLANS: [([u64; 3], [u64; 5], &[u64]); 8] = [
+    ([5, 7, 0], [7, 1, 0, 1, 7], &[1, 2, 3, 4, 6, 7, 7]),
+    ([0, 0, 2], [4, 0, 0, 0, 4], &[4, 2, 1, 3]),
+    ([0, 0, 0], [4, 0, 0, 0, 4], &[1, 2, 3, 4]),
+    ([1, 0, 0], [3, 0, 0, 3, 0], &[]),
+    ([0, 1, 0], [3, 3, 0, 0, 6], &[1, 1, 2, 2, 3, 3]),
+    ([0, 3, 3], [3, 1, 0, 0, 4], &[3, 3, 1, 2]),
+    ([0, 0, 1], [3, 0, 0, 0, 3], &[3, 2, 1]),
+    ([2, 2, 2], [4, 0, 0, 2, 2], &[1, 3]),
+];
+
 #[test]
 fn loses_doubles_and_turns(rt: HostRuntime) -> Result<(), Fail> {
-    for (plan, total, order) in [
-        (
-            plan(5, 7, 0),
-            counts(7, 1, 0, 1, 7),
-            &[1, 2, 3, 4, 6, 7, 7][..],
-        ),
-        (plan(0, 0, 2), counts(4, 0, 0, 0, 4), &[4, 2, 1, 3][..]),
-        (plan(0, 0, 0), counts(4, 0, 0, 0, 4), &[1, 2, 3, 4][..]),
-        (plan(1, 0, 0), counts(3, 0, 0, 3, 0), &[][..]),
-        (
-            plan(0, 1, 0),
-            counts(3, 3, 0, 0, 6),
-            &[1, 1, 2, 2, 3, 3][..],
-        ),
-        (plan(0, 3, 3), counts(3, 1, 0, 0, 4), &[3, 3, 1, 2][..]),
-        (plan(0, 0, 1), counts(3, 0, 0, 0, 3), &[3, 2, 1][..]),
-        (plan(2, 2, 2), counts(4, 0, 0, 2, 2), &[1, 3][..]),
-    ] {
-        let mut inbox = filled(rt.alloc(), plan, total.puts)?;
-        assert_counts(&rt, &inbox, plan, total);
-        assert_taken(&rt, &mut inbox, plan, order)?;
-        let after = counts(total.puts, total.copies, total.waiting, total.lost, 0);
-        assert_counts(&rt, &inbox, plan, after);
-        assert_taken(&rt, &mut inbox, plan, &[])?;
-        assert_counts(&rt, &inbox, plan, after);
+    for &(periods, total, order) in &PLANS {
+        assert_plan(&rt, plan(periods), counts(total), order)?;
     }
     Ok(())
 }
 
+static FATES: [Fate; 7] = [
+    Fate::Queued,
+    Fate::Queued,
+    Fate::Queued,
+    Fate::Queued,
+    Fate::Lost,
+    Fate::Queued,
+    Fate::Doubled,
+];
+
 #[test]
 fn answers_each_fate(rt: HostRuntime) -> Result<(), Fail> {
-    let mut inbox = Inbox::new(rt.alloc(), plan(5, 7, 0))?;
-    for (number, fate) in [
-        (1, Fate::Queued),
-        (2, Fate::Queued),
-        (3, Fate::Queued),
-        (4, Fate::Queued),
-        (5, Fate::Lost),
-        (6, Fate::Queued),
-        (7, Fate::Doubled),
-    ] {
-        assert_put(&rt, &mut inbox, true, parcel_of(number), fate)?;
+    let mut inbox = Inbox::new(rt.alloc(), plan([5, 7, 0]))?;
+    for (before, fate) in FATES.iter().enumerate() {
+        assert_put(&rt, &mut inbox, true, parcel_of(before as u64 + 1), *fate)?;
     }
     Ok(())
 }
 
 // The fate of the put that comes after so many, and how many items wait then.
+fn next_put(alloc: Global, plan: LinkPlan, before: u64) -> Result<(Fate, u64), Fail> {
+    let mut inbox = filled(alloc, plan, before)?;
+    let fate = inbox.put(&true, parcel_of(before))?;
+    Ok((fate, inbox.counts().waiting))
+}
+
+static FULL: [([u64; 3], u64, Fate, u64); 8] = [
+    ([0, 0, 0], 1_023, Fate::Queued, 1_024),
+    ([0, 0, 0], 1_024, Fate::LostFull, 1_024),
+    ([0, 1_024, 0], 1_023, Fate::Queued, 1_024),
+    ([0, 1_023, 0], 1_022, Fate::Doubled, 1_024),
+    ([0, 1_025, 0], 1_024, Fate::LostFull, 1_024),
+    ([1_025, 0, 0], 1_024, Fate::Lost, 1_024),
+    ([1_023, 1_023, 0], 1_022, Fate::Lost, 1_022),
+    ([1_025, 1_025, 1_025], 1_024, Fate::Lost, 1_024),
+];
+
 #[test]
 fn holds_no_more_than_1024(rt: HostRuntime) -> Result<(), Fail> {
-    for (plan, before, fate, waiting) in [
-        (plan(0, 0, 0), 1_023, Fate::Queued, 1_024),
-        (plan(0, 0, 0), 1_024, Fate::LostFull, 1_024),
-        (plan(0, 1_024, 0), 1_023, Fate::Queued, 1_024),
-        (plan(0, 1_023, 0), 1_022, Fate::Doubled, 1_024),
-        (plan(0, 1_025, 0), 1_024, Fate::LostFull, 1_024),
-        (plan(1_025, 0, 0), 1_024, Fate::Lost, 1_024),
-        (plan(1_023, 1_023, 0), 1_022, Fate::Lost, 1_022),
-        (plan(1_025, 1_025, 1_025), 1_024, Fate::Lost, 1_024),
-    ] {
-        let mut inbox = filled(rt.alloc(), plan, before)?;
-        assert_put(&rt, &mut inbox, true, parcel_of(before + 1), fate)?;
-        assert_eq!(rt; inbox.counts().waiting, waiting, "{plan:?} after {before}");
+    for &(periods, before, fate, waiting) in &FULL {
+        let next = next_put(rt.alloc(), plan(periods), before)?;
+        assert_eq!(rt; next, (fate, waiting), "{periods:?} after {before}");
     }
     Ok(())
 }
@@ -181,15 +200,15 @@ fn handed_back(inbox: &mut Inbox<Parcel>, item: Parcel) -> Result<Parcel, Fail> 
 
 #[test]
 fn hands_back_what_cannot_be_doubled(rt: HostRuntime) -> Result<(), Fail> {
-    let plan = plan(3, 2, 0);
+    let plan = plan([3, 2, 0]);
     let mut inbox = Inbox::new(rt.alloc(), plan)?;
     assert_put(&rt, &mut inbox, false, parcel_of(1), Fate::Queued)?;
     let item = handed_back(&mut inbox, parcel_of(2))?;
     assert_eq!(rt; item.number, 2);
-    assert_counts(&rt, &inbox, plan, counts(1, 0, 0, 0, 1));
+    assert_counts(&rt, &inbox, plan, counts([1, 0, 0, 0, 1]));
     assert_put(&rt, &mut inbox, true, item, Fate::Doubled)?;
     assert_put(&rt, &mut inbox, false, parcel_of(3), Fate::Lost)?;
-    assert_counts(&rt, &inbox, plan, counts(3, 1, 0, 1, 3));
+    assert_counts(&rt, &inbox, plan, counts([3, 1, 0, 1, 3]));
     assert_taken(&rt, &mut inbox, plan, &[1, 2, 2])
 }
 

@@ -1,7 +1,8 @@
 //! Logs by origin: what they take of what is told, and what they lend once the first are given up.
 
+use std::alloc::Global;
 use std::test::Fail;
-use tact_base::{Op, Weights, Write};
+use tact_base::{NoMemory, Op, Weights, Write};
 use write_log::{Logs, Taken};
 
 fn write(index: u64) -> Result<Write, Fail> {
@@ -15,51 +16,90 @@ fn write(index: u64) -> Result<Write, Fail> {
     })
 }
 
+// The first three writes of an origin.
+fn writes() -> Result<[Write; 3], Fail> {
+    Ok([write(0)?, write(1)?, write(2)?])
+}
+
+// What logs of two origins answer that are told the first two of the writes, give up those before `upto`, and are told
+// all of them as those from `first` on; and how many writes they count then, of the origin and of the other one.
+fn told(
+    alloc: Global,
+    writes: &[Write; 3],
+    upto: u64,
+    first: u64,
+) -> Result<([Taken; 2], [u64; 2]), NoMemory> {
+    let mut logs = Logs::new(alloc, 2)?;
+    logs.reserve(1, 2)?;
+    let before = logs.extend(1, 0, &writes[..2]);
+    logs.trim(1, upto.min(logs.count(1)));
+    logs.reserve(1, 3)?;
+    let answer = logs.extend(1, first, writes);
+    Ok(([before, answer], [logs.count(1), logs.count(0)]))
+}
+
+static TOLD: [(u64, u64, Taken, u64); 8] = [
+    (0, 0, Taken::Added(1), 3),
+    (0, 1, Taken::Added(2), 4),
+    (0, 2, Taken::Added(3), 5),
+    (0, 3, Taken::Gap { have: 2, first: 3 }, 2),
+    (1, 0, Taken::Added(1), 3),
+    (2, 0, Taken::Added(1), 3),
+    (2, 2, Taken::Added(3), 5),
+    (2, 3, Taken::Gap { have: 2, first: 3 }, 2),
+];
+
 #[test]
 fn takes_what_is_told(rt: HostRuntime) -> Result<(), Fail> {
-    let writes = [write(0)?, write(1)?, write(2)?];
-    for (upto, first, answer, count) in [
-        (0, 0, Taken::Added(1), 3),
-        (0, 1, Taken::Added(2), 4),
-        (0, 2, Taken::Added(3), 5),
-        (0, 3, Taken::Gap { have: 2, first: 3 }, 2),
-        (1, 0, Taken::Added(1), 3),
-        (2, 0, Taken::Added(1), 3),
-        (2, 2, Taken::Added(3), 5),
-        (2, 3, Taken::Gap { have: 2, first: 3 }, 2),
-    ] {
-        let mut logs = Logs::new(rt.alloc(), 2)?;
-        logs.reserve(1, 2)?;
-        assert_eq!(rt; logs.extend(1, 0, &writes[..2]), Taken::Added(2));
-        logs.trim(1, upto);
-        assert_eq!(rt; logs.reserve(1, 3), Ok(()));
-        assert_eq!(rt;
-            logs.extend(1, first, &writes),
-            answer,
-            "{first} behind {upto}"
-        );
-        assert_eq!(rt; logs.count(1), count);
-        assert_eq!(rt; logs.count(0), 0);
+    let writes = writes()?;
+    for &(upto, first, answer, count) in &TOLD {
+        let due = ([Taken::Added(2), answer], [count, 0]);
+        assert_eq!(rt; told(rt.alloc(), &writes, upto, first)?, due);
     }
     Ok(())
 }
 
+// The indices of writes.
+fn indices(alloc: Global, writes: &[Write]) -> Result<Vec<u64>, NoMemory> {
+    let mut indices = Vec::new(alloc);
+    for write in writes {
+        indices.push(write.index)?;
+    }
+    Ok(indices)
+}
+
+// The first index that logs of eight origins lend that are told three writes of origin 7, and give up those before
+// `upto` and then those before `then`; and the indices of all that they lend.
+fn lent(
+    alloc: Global,
+    writes: &[Write; 3],
+    upto: u64,
+    then: u64,
+) -> Result<(u64, Vec<u64>), NoMemory> {
+    let mut logs = Logs::new(alloc, 8)?;
+    logs.reserve(7, 3)?;
+    logs.extend(7, 0, writes);
+    logs.trim(7, upto.min(logs.count(7)));
+    logs.trim(7, then.min(logs.count(7)));
+    let first = logs.base(7);
+    let held = logs.slice(7, first, logs.count(7) - first);
+    Ok((first, indices(alloc, held)?))
+}
+
+static LENT: [(u64, u64, u64, &[u64]); 5] = [
+    (0, 0, 0, &[0, 1, 2]),
+    (1, 0, 1, &[1, 2]),
+    (2, 1, 2, &[2]),
+    (1, 2, 2, &[2]),
+    (3, 3, 3, &[]),
+];
+
 #[test]
 fn lends_what_is_held(rt: HostRuntime) -> Result<(), Fail> {
-    let writes = [write(0)?, write(1)?, write(2)?];
-    for (upto, then, base) in [(0, 0, 0), (1, 0, 1), (2, 1, 2), (1, 2, 2), (3, 3, 3)] {
-        let mut logs = Logs::new(rt.alloc(), 8)?;
-        logs.reserve(7, 3)?;
-        assert_eq!(rt; logs.extend(7, 0, &writes), Taken::Added(3));
-        logs.trim(7, upto);
-        logs.trim(7, then);
-        let first = logs.base(7);
-        assert_eq!(rt; first, base);
-        let held = logs.slice(7, first, logs.count(7) - first);
-        assert_eq!(rt; held.len() as u64, 3 - base);
-        for (i, write) in held.iter().enumerate() {
-            assert_eq!(rt; write.index, base + i as u64);
-        }
+    let writes = writes()?;
+    for &(upto, then, base, indices) in &LENT {
+        let (first, held) = lent(rt.alloc(), &writes, upto, then)?;
+        assert_eq!(rt; (first, held.as_slice()), (base, indices));
     }
     Ok(())
 }

@@ -5,6 +5,7 @@ ghost use Rattle.std.specs.List.Sorted.{IsStrictlySortedBy};
 ghost use Rattle.tact_base.specs.WriteOrder.{write_cmp};
 
 use commit_order::Ordered;
+use std::alloc::Global;
 use std::process::Abort;
 use std::test::Fail;
 use tact_base::{Op, Place, Weights, Write};
@@ -89,47 +90,83 @@ fn at(stamp: u64, origin: u32, index: u64) -> Place {
     }
 }
 
+// Three writes that are put in, the last first, and the places that each was given.
+fn put_in(alloc: Global) -> Result<(Ordered, [u64; 3]), Fail> {
+    let mut ordered = Ordered::new(alloc);
+    ordered.reserve(3)?;
+    let third = ordered.insert(&write(3, 0, 1)?);
+    let second = ordered.insert(&write(1, 1, 0)?);
+    let first = ordered.insert(&write(1, 0, 0)?);
+    Ok((ordered, [third, second, first]))
+}
+
+// The place of a write past the point of commit.
+fn place(ordered: &Ordered, stamp: u64, origin: u32, index: u64) -> Option<u64> {
+    if stamp <= ordered.point() {
+        return None;
+    }
+    Some(ordered.place(stamp, origin, index))
+}
+
+// How many writes a commit up to a stamp leaves committed, unless it was before.
+fn commit(ordered: &mut Ordered, stamp: u64) -> Option<u64> {
+    if stamp < ordered.point() {
+        return None;
+    }
+    Some(ordered.commit_to(stamp))
+}
+
+static FOUND: [(u64, u32, u64, u64); 6] = [
+    (1, 0, 0, 0),
+    (1, 0, 1, 1),
+    (1, 1, 0, 1),
+    (1, 1, 1, 2),
+    (2, 0, 0, 2),
+    (3, 1, 0, 3),
+];
+
 #[test]
 fn puts_writes_in_order(rt: HostRuntime) -> Result<(), Fail> {
-    let mut ordered = Ordered::new(rt.alloc());
-    ordered.reserve(3)?;
-    assert_eq!(rt; ordered.insert(&write(3, 0, 1)?), 0);
-    assert_eq!(rt; ordered.insert(&write(1, 1, 0)?), 0);
-    assert_eq!(rt; ordered.insert(&write(1, 0, 0)?), 0);
-    for (late, origin, index, place) in [
-        (0u8, 0, 0, 0),
-        (0, 0, 1, 1),
-        (0, 1, 0, 1),
-        (0, 1, 1, 2),
-        (1, 0, 0, 2),
-        (2, 1, 0, 3),
-    ] {
-        let stamp = late as u64 + 1;
-        let found = ordered.place(stamp, origin, index);
-        assert_eq!(rt; found, place, "{stamp}, {origin}, {index}");
+    let (mut ordered, places) = put_in(rt.alloc())?;
+    assert_eq!(rt; places, [0, 0, 0]);
+    for &(stamp, origin, index, due) in &FOUND {
+        let found = place(&ordered, stamp, origin, index);
+        assert_eq!(rt; found, Some(due), "{stamp}, {origin}, {index}");
     }
-    assert_eq!(rt; ordered.committed().len(), 0);
-    assert_eq!(rt; ordered.commit_to(1), 2);
-    assert_eq!(rt; ordered.commit_to(2), 2);
+    assert_at(&rt, ordered.committed(), &[]);
+    let counts = [commit(&mut ordered, 1), commit(&mut ordered, 2)];
+    assert_eq!(rt; counts, [Some(2), Some(2)]);
     assert_at(&rt, ordered.committed(), &[at(1, 0, 0), at(1, 1, 0)]);
     assert_at(&rt, ordered.tentative(), &[at(3, 0, 1)]);
     Ok(())
 }
 
-#[test]
-fn gives_up_the_first(rt: HostRuntime) -> Result<(), Fail> {
-    let mut ordered = Ordered::new(rt.alloc());
+// Three writes that are put in, the first first, and the places that each was given.
+fn put_behind(alloc: Global) -> Result<(Ordered, [u64; 3]), Fail> {
+    let mut ordered = Ordered::new(alloc);
     ordered.reserve(3)?;
-    assert_eq!(rt; ordered.insert(&write(1, 0, 0)?), 0);
-    assert_eq!(rt; ordered.insert(&write(2, 0, 1)?), 1);
-    assert_eq!(rt; ordered.insert(&write(3, 1, 0)?), 2);
-    assert_eq!(rt; ordered.commit_to(2), 2);
+    let first = ordered.insert(&write(1, 0, 0)?);
+    let second = ordered.insert(&write(2, 0, 1)?);
+    let third = ordered.insert(&write(3, 1, 0)?);
+    Ok((ordered, [first, second, third]))
+}
+
+// Gives up the first committed write, where there is one.
+fn give_up(ordered: &mut Ordered) {
     let first = ordered.committed().len().min(1);
     ordered.drop_front(first as u64);
+}
+
+#[test]
+fn gives_up_the_first(rt: HostRuntime) -> Result<(), Fail> {
+    let (mut ordered, places) = put_behind(rt.alloc())?;
+    assert_eq!(rt; places, [0, 1, 2]);
+    assert_eq!(rt; commit(&mut ordered, 2), Some(2));
+    give_up(&mut ordered);
     assert_eq!(rt; ordered.dropped(), 1);
     assert_at(&rt, ordered.committed(), &[at(2, 0, 1)]);
-    assert_eq!(rt; ordered.place(4, 0, 0), 3);
-    assert_eq!(rt; ordered.commit_to(3), 3);
-    assert_eq!(rt; ordered.tentative().len(), 0);
+    assert_eq!(rt; place(&ordered, 4, 0, 0), Some(3));
+    assert_eq!(rt; commit(&mut ordered, 3), Some(3));
+    assert_at(&rt, ordered.tentative(), &[]);
     Ok(())
 }
