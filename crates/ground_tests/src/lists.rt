@@ -1,105 +1,88 @@
 //! Lists, weights and needs.
 
+use std::alloc::Global;
 use std::fmt::Debug;
 use std::process::Abort;
 use std::test::Fail;
 use tact_base::{
-    ConitList, Cover, ListFault, Need, Needs, Numbers, OnConit, Op, Place, Row, Weight, Weights,
-    Write, WriteList, first_index,
+    ConitList, Cover, ListFault, Need, Needs, NoMemory, Numbers, OnConit, Op, Place, Row, Weight,
+    Weights, Write, WriteList, first_index,
 };
 
-fn weight(conit: u32, nweight: i64, oweight: u64) -> Weight {
-    Weight {
-        conit,
-        nweight,
-        oweight,
-    }
-}
+const GOOD_WEIGHT: Weight = Weight {
+    conit: 9,
+    nweight: 1_000_000,
+    oweight: 1_000_000,
+};
+
+const LEAST_WEIGHT: Weight = Weight {
+    conit: 2,
+    nweight: -1_000_000,
+    oweight: 0,
+};
+
+const OVER_WEIGHT: Weight = Weight {
+    conit: 3,
+    nweight: 1_000_001,
+    oweight: 0,
+};
+
+#[rattlefmt::skip]
+static WEIGHTS: [(&[Weight], Option<ListFault>); 12] = [
+    (&[], None),
+    (&[GOOD_WEIGHT], None),
+    (&[Weight { conit: 0, nweight: 0, oweight: 0 }, LEAST_WEIGHT, Weight { conit: 4, nweight: 1, oweight: 1 }, GOOD_WEIGHT], None),
+    (&[GOOD_WEIGHT, GOOD_WEIGHT, GOOD_WEIGHT, GOOD_WEIGHT, OVER_WEIGHT], Some(ListFault::TooMany)),
+    (&[GOOD_WEIGHT, GOOD_WEIGHT], Some(ListFault::Unordered { place: 1 })),
+    (&[OVER_WEIGHT, GOOD_WEIGHT, LEAST_WEIGHT], Some(ListFault::Unordered { place: 2 })),
+    (&[Weight { conit: 1, nweight: 0, oweight: 0 }, LEAST_WEIGHT, Weight { conit: 0, nweight: 0, oweight: 0 }, LEAST_WEIGHT], Some(ListFault::Unordered { place: 2 })),
+    (&[LEAST_WEIGHT, OVER_WEIGHT, Weight { conit: 4, nweight: i64::MIN, oweight: 0 }], Some(ListFault::Range { place: 1 })),
+    (&[Weight { conit: 0, nweight: -1_000_001, oweight: 0 }], Some(ListFault::Range { place: 0 })),
+    (&[Weight { conit: 0, nweight: i64::MIN, oweight: 0 }], Some(ListFault::Range { place: 0 })),
+    (&[Weight { conit: 0, nweight: i64::MAX, oweight: 0 }], Some(ListFault::Range { place: 0 })),
+    (&[LEAST_WEIGHT, Weight { conit: 3, nweight: 0, oweight: 1_000_001 }], Some(ListFault::Range { place: 1 })),
+];
 
 #[test]
 fn refuses_weights(rt: HostRuntime) {
-    let good = weight(9, 1_000_000, 1_000_000);
-    let least = weight(2, -1_000_000, 0);
-    let over = weight(3, 1_000_001, 0);
-    let cases: [(&[Weight], Option<ListFault>); 12] = [
-        (&[], None),
-        (&[good], None),
-        (&[weight(0, 0, 0), least, weight(4, 1, 1), good], None),
-        (&[good, good, good, good, over], Some(ListFault::TooMany)),
-        (&[good, good], Some(ListFault::Unordered { place: 1 })),
-        (
-            &[over, good, least],
-            Some(ListFault::Unordered { place: 2 }),
-        ),
-        (
-            &[weight(1, 0, 0), least, weight(0, 0, 0), least],
-            Some(ListFault::Unordered { place: 2 }),
-        ),
-        (
-            &[least, over, weight(4, i64::MIN, 0)],
-            Some(ListFault::Range { place: 1 }),
-        ),
-        (
-            &[weight(0, -1_000_001, 0)],
-            Some(ListFault::Range { place: 0 }),
-        ),
-        (
-            &[weight(0, i64::MIN, 0)],
-            Some(ListFault::Range { place: 0 }),
-        ),
-        (
-            &[weight(0, i64::MAX, 0)],
-            Some(ListFault::Range { place: 0 }),
-        ),
-        (
-            &[least, weight(3, 0, 1_000_001)],
-            Some(ListFault::Range { place: 1 }),
-        ),
-    ];
-    for (items, want) in cases {
-        assert_made(&rt, Weights::new(items), items, want);
+    for (items, want) in &WEIGHTS {
+        assert_made(&rt, Weights::new(items), items, *want);
     }
 }
 
-fn need(conit: u32, num: u64, order: u64, stale: u64) -> Need {
-    Need {
-        conit,
-        num,
-        order,
-        stale,
-    }
-}
+const MOST: u64 = 1_000_000_000_000;
+
+const GOOD_NEED: Need = Need {
+    conit: 5,
+    num: MOST,
+    order: MOST,
+    stale: 1_152_921_504_606_846_976,
+};
+
+const LATE_NEED: Need = Need {
+    conit: 6,
+    num: 0,
+    order: 0,
+    stale: 1_152_921_504_606_846_977,
+};
+
+#[rattlefmt::skip]
+static NEEDS: [(&[Need], Option<ListFault>); 9] = [
+    (&[], None),
+    (&[Need { conit: 0, num: 0, order: 0, stale: 0 }, Need { conit: 1, num: 1, order: 1, stale: 1 }, Need { conit: 2, num: 0, order: 0, stale: 0 }, GOOD_NEED], None),
+    (&[LATE_NEED, GOOD_NEED, GOOD_NEED, GOOD_NEED, GOOD_NEED], Some(ListFault::TooMany)),
+    (&[GOOD_NEED, GOOD_NEED], Some(ListFault::Unordered { place: 1 })),
+    (&[LATE_NEED, GOOD_NEED], Some(ListFault::Unordered { place: 1 })),
+    (&[GOOD_NEED, LATE_NEED], Some(ListFault::Range { place: 1 })),
+    (&[Need { conit: 0, num: MOST + 1, order: 0, stale: 0 }], Some(ListFault::Range { place: 0 })),
+    (&[Need { conit: 0, num: 0, order: MOST + 1, stale: 0 }], Some(ListFault::Range { place: 0 })),
+    (&[Need { conit: 0, num: 0, order: 0, stale: u64::MAX }], Some(ListFault::Range { place: 0 })),
+];
 
 #[test]
 fn refuses_needs(rt: HostRuntime) {
-    let most = 1_000_000_000_000;
-    let good = need(5, most, most, 1_152_921_504_606_846_976);
-    let late = need(6, 0, 0, 1_152_921_504_606_846_977);
-    let cases: [(&[Need], Option<ListFault>); 9] = [
-        (&[], None),
-        (
-            &[need(0, 0, 0, 0), need(1, 1, 1, 1), need(2, 0, 0, 0), good],
-            None,
-        ),
-        (&[late, good, good, good, good], Some(ListFault::TooMany)),
-        (&[good, good], Some(ListFault::Unordered { place: 1 })),
-        (&[late, good], Some(ListFault::Unordered { place: 1 })),
-        (&[good, late], Some(ListFault::Range { place: 1 })),
-        (
-            &[need(0, most + 1, 0, 0)],
-            Some(ListFault::Range { place: 0 }),
-        ),
-        (
-            &[need(0, 0, most + 1, 0)],
-            Some(ListFault::Range { place: 0 }),
-        ),
-        (
-            &[need(0, 0, 0, u64::MAX)],
-            Some(ListFault::Range { place: 0 }),
-        ),
-    ];
-    for (items, want) in cases {
-        assert_made(&rt, Needs::new(items), items, want);
+    for (items, want) in &NEEDS {
+        assert_made(&rt, Needs::new(items), items, *want);
     }
 }
 
@@ -144,32 +127,64 @@ fn grows_a_list(rt: HostRuntime) -> Result<(), Fail> {
     Ok(())
 }
 
-#[test]
-fn copies_writes(rt: HostRuntime) -> Result<(), Fail> {
-    let first = Write {
+fn shifting() -> Result<Write, ListFault> {
+    let weight = Weight {
+        conit: 5,
+        nweight: -6,
+        oweight: 7,
+    };
+    Ok(Write {
         origin: 1,
         index: 2,
         stamp: 3,
         moment: 4,
-        weights: Weights::new(&[weight(5, -6, 7)]).map_err(|_| "refused")?,
+        weights: Weights::new(&[weight])?,
         op: Op::Shift {
             from: 8,
             to: 9,
             amount: 10,
         },
-    };
-    let mut second = first.clone()?;
-    assert_eq!(rt; second, first);
-    second.op = Op::Put { key: 8, value: -9 };
-    let mut list = WriteList::new(rt.alloc());
+    })
+}
+
+// A copy of a write, with another operation.
+fn changed(rt: &impl Abort, write: &Write) -> Result<Write, Fail> {
+    let mut copy = write.clone()?;
+    assert_eq!(rt; copy, *write);
+    copy.op = Op::Put { key: 8, value: -9 };
+    Ok(copy)
+}
+
+fn pair(alloc: Global, first: Write, second: Write) -> Result<WriteList, NoMemory> {
+    let mut list = WriteList::new(alloc);
     list.push(first)?;
     list.push(second)?;
-    let mut copy = list.copy(rt.alloc())?;
-    assert_eq!(rt; copy, list);
-    assert_eq!(rt; list.clone()?, list);
+    Ok(list)
+}
+
+// A copy of a list, and the list once more behind it.
+fn doubled(alloc: Global, list: &WriteList) -> Result<WriteList, NoMemory> {
+    let mut copy = list.copy(alloc)?;
     copy.append(list.items())?;
-    assert_eq!(rt; copy.len(), 4);
-    assert_eq!(rt; &copy.items()[2..], list.items());
+    Ok(copy)
+}
+
+// Both ways to copy a list give an equal one.
+fn assert_copied(rt: &(impl Abort + AllocGlobal), list: &WriteList) -> Result<(), NoMemory> {
+    assert!(rt; list.copy(rt.alloc())? == *list);
+    assert!(rt; list.clone()? == *list);
+    Ok(())
+}
+
+#[test]
+fn copies_writes(rt: HostRuntime) -> Result<(), Fail> {
+    let first = shifting()?;
+    let second = changed(&rt, &first)?;
+    let list = pair(rt.alloc(), first, second)?;
+    assert_copied(&rt, &list)?;
+    let double = doubled(rt.alloc(), &list)?;
+    assert_eq!(rt; double.len(), 4);
+    assert_eq!(rt; &double.items()[2..], list.items());
     Ok(())
 }
 
@@ -180,51 +195,54 @@ fn makes_lists_of_a_length(rt: HostRuntime) -> Result<(), Fail> {
     Ok(())
 }
 
+#[rattlefmt::skip]
+static PLACES: [(Place, Place); 3] = [
+    (Place { stamp: 1, origin: 7, index: 9 }, Place { stamp: 2, origin: 0, index: 0 }),
+    (Place { stamp: 1, origin: 0, index: 9 }, Place { stamp: 1, origin: 1, index: 0 }),
+    (Place { stamp: 1, origin: 1, index: 0 }, Place { stamp: 1, origin: 1, index: 1 }),
+];
+
 #[test]
 fn orders_places(rt: HostRuntime) {
-    let place = |stamp, origin, index| Place {
-        stamp,
-        origin,
-        index,
-    };
-    for (first, second) in [
-        (place(1, 7, 9), place(2, 0, 0)),
-        (place(1, 0, 9), place(1, 1, 0)),
-        (place(1, 1, 0), place(1, 1, 1)),
-    ] {
+    for (first, second) in &PLACES {
         assert!(rt; first < second, "{first:?} before {second:?}");
     }
 }
 
+const KEPT: Cover = Cover {
+    count: 2,
+    stamp: 5,
+    moment: 7,
+};
+
+#[rattlefmt::skip]
+static TOLD: [(Cover, Cover); 6] = [
+    (KEPT, KEPT),
+    (Cover { count: 3, stamp: 6, moment: 8 }, Cover { count: 3, stamp: 6, moment: 8 }),
+    (Cover { count: 2, stamp: 6, moment: 7 }, Cover { count: 2, stamp: 6, moment: 7 }),
+    (Cover { count: 1, stamp: 6, moment: 8 }, KEPT),
+    (Cover { count: 3, stamp: 4, moment: 8 }, KEPT),
+    (Cover { count: 3, stamp: 6, moment: 6 }, KEPT),
+];
+
 #[test]
 fn keeps_the_later_cover(rt: HostRuntime) {
-    let cover = |count, stamp, moment| Cover {
-        count,
-        stamp,
-        moment,
-    };
-    let kept = cover(2, 5, 7);
-    for (told, after) in [
-        (kept, kept),
-        (cover(3, 6, 8), cover(3, 6, 8)),
-        (cover(2, 6, 7), cover(2, 6, 7)),
-        (cover(1, 6, 8), kept),
-        (cover(3, 4, 8), kept),
-        (cover(3, 6, 6), kept),
-    ] {
-        assert_eq!(rt; kept.later(told), after, "after {told:?}");
+    for (told, after) in &TOLD {
+        assert!(rt; KEPT.later(*told) == *after, "after {told:?}");
     }
 }
 
+static FIRSTS: [(u32, u64, u64, u64, u64); 5] = [
+    (0, 5, 2, 0, 2),
+    (0, 5, 2, 3, 3),
+    (0, 5, 9, 0, 5),
+    (0, 5, 0, 0, 0),
+    (1, 5, 0, 0, 5),
+];
+
 #[test]
 fn begins_past_what_the_receiver_has(rt: HostRuntime) {
-    for (origin, have, known, given, first) in [
-        (0, 5, 2, 0, 2),
-        (0, 5, 2, 3, 3),
-        (0, 5, 9, 0, 5),
-        (0, 5, 0, 0, 0),
-        (1, 5, 0, 0, 5),
-    ] {
+    for &(origin, have, known, given, first) in &FIRSTS {
         assert_eq!(rt; first_index(1, origin, have, known, given), first);
     }
 }

@@ -5,55 +5,69 @@ ghost use Rattle.std.specs.Prelude.{◌≡◌, IfOk};
 use anti_entropy::{answer_due, due, firsts, wish};
 use run_model::{Message, Reply, Sums};
 use std::alloc::Global;
+use std::process::Abort;
 use std::test::Fail;
-use tact_base::{Covers, Numbers, Op, SharedWrites, Weights, Write, WriteList};
+use tact_base::{Covers, NoMemory, Numbers, Op, SharedWrites, Weights, Write, WriteList};
+
+// What a sending to a replica begins with, by these counts at hand and known.
+fn begun(alloc: Global, haves: &[u64; 3], known: &[u64; 3], to: u32) -> Result<Numbers, NoMemory> {
+    let haves = Numbers::from_slice(alloc, haves)?;
+    let known = Numbers::from_slice(alloc, known)?;
+    firsts(alloc, &haves, &known, to)
+}
+
+static BEGUN: [([u64; 3], [u64; 3], u32, [u64; 3]); 7] = [
+    ([5, 3, 4], [0, 0, 0], 0, [5, 0, 0]),
+    ([5, 3, 4], [2, 3, 1], 0, [5, 3, 1]),
+    ([5, 3, 4], [2, 3, 1], 1, [2, 3, 1]),
+    ([5, 3, 4], [9, 9, 1], 2, [5, 3, 4]),
+    ([5, 3, 4], [9, 1, 9], 2, [5, 1, 4]),
+    ([5, 3, 4], [5, 3, 4], 2, [5, 3, 4]),
+    ([0, 0, 0], [0, 0, 1], 1, [0, 0, 0]),
+];
 
 #[test]
 fn begins_past_what_is_known(rt: HostRuntime) -> Result<(), Fail> {
-    for (haves, known, to, begin) in [
-        ([5, 3, 4], [0, 0, 0], 0, [5, 0, 0]),
-        ([5, 3, 4], [2, 3, 1], 0, [5, 3, 1]),
-        ([5, 3, 4], [2, 3, 1], 1, [2, 3, 1]),
-        ([5, 3, 4], [9, 9, 1], 2, [5, 3, 4]),
-        ([5, 3, 4], [9, 1, 9], 2, [5, 1, 4]),
-        ([5, 3, 4], [5, 3, 4], 2, [5, 3, 4]),
-        ([0, 0, 0], [0, 0, 1], 1, [0, 0, 0]),
-    ] {
-        let haves = Numbers::from_slice(rt.alloc(), &haves)?;
-        let known = Numbers::from_slice(rt.alloc(), &known)?;
-        assert_eq!(rt; (haves.len(), known.len()), (3, 3));
-        let firsts = firsts(rt.alloc(), &haves, &known, to)?;
-        assert_eq!(rt; firsts.items(), begin.as_slice(), "to {to}");
+    for (haves, known, to, begin) in &BEGUN {
+        let firsts = begun(rt.alloc(), haves, known, *to)?;
+        assert_eq!(rt; firsts.items(), begin.as_slice());
     }
     Ok(())
 }
+
+// Whether a sending to a replica is due, by these counts at hand and known.
+fn is_due(alloc: Global, haves: &[u64; 3], known: &[u64; 3], to: u32) -> Result<bool, NoMemory> {
+    let haves = Numbers::from_slice(alloc, haves)?;
+    let known = Numbers::from_slice(alloc, known)?;
+    Ok(due(&haves, &known, to))
+}
+
+static DUE: [([u64; 3], [u64; 3], u32, bool); 8] = [
+    ([5, 3, 4], [5, 3, 4], 0, false),
+    ([5, 3, 4], [4, 3, 4], 0, false),
+    ([5, 3, 4], [4, 3, 4], 1, true),
+    ([5, 3, 4], [5, 3, 3], 1, true),
+    ([5, 3, 4], [5, 3, 0], 2, false),
+    ([5, 3, 4], [6, 9, 4], 2, false),
+    ([5, 3, 4], [6, 2, 4], 2, true),
+    ([0, 0, 0], [0, 0, 0], 1, false),
+];
 
 #[test]
 fn sends_what_others_lack(rt: HostRuntime) -> Result<(), Fail> {
-    for (haves, known, to, is_due) in [
-        ([5, 3, 4], [5, 3, 4], 0, false),
-        ([5, 3, 4], [4, 3, 4], 0, false),
-        ([5, 3, 4], [4, 3, 4], 1, true),
-        ([5, 3, 4], [5, 3, 3], 1, true),
-        ([5, 3, 4], [5, 3, 0], 2, false),
-        ([5, 3, 4], [6, 9, 4], 2, false),
-        ([5, 3, 4], [6, 2, 4], 2, true),
-        ([0, 0, 0], [0, 0, 0], 1, false),
-    ] {
-        let haves = Numbers::from_slice(rt.alloc(), &haves)?;
-        let known = Numbers::from_slice(rt.alloc(), &known)?;
-        assert_eq!(rt; (haves.len(), known.len()), (3, 3));
-        assert_eq!(rt; due(&haves, &known, to), is_due, "{known:?} to {to}");
+    for (haves, known, to, due) in &DUE {
+        assert!(rt;
+            is_due(rt.alloc(), haves, known, *to)? == *due,
+            "{known:?} to {to}"
+        );
     }
     Ok(())
 }
 
-// A message from replica 1 that tells these counts and has so many writes.
-fn message(alloc: Global, haves: &[u64], writes: usize) -> Result<Message, Fail>
-    ensures { IfOk result (λ message. message.haves ≡ haves.now) }
-{
+// So many writes.
+fn writes(alloc: Global, count: usize) -> Result<SharedWrites, Fail> {
     let mut told = WriteList::new(alloc);
-    for _ in 0..writes {
+    for _ in 0..count {
         told.push(Write {
             origin: 1,
             index: 0,
@@ -63,6 +77,14 @@ fn message(alloc: Global, haves: &[u64], writes: usize) -> Result<Message, Fail>
             op: Op::Put { key: 1, value: 5 },
         })?;
     }
+    Ok(SharedWrites::new(alloc, told)?)
+}
+
+// A message from replica 1 that tells these counts and has so many writes.
+fn message(alloc: Global, haves: &[u64], count: usize) -> Result<Message, Fail>
+    ensures { IfOk result (λ message. message.haves ≡ haves.now) }
+{
+    let writes = writes(alloc, count)?;
     Ok(Message {
         from: 1,
         to: 0,
@@ -70,117 +92,128 @@ fn message(alloc: Global, haves: &[u64], writes: usize) -> Result<Message, Fail>
         haves: Numbers::from_slice(alloc, haves)?,
         covers: Covers::new(alloc),
         firsts: Numbers::new(alloc),
-        writes: SharedWrites::new(alloc, told)?,
+        writes,
         lent: Numbers::new(alloc),
         returned: Numbers::new(alloc),
     })
 }
 
+// Whether an answer is due to a message that tells these counts and has so many writes, by those at hand.
+fn is_answer_due(
+    alloc: Global,
+    told: &[u64; 3],
+    count: usize,
+    haves: &[u64; 3],
+) -> Result<bool, Fail> {
+    let message = message(alloc, told, count)?;
+    let haves = Numbers::from_slice(alloc, haves)?;
+    Ok(answer_due(&message, &haves))
+}
+
+static ANSWERS: [([u64; 3], usize, [u64; 3], bool); 7] = [
+    ([5, 3, 4], 0, [5, 3, 4], false),
+    ([5, 3, 4], 1, [5, 3, 4], true),
+    ([5, 3, 4], 1, [0, 0, 0], true),
+    ([5, 3, 4], 0, [0, 3, 4], false),
+    ([5, 3, 4], 0, [6, 3, 4], true),
+    ([5, 3, 4], 0, [0, 0, 5], true),
+    ([0, 0, 0], 0, [0, 0, 0], false),
+];
+
 #[test]
 fn answers_writes_and_lesser_counts(rt: HostRuntime) -> Result<(), Fail> {
-    for (told, writes, haves, is_due) in [
-        ([5, 3, 4], 0, [5, 3, 4], false),
-        ([5, 3, 4], 1, [5, 3, 4], true),
-        ([5, 3, 4], 1, [0, 0, 0], true),
-        ([5, 3, 4], 0, [0, 3, 4], false),
-        ([5, 3, 4], 0, [6, 3, 4], true),
-        ([5, 3, 4], 0, [0, 0, 5], true),
-        ([0, 0, 0], 0, [0, 0, 0], false),
-    ] {
-        let message = message(rt.alloc(), &told, writes)?;
-        let haves = Numbers::from_slice(rt.alloc(), &haves)?;
-        assert_eq!(rt; (haves.len(), message.haves.len()), (3, 3));
-        assert_eq!(rt;
-            answer_due(&message, &haves),
-            is_due,
-            "{writes} writes, {haves:?} at hand"
-        );
+    for (told, writes, haves, due) in &ANSWERS {
+        let answer = is_answer_due(rt.alloc(), told, *writes, haves)?;
+        assert!(rt; answer == *due, "{writes} writes, {haves:?} at hand");
     }
     Ok(())
+}
+
+// A reply waits for this replica, if for one.
+fn assert_wish(rt: &impl Abort, reply: Reply, wished: Option<u32>) {
+    assert!(rt; wish(&reply) == wished, "of {reply:?}");
 }
 
 #[test]
 fn wishes_for_a_replica(rt: HostRuntime) {
     let (conit, peer, replica, holder) = (9, 1, 2, 3);
     let (weight, share, reserved) = (50, 40, 20);
-    for (reply, wished) in [
-        (Reply::Done { index: 6, stamp: 7 }, None),
-        (Reply::Granted, None),
-        (Reply::Released, None),
-        (
-            Reply::Value {
-                value: 6,
-                sums: Sums::new(&[7]),
-            },
-            None,
-        ),
-        (
-            Reply::TooHeavy {
-                conit,
-                peer,
-                weight,
-                share,
-            },
-            None,
-        ),
-        (
-            Reply::WaitHeld {
-                conit,
-                peer,
-                reserved,
-                weight: 30,
-                share,
-            },
-            None,
-        ),
-        (
-            Reply::WaitShare {
-                conit,
-                peer,
-                missing: 15,
-                reserved,
-                weight: 10,
-                share,
-            },
-            Some(1),
-        ),
-        (
-            Reply::WaitLent {
-                conit,
-                holder,
-                out: 60,
-                total: 70,
-                num: 65,
-            },
-            Some(3),
-        ),
-        (
-            Reply::WaitOrder {
-                conit,
-                replica,
-                tentative: 12,
-                order: 11,
-            },
-            Some(2),
-        ),
-        (
-            Reply::WaitStale {
-                conit,
-                replica,
-                moment: 100,
-                wanted: 101,
-            },
-            Some(2),
-        ),
-        (
-            Reply::NotHeld {
-                conit,
-                held: 13,
-                amount: 14,
-            },
-            None,
-        ),
-    ] {
-        assert_eq!(rt; wish(&reply), wished, "of {reply:?}");
-    }
+    assert_wish(&rt, Reply::Done { index: 6, stamp: 7 }, None);
+    assert_wish(&rt, Reply::Granted, None);
+    assert_wish(&rt, Reply::Released, None);
+    let sums = Sums::new(&[7]);
+    assert_wish(&rt, Reply::Value { value: 6, sums }, None);
+    assert_wish(
+        &rt,
+        Reply::TooHeavy {
+            conit,
+            peer,
+            weight,
+            share,
+        },
+        None,
+    );
+    assert_wish(
+        &rt,
+        Reply::WaitHeld {
+            conit,
+            peer,
+            reserved,
+            weight: 30,
+            share,
+        },
+        None,
+    );
+    assert_wish(
+        &rt,
+        Reply::WaitShare {
+            conit,
+            peer,
+            missing: 15,
+            reserved,
+            weight: 10,
+            share,
+        },
+        Some(1),
+    );
+    assert_wish(
+        &rt,
+        Reply::WaitLent {
+            conit,
+            holder,
+            out: 60,
+            total: 70,
+            num: 65,
+        },
+        Some(3),
+    );
+    assert_wish(
+        &rt,
+        Reply::WaitOrder {
+            conit,
+            replica,
+            tentative: 12,
+            order: 11,
+        },
+        Some(2),
+    );
+    assert_wish(
+        &rt,
+        Reply::WaitStale {
+            conit,
+            replica,
+            moment: 100,
+            wanted: 101,
+        },
+        Some(2),
+    );
+    assert_wish(
+        &rt,
+        Reply::NotHeld {
+            conit,
+            held: 13,
+            amount: 14,
+        },
+        None,
+    );
 }

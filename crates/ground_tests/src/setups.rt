@@ -9,96 +9,39 @@ use tact_base::ALPHA_MAX;
 
 const BIG: u64 = ALPHA_MAX + 1;
 
+// What is wrong with a setup.
+fn fault_of(
+    alloc: Global,
+    replicas: u32,
+    conits: u32,
+    alphas: &[u64],
+    loans: &[u64],
+) -> Option<ConfigFault> {
+    Config::new(alloc, replicas, conits, alphas, loans).err()
+}
+
+#[rattlefmt::skip]
+static FAULTS: [(u32, u32, &[u64], &[u64], ConfigFault); 13] = [
+    (1, 1, &[0], &[0], ConfigFault::BadCount),
+    (9, 1, &[0; 9], &[0; 81], ConfigFault::BadCount),
+    (2, 0, &[], &[], ConfigFault::BadCount),
+    (2, 17, &[0; 34], &[0; 68], ConfigFault::BadCount),
+    (2, 1, &[BIG], &[0; 4], ConfigFault::BadCount),
+    (2, 1, &[BIG, 0], &[0; 5], ConfigFault::BadCount),
+    (2, 1, &[BIG, BIG], &[1; 4], ConfigFault::AlphaOver { owner: 0, conit: 0 }),
+    (2, 1, &[0, BIG], &[0; 4], ConfigFault::AlphaOver { owner: 1, conit: 0 }),
+    (2, 1, &[0, 0], &[1, 1, 0, 0], ConfigFault::OwnLoan { owner: 0, conit: 0 }),
+    (2, 1, &[9, 9], &[0, 9, 9, 1], ConfigFault::OwnLoan { owner: 1, conit: 0 }),
+    (2, 1, &[9, BIG], &[0, 10, 0, 0], ConfigFault::LoansOver { owner: 0, conit: 0 }),
+    (2, 2, &[9; 4], &[0, 9, 0, 10, 10, 0, 0, 0], ConfigFault::LoansOver { owner: 0, conit: 1 }),
+    (3, 1, &[9; 3], &[0, u64::MAX, 1, 0, 0, 0, 0, 0, 0], ConfigFault::LoansOver { owner: 0, conit: 0 }),
+];
+
 #[test]
 fn names_the_first_fault(rt: HostRuntime) {
-    let cases = [
-        (1, 1, [0].as_slice(), [0].as_slice(), ConfigFault::BadCount),
-        (
-            9,
-            1,
-            [0; 9].as_slice(),
-            [0; 81].as_slice(),
-            ConfigFault::BadCount,
-        ),
-        (2, 0, [].as_slice(), [].as_slice(), ConfigFault::BadCount),
-        (
-            2,
-            17,
-            [0; 34].as_slice(),
-            [0; 68].as_slice(),
-            ConfigFault::BadCount,
-        ),
-        (
-            2,
-            1,
-            [BIG].as_slice(),
-            [0; 4].as_slice(),
-            ConfigFault::BadCount,
-        ),
-        (
-            2,
-            1,
-            [BIG, 0].as_slice(),
-            [0; 5].as_slice(),
-            ConfigFault::BadCount,
-        ),
-        (
-            2,
-            1,
-            [BIG, BIG].as_slice(),
-            [1; 4].as_slice(),
-            ConfigFault::AlphaOver { owner: 0, conit: 0 },
-        ),
-        (
-            2,
-            1,
-            [0, BIG].as_slice(),
-            [0; 4].as_slice(),
-            ConfigFault::AlphaOver { owner: 1, conit: 0 },
-        ),
-        (
-            2,
-            1,
-            [0, 0].as_slice(),
-            [1, 1, 0, 0].as_slice(),
-            ConfigFault::OwnLoan { owner: 0, conit: 0 },
-        ),
-        (
-            2,
-            1,
-            [9, 9].as_slice(),
-            [0, 9, 9, 1].as_slice(),
-            ConfigFault::OwnLoan { owner: 1, conit: 0 },
-        ),
-        (
-            2,
-            1,
-            [9, BIG].as_slice(),
-            [0, 10, 0, 0].as_slice(),
-            ConfigFault::LoansOver { owner: 0, conit: 0 },
-        ),
-        (
-            2,
-            2,
-            [9; 4].as_slice(),
-            [0, 9, 0, 10, 10, 0, 0, 0].as_slice(),
-            ConfigFault::LoansOver { owner: 0, conit: 1 },
-        ),
-        (
-            3,
-            1,
-            [9; 3].as_slice(),
-            [0, u64::MAX, 1, 0, 0, 0, 0, 0, 0].as_slice(),
-            ConfigFault::LoansOver { owner: 0, conit: 0 },
-        ),
-    ];
-    for (replicas, conits, alphas, loans, fault) in cases {
-        let made = Config::new(rt.alloc(), replicas, conits, alphas, loans);
-        assert_eq!(rt;
-            made.err(),
-            Some(fault),
-            "{replicas} {conits} {alphas:?} {loans:?}"
-        );
+    for &(replicas, conits, alphas, loans, fault) in &FAULTS {
+        let found = fault_of(rt.alloc(), replicas, conits, alphas, loans);
+        assert_eq!(rt; found, Some(fault), "{alphas:?} {loans:?}");
     }
 }
 
@@ -111,15 +54,25 @@ fn made(alloc: Global) -> Result<Config, Fail>
     Ok(config.copy(alloc)?)
 }
 
+// What is read of a setup of 2 replicas and 2 conits: its counts, an alpha of each replica, a loan of each, and a list of
+// loans.
+fn readings(config: &Config) -> ([u32; 2], [u64; 2], [u64; 2], &[u64])
+    requires replicas { config.now.replicas ≡ 2 }
+    requires conits { config.now.conits ≡ 2 }
+{
+    (
+        [config.replicas(), config.conits()],
+        [config.alpha(0, 1), config.alpha(1, 0)],
+        [config.loan(0, 1, 1), config.loan(1, 0, 0)],
+        config.loans(1, 1),
+    )
+}
+
 #[test]
 fn reads_what_it_was_made_of(rt: HostRuntime) -> Result<(), Fail> {
     let config = made(rt.alloc())?;
-    assert_eq!(rt; config.replicas(), 2);
-    assert_eq!(rt; config.conits(), 2);
-    assert_eq!(rt; config.alpha(0, 1), 6);
-    assert_eq!(rt; config.alpha(1, 0), 7);
-    assert_eq!(rt; config.loan(0, 1, 1), 2);
-    assert_eq!(rt; config.loan(1, 0, 0), 3);
-    assert_eq!(rt; config.loans(1, 1), [ALPHA_MAX, 0].as_slice());
+    let (counts, alphas, loans, list) = readings(&config);
+    assert_eq!(rt; (counts, alphas, loans), ([2, 2], [6, 7], [2, 3]));
+    assert_eq!(rt; list, [ALPHA_MAX, 0].as_slice());
     Ok(())
 }

@@ -24,109 +24,102 @@ fn print(alloc: Global, entry: &Entry, out: &mut Bytes) -> Result<(), NoMemory> 
     line_of(&copy, out)
 }
 
-// Replica 0's entry with this act at this moment.
-fn entry_of(alloc: Global, moment: u64, act: Act) -> Result<Box<Entry>, NoMemory> {
+// The line of a copy of replica 0's entry with this act at this moment.
+fn line_at(alloc: Global, moment: u64, act: Act) -> Result<Bytes, NoMemory> {
     let entry = Entry {
         replica: 0,
         moment,
         act,
     };
-    Ok(Box::new(alloc, entry)?)
+    let entry = Box::new(alloc, entry)?;
+    let mut out = Bytes::new(alloc);
+    print(alloc, &entry, &mut out)?;
+    Ok(out)
 }
 
-// The line of an entry is this.
-fn assert_line(rt: &(impl Abort + AllocGlobal), entry: &Entry, due: &str) -> Result<(), Fail> {
-    let mut out = Bytes::new(rt.alloc());
-    print(rt.alloc(), entry, &mut out)?;
-    assert!(rt; out.items() == due.as_bytes(), "{due}");
+// The line of replica 0's entry with this act at this moment is this.
+fn assert_line(
+    rt: &(impl Abort + AllocGlobal),
+    moment: u64,
+    act: Act,
+    due: &str,
+) -> Result<(), NoMemory> {
+    let line = line_at(rt.alloc(), moment, act)?;
+    assert!(rt; line.items() == due.as_bytes(), "{due}");
     Ok(())
 }
 
-// The line of a call of client 0 at replica 0, with copies of what is asked and said, is this.
-fn assert_call(
-    rt: &(impl Abort + AllocGlobal),
-    moment: u64,
-    number: u64,
-    request: &Request,
-    reply: &Reply,
-    due: &str,
-) -> Result<(), Fail> {
-    let (request, reply) = (request.clone()?, reply.clone()?);
-    let call = Act::Call {
-        client: 0,
-        number,
-        request,
-        reply,
-    };
-    assert_line(rt, &*entry_of(rt.alloc(), moment, call)?, due)
-}
-
-// The same of a request that is done.
+// The line of a call of client 0 at replica 0, its second at the moment 3, that is done is this.
 fn assert_request(
     rt: &(impl Abort + AllocGlobal),
-    request: &Request,
+    request: Request,
     due: &str,
-) -> Result<(), Fail> {
-    assert_call(rt, 3, 2, request, &Reply::Done { index: 0, stamp: 1 }, due)
+) -> Result<(), NoMemory> {
+    let call = Act::Call {
+        client: 0,
+        number: 2,
+        request,
+        reply: Reply::Done { index: 0, stamp: 1 },
+    };
+    assert_line(rt, 3, call, due)
 }
+
+static WRITES: [(Op, &[Weight], &str); 3] = [
+    (ADD, &[], "e 0 3 call 0 2 write add 7 1 = done 0 1\n"),
+    (
+        Op::Put { key: 1, value: -5 },
+        &[ONE],
+        "e 0 3 call 0 2 write put 1 -5 0:1:1 = done 0 1\n",
+    ),
+    (
+        Op::Shift {
+            from: 1,
+            to: 2,
+            amount: 5,
+        },
+        &[
+            Weight {
+                conit: 0,
+                nweight: -5,
+                oweight: 1,
+            },
+            Weight {
+                conit: 15,
+                nweight: 1_000_000,
+                oweight: 0,
+            },
+        ],
+        "e 0 3 call 0 2 write shift 1 2 5 0:-5:1 15:1000000:0 = done 0 1\n",
+    ),
+];
 
 #[test]
 fn prints_writes(rt: HostRuntime) -> Result<(), Fail> {
-    let put = Op::Put { key: 1, value: -5 };
-    let shift = Op::Shift {
-        from: 1,
-        to: 2,
-        amount: 5,
-    };
-    let two = [
-        Weight {
-            conit: 0,
-            nweight: -5,
-            oweight: 1,
-        },
-        Weight {
-            conit: 15,
-            nweight: 1_000_000,
-            oweight: 0,
-        },
-    ];
-    for (op, weights, due) in [
-        (
-            ADD,
-            [].as_slice(),
-            "e 0 3 call 0 2 write add 7 1 = done 0 1\n",
-        ),
-        (
-            put,
-            &[ONE],
-            "e 0 3 call 0 2 write put 1 -5 0:1:1 = done 0 1\n",
-        ),
-        (
-            shift,
-            &two,
-            "e 0 3 call 0 2 write shift 1 2 5 0:-5:1 15:1000000:0 = done 0 1\n",
-        ),
-    ] {
+    for &(op, weights, due) in &WRITES {
         let weights = Weights::new(weights)?;
-        assert_request(&rt, &Request::Write { weights, op }, due)?;
+        assert_request(&rt, Request::Write { weights, op }, due)?;
     }
     Ok(())
 }
 
+static READS: [(&[Need], &str); 2] = [
+    (&[], "e 0 3 call 0 2 read 1 = done 0 1\n"),
+    (
+        &[Need {
+            conit: 0,
+            num: 10,
+            order: 9,
+            stale: 8,
+        }],
+        "e 0 3 call 0 2 read 1 0:10:9:8 = done 0 1\n",
+    ),
+];
+
 #[test]
 fn prints_reads(rt: HostRuntime) -> Result<(), Fail> {
-    let need = Need {
-        conit: 0,
-        num: 10,
-        order: 9,
-        stale: 8,
-    };
-    for (needs, due) in [
-        ([].as_slice(), "e 0 3 call 0 2 read 1 = done 0 1\n"),
-        (&[need], "e 0 3 call 0 2 read 1 0:10:9:8 = done 0 1\n"),
-    ] {
+    for &(needs, due) in &READS {
         let needs = Needs::new(needs)?;
-        assert_request(&rt, &Request::Read { key: 1, needs }, due)?;
+        assert_request(&rt, Request::Read { key: 1, needs }, due)?;
     }
     Ok(())
 }
@@ -137,65 +130,80 @@ fn prints_what_is_held(rt: HostRuntime) -> Result<(), Fail> {
         weight: ONE,
         op: ADD,
     };
-    assert_request(&rt, &held, "e 0 3 call 0 2 held add 7 1 0:1:1 = done 0 1\n")?;
+    assert_request(&rt, held, "e 0 3 call 0 2 held add 7 1 0:1:1 = done 0 1\n")?;
     let reserve = Request::Reserve {
         conit: 0,
         amount: 10,
     };
-    assert_request(&rt, &reserve, "e 0 3 call 0 2 reserve 0 10 = done 0 1\n")?;
+    assert_request(&rt, reserve, "e 0 3 call 0 2 reserve 0 10 = done 0 1\n")?;
     let release = Request::Release {
         conit: 0,
         amount: 1,
     };
-    assert_request(&rt, &release, "e 0 3 call 0 2 release 0 1 = done 0 1\n")
+    assert_request(&rt, release, "e 0 3 call 0 2 release 0 1 = done 0 1\n")?;
+    Ok(())
 }
 
-// A reply to a write waits or doesn't, and its line is this.
+// A reply to client 0's first call waits or doesn't, and its line at the moment 0 is this.
 fn assert_reply(
     rt: &(impl Abort + AllocGlobal),
-    reply: &Reply,
+    reply: Reply,
     waits: bool,
     due: &str,
 ) -> Result<(), Fail> {
     assert!(rt; reply.is_waiting() == waits, "{due}");
-    let weights = Weights::new(&[ONE])?;
-    assert_call(rt, 0, 1, &Request::Write { weights, op: ADD }, reply, due)
+    let request = Request::Write {
+        weights: Weights::new(&[ONE])?,
+        op: ADD,
+    };
+    let call = Act::Call {
+        client: 0,
+        number: 1,
+        request,
+        reply,
+    };
+    assert_line(rt, 0, call, due)?;
+    Ok(())
+}
+
+// A reply is final, and its line is this.
+fn assert_final(rt: &(impl Abort + AllocGlobal), reply: Reply, due: &str) -> Result<(), Fail> {
+    assert_reply(rt, reply, false, due)
+}
+
+// A reply waits, and its line is this.
+fn assert_waiting(rt: &(impl Abort + AllocGlobal), reply: Reply, due: &str) -> Result<(), Fail> {
+    assert_reply(rt, reply, true, due)
 }
 
 #[test]
 fn prints_what_is_done(rt: HostRuntime) -> Result<(), Fail> {
-    let cases = [
-        (
-            Reply::Done { index: 1, stamp: 2 },
-            "e 0 0 call 0 1 write add 7 1 0:1:1 = done 1 2\n",
-        ),
-        (
-            Reply::Granted,
-            "e 0 0 call 0 1 write add 7 1 0:1:1 = granted\n",
-        ),
-        (
-            Reply::Released,
-            "e 0 0 call 0 1 write add 7 1 0:1:1 = released\n",
-        ),
-        (
-            Reply::Value {
-                value: 0,
-                sums: Sums::new(&[]),
-            },
-            "e 0 0 call 0 1 write add 7 1 0:1:1 = value 0\n",
-        ),
-        (
-            Reply::Value {
-                value: -1,
-                sums: Sums::new(&[5, -6]),
-            },
-            "e 0 0 call 0 1 write add 7 1 0:1:1 = value -1 5 -6\n",
-        ),
-    ];
-    for (reply, due) in &cases {
-        assert_reply(&rt, reply, false, due)?;
-    }
-    Ok(())
+    let done = Reply::Done { index: 1, stamp: 2 };
+    assert_final(&rt, done, "e 0 0 call 0 1 write add 7 1 0:1:1 = done 1 2\n")?;
+    assert_final(
+        &rt,
+        Reply::Granted,
+        "e 0 0 call 0 1 write add 7 1 0:1:1 = granted\n",
+    )?;
+    assert_final(
+        &rt,
+        Reply::Released,
+        "e 0 0 call 0 1 write add 7 1 0:1:1 = released\n",
+    )?;
+    let alone = Reply::Value {
+        value: 0,
+        sums: Sums::new(&[]),
+    };
+    assert_final(&rt, alone, "e 0 0 call 0 1 write add 7 1 0:1:1 = value 0\n")?;
+    let with_sums = Reply::Value {
+        value: -1,
+        sums: Sums::new(&[5, -6]),
+    };
+    assert_final(
+        &rt,
+        with_sums,
+        "e 0 0 call 0 1 write add 7 1 0:1:1 = value -1 5 -6\n",
+    )
 }
 
 #[test]
@@ -206,10 +214,9 @@ fn prints_refusals(rt: HostRuntime) -> Result<(), Fail> {
         weight: 6,
         share: 5,
     };
-    assert_reply(
+    assert_final(
         &rt,
-        &too_heavy,
-        false,
+        too_heavy,
         "e 0 0 call 0 1 write add 7 1 0:1:1 = too-heavy 0 1 6 5\n",
     )?;
     let not_held = Reply::NotHeld {
@@ -217,91 +224,90 @@ fn prints_refusals(rt: HostRuntime) -> Result<(), Fail> {
         held: 0,
         amount: 1,
     };
-    assert_reply(
+    assert_final(
         &rt,
-        &not_held,
-        false,
+        not_held,
         "e 0 0 call 0 1 write add 7 1 0:1:1 = not-held 0 0 1\n",
     )
 }
 
 #[test]
 fn prints_what_is_waited_for(rt: HostRuntime) -> Result<(), Fail> {
-    let cases = [
-        (
-            Reply::WaitHeld {
-                conit: 0,
-                peer: 1,
-                reserved: 10,
-                weight: 1,
-                share: 10,
-            },
-            "e 0 0 call 0 1 write add 7 1 0:1:1 = wait-held 0 1 10 1 10\n",
-        ),
-        (
-            Reply::WaitShare {
-                conit: 0,
-                peer: 2,
-                missing: 5,
-                reserved: 0,
-                weight: 1,
-                share: 5,
-            },
-            "e 0 0 call 0 1 write add 7 1 0:1:1 = wait-share 0 2 5 0 1 5\n",
-        ),
-        (
-            Reply::WaitLent {
-                conit: 0,
-                holder: 1,
-                out: 5,
-                total: 10,
-                num: 9,
-            },
-            "e 0 0 call 0 1 write add 7 1 0:1:1 = wait-lent 0 1 5 10 9\n",
-        ),
-        (
-            Reply::WaitOrder {
-                conit: 0,
-                replica: 1,
-                tentative: 4,
-                order: 3,
-            },
-            "e 0 0 call 0 1 write add 7 1 0:1:1 = wait-order 0 1 4 3\n",
-        ),
-        (
-            Reply::WaitStale {
-                conit: 0,
-                replica: 1,
-                moment: 100,
-                wanted: 101,
-            },
-            "e 0 0 call 0 1 write add 7 1 0:1:1 = wait-stale 0 1 100 101\n",
-        ),
-    ];
-    for (reply, due) in &cases {
-        assert_reply(&rt, reply, true, due)?;
-    }
-    Ok(())
+    let held = Reply::WaitHeld {
+        conit: 0,
+        peer: 1,
+        reserved: 10,
+        weight: 1,
+        share: 10,
+    };
+    assert_waiting(
+        &rt,
+        held,
+        "e 0 0 call 0 1 write add 7 1 0:1:1 = wait-held 0 1 10 1 10\n",
+    )?;
+    let share = Reply::WaitShare {
+        conit: 0,
+        peer: 2,
+        missing: 5,
+        reserved: 0,
+        weight: 1,
+        share: 5,
+    };
+    assert_waiting(
+        &rt,
+        share,
+        "e 0 0 call 0 1 write add 7 1 0:1:1 = wait-share 0 2 5 0 1 5\n",
+    )?;
+    let lent = Reply::WaitLent {
+        conit: 0,
+        holder: 1,
+        out: 5,
+        total: 10,
+        num: 9,
+    };
+    assert_waiting(
+        &rt,
+        lent,
+        "e 0 0 call 0 1 write add 7 1 0:1:1 = wait-lent 0 1 5 10 9\n",
+    )?;
+    let order = Reply::WaitOrder {
+        conit: 0,
+        replica: 1,
+        tentative: 4,
+        order: 3,
+    };
+    assert_waiting(
+        &rt,
+        order,
+        "e 0 0 call 0 1 write add 7 1 0:1:1 = wait-order 0 1 4 3\n",
+    )?;
+    let stale = Reply::WaitStale {
+        conit: 0,
+        replica: 1,
+        moment: 100,
+        wanted: 101,
+    };
+    assert_waiting(
+        &rt,
+        stale,
+        "e 0 0 call 0 1 write add 7 1 0:1:1 = wait-stale 0 1 100 101\n",
+    )
 }
 
 // A message with no writes and no counts.
 fn message(alloc: Global, from: u32, to: u32, number: u64) -> Result<Message, NoMemory> {
+    let writes = SharedWrites::new(alloc, WriteList::new(alloc))?;
     Ok(Message {
         from,
         to,
         number,
+        firsts: Numbers::from_slice(alloc, &[2, 0, 3])?,
         haves: Numbers::new(alloc),
         covers: Covers::new(alloc),
-        firsts: Numbers::from_slice(alloc, &[2, 0, 3])?,
-        writes: SharedWrites::new(alloc, WriteList::new(alloc))?,
+        writes,
         lent: Numbers::new(alloc),
         returned: Numbers::new(alloc),
     })
-}
-
-// The line of replica 0's entry with this act at the moment 100 is this.
-fn assert_act(rt: &(impl Abort + AllocGlobal), act: Act, due: &str) -> Result<(), Fail> {
-    assert_line(rt, &*entry_of(rt.alloc(), 100, act)?, due)
 }
 
 #[test]
@@ -310,12 +316,13 @@ fn prints_messages(rt: HostRuntime) -> Result<(), Fail> {
     let send = Act::Send {
         message: message_to,
     };
-    assert_act(&rt, send, "e 0 100 send 1 4 2 0 3\n")?;
+    assert_line(&rt, 100, send, "e 0 100 send 1 4 2 0 3\n")?;
     let message_from = message(rt.alloc(), 1, 0, 5)?;
     let take = Act::Take {
         message: message_from,
     };
-    assert_act(&rt, take, "e 0 100 take 1 5\n")
+    assert_line(&rt, 100, take, "e 0 100 take 1 5\n")?;
+    Ok(())
 }
 
 #[test]
@@ -325,36 +332,45 @@ fn prints_loans_and_restarts(rt: HostRuntime) -> Result<(), Fail> {
         conit: 2,
         amount: 6,
     };
-    assert_act(&rt, lend, "e 0 100 lend 1 2 6\n")?;
+    assert_line(&rt, 100, lend, "e 0 100 lend 1 2 6\n")?;
     let back = Act::Back {
         owner: 2,
         conit: 1,
         amount: 7,
     };
-    assert_act(&rt, back, "e 0 100 back 2 1 7\n")?;
-    assert_act(&rt, Act::Restart, "e 0 100 restart\n")
+    assert_line(&rt, 100, back, "e 0 100 back 2 1 7\n")?;
+    assert_line(&rt, 100, Act::Restart, "e 0 100 restart\n")?;
+    Ok(())
 }
+
+// The first lines and the last line of a record of 7 entries of 2 replicas.
+fn ends(alloc: Global, conits: u32, alphas: &[u64], loans: &[u64]) -> Result<Bytes, Fail> {
+    let config = Config::new(alloc, 2, conits, alphas, loans)?;
+    let mut out = Bytes::new(alloc);
+    head_of(&config, &mut out)?;
+    end_of(7, &mut out)?;
+    Ok(out)
+}
+
+static ENDS: [(u32, &[u64], &[u64], &str); 2] = [
+    (
+        1,
+        &[10, 10],
+        &[0, 5, 5, 0],
+        "tact 1 2 1\nbound 0 0 10 0 5\nbound 1 0 10 5 0\nend 7\n",
+    ),
+    (
+        2,
+        &[1, 2, 3, 4],
+        &[0, 1, 0, 2, 3, 0, 4, 0],
+        "tact 1 2 2\nbound 0 0 1 0 1\nbound 0 1 2 0 2\nbound 1 0 3 3 0\nbound 1 1 4 4 0\nend 7\n",
+    ),
+];
 
 #[test]
 fn begins_and_ends_records(rt: HostRuntime) -> Result<(), Fail> {
-    for (conits, alphas, loans, due) in [
-        (
-            1,
-            [10, 10].as_slice(),
-            [0, 5, 5, 0].as_slice(),
-            "tact 1 2 1\nbound 0 0 10 0 5\nbound 1 0 10 5 0\nend 7\n",
-        ),
-        (
-            2,
-            &[1, 2, 3, 4],
-            &[0, 1, 0, 2, 3, 0, 4, 0],
-            "tact 1 2 2\nbound 0 0 1 0 1\nbound 0 1 2 0 2\nbound 1 0 3 3 0\nbound 1 1 4 4 0\nend 7\n",
-        ),
-    ] {
-        let config = Config::new(rt.alloc(), 2, conits, alphas, loans)?;
-        let mut out = Bytes::new(rt.alloc());
-        head_of(&config, &mut out)?;
-        end_of(7, &mut out)?;
+    for &(conits, alphas, loans, due) in &ENDS {
+        let out = ends(rt.alloc(), conits, alphas, loans)?;
         assert!(rt; out.items() == due.as_bytes(), "{due}");
     }
     Ok(())
