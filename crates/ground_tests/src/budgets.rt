@@ -51,6 +51,14 @@ fn assert_reserved(rt: &impl Abort, opened: &Opened, amount: u64) {
     assert_eq!(rt; opened.read(rt, 1, 0).reserved, amount);
 }
 
+#[rattlefmt::skip]
+static FITS: [(i64, Fit); 4] = [
+    (1, Fit::WaitShare { peer: 1, missing: 5, reserved: 0, weight: 1, share: 5 }),
+    (6, Fit::TooHeavy { peer: 1, weight: 6, share: 5 }),
+    (0, Fit::Fits),
+    (-5, Fit::Fits),
+];
+
 #[test]
 fn counts_what_a_peer_may_miss(rt: HostRuntime) -> Result<(), Fail> {
     let mut opened = Opened::of_three(rt.alloc())?;
@@ -58,32 +66,25 @@ fn counts_what_a_peer_may_miss(rt: HostRuntime) -> Result<(), Fail> {
     assert_eq!(rt; shares, (5, 5));
     assert_accepted(&rt, &mut opened, 5, Fit::Fits)?;
     assert_missing(&rt, &opened, 1, (5, 0));
-    let too_heavy = Fit::TooHeavy {
-        peer: 1,
-        weight: 6,
-        share: 5,
-    };
-    for (nweight, fit) in [
-        (1, wait_share(1, 5, 0, 1, 5)),
-        (6, too_heavy),
-        (0, Fit::Fits),
-        (-5, Fit::Fits),
-    ] {
+    for &(nweight, fit) in &FITS {
         assert_fit(&rt, &opened, nweight, fit);
     }
     Ok(())
 }
 
+#[rattlefmt::skip]
+static SIGNS: [(i64, Fit); 5] = [
+    (5, Fit::Fits),
+    (-5, Fit::Fits),
+    (0, Fit::Fits),
+    (1, Fit::WaitShare { peer: 1, missing: 5, reserved: 0, weight: 1, share: 5 }),
+    (-1, Fit::WaitShare { peer: 1, missing: 5, reserved: 0, weight: 1, share: 5 }),
+];
+
 #[test]
 fn keeps_the_signs_apart(rt: HostRuntime) -> Result<(), Fail> {
     let mut opened = Opened::of_three(rt.alloc())?;
-    for (nweight, fit) in [
-        (5, Fit::Fits),
-        (-5, Fit::Fits),
-        (0, Fit::Fits),
-        (1, wait_share(1, 5, 0, 1, 5)),
-        (-1, wait_share(1, 5, 0, 1, 5)),
-    ] {
+    for &(nweight, fit) in &SIGNS {
         assert_accepted(&rt, &mut opened, nweight, fit)?;
     }
     let read = opened.read(&rt, 2, 0);

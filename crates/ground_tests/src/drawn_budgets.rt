@@ -63,28 +63,41 @@ fn assert_sums(rt: &impl Abort, opened: &Opened, log: &[Weight], peer: u32, know
     }
 }
 
+// One step by a number, after which a peer may be known to have more of the writes; then what it may miss.
+fn turn(
+    rt: &impl Abort,
+    opened: &mut Opened,
+    log: &mut Vec<Weight>,
+    known: &mut [u64; 3],
+    number: u64,
+) -> Result<(), Fail> {
+    let weight = weight_of(number);
+    if take_step(rt, opened, number, weight)? {
+        log.push(weight)?;
+    }
+    let peer = 1 + below(number, 60, 2);
+    if below(number, 62, 4) == 0 {
+        let count = (log.len() as u64 + 2).saturating_sub(u64::from(below(number, 20, 12)));
+        opened.acked(rt, u32::from(peer), count);
+        known[peer as usize] = known[peer as usize].max(count);
+    }
+    assert_sums(rt, opened, log, u32::from(peer), known[peer as usize]);
+    Ok(())
+}
+
+static LOANS: [u64; 18] = [
+    0, 40, 40, 0, 40, 40, 40, 0, 40, 40, 0, 40, 40, 40, 0, 40, 40, 0,
+];
+
 #[test]
 fn kept_sums_are_those_from_scratch(rt: HostRuntime) -> Result<(), Fail> {
-    let loans = [
-        0, 40, 40, 0, 40, 40, 40, 0, 40, 40, 0, 40, 40, 40, 0, 40, 40, 0,
-    ];
-    let mut opened = Opened::new(rt.alloc(), 3, 2, &[90; 6], &loans)?;
+    let mut opened = Opened::new(rt.alloc(), 3, 2, &[90; 6], &LOANS)?;
     let mut log = Vec::new(rt.alloc());
     let mut known = [0; 3];
     let mut number = 1;
     for _ in 0..1000 {
         number = next(number);
-        let weight = weight_of(number);
-        if take_step(&rt, &mut opened, number, weight)? {
-            log.push(weight)?;
-        }
-        let peer = 1 + below(number, 60, 2);
-        if below(number, 62, 4) == 0 {
-            let count = (log.len() as u64 + 2).saturating_sub(u64::from(below(number, 20, 12)));
-            opened.acked(&rt, u32::from(peer), count);
-            known[peer as usize] = known[peer as usize].max(count);
-        }
-        assert_sums(&rt, &opened, &log, u32::from(peer), known[peer as usize]);
+        turn(&rt, &mut opened, &mut log, &mut known, number)?;
     }
     Ok(())
 }

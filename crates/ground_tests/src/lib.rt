@@ -5,6 +5,8 @@
 #[cfg(test)]
 mod budgets;
 #[cfg(test)]
+mod checks;
+#[cfg(test)]
 mod drawn_budgets;
 #[cfg(test)]
 mod images;

@@ -1,7 +1,7 @@
 //! Lists, weights and needs.
 
+use crate::checks::assert_numbers;
 use std::alloc::Global;
-use std::fmt::Debug;
 use std::process::Abort;
 use std::test::Fail;
 use tact_base::{
@@ -46,7 +46,7 @@ static WEIGHTS: [(&[Weight], Option<ListFault>); 12] = [
 #[test]
 fn refuses_weights(rt: HostRuntime) {
     for (items, want) in &WEIGHTS {
-        assert_made(&rt, Weights::new(items), items, *want);
+        assert_eq!(rt; refusal(&rt, Weights::new(items), items), *want);
     }
 }
 
@@ -82,48 +82,63 @@ static NEEDS: [(&[Need], Option<ListFault>); 9] = [
 #[test]
 fn refuses_needs(rt: HostRuntime) {
     for (items, want) in &NEEDS {
-        assert_made(&rt, Needs::new(items), items, *want);
+        assert_eq!(rt; refusal(&rt, Needs::new(items), items), *want);
     }
 }
 
-// A list was made of these items, or refused for the wanted fault.
-fn assert_made<T: OnConit + PartialEq + Debug>(
+// The fault for which a list was refused, or none where it was made, and is of these items.
+fn refusal<T: OnConit + PartialEq>(
     rt: &impl Abort,
     made: Result<ConitList<T>, ListFault>,
     items: &[T],
-    want: Option<ListFault>,
-) {
+) -> Option<ListFault> {
     match made {
         Ok(list) => {
-            assert_eq!(rt; None, want);
-            assert_eq!(rt; list.items(), items);
+            assert!(rt; list.items() == items, "other items");
+            None
         }
-        Err(fault) => assert_eq!(rt; Some(fault), want),
+        Err(fault) => Some(fault),
     }
+}
+
+static EIGHT: [u64; 8] = [1, 2, 3, 4, 5, 6, 7, u64::MAX];
+
+// Whether a row's copy is equal to it.
+fn is_copied(row: &Row) -> Result<bool, Fail> {
+    Ok(row.clone()? == *row)
 }
 
 #[test]
 fn holds_few_items(rt: HostRuntime) -> Result<(), Fail> {
-    let numbers = [1, 2, 3, 4, 5, 6, 7, u64::MAX];
-    let row = Row::new(&numbers);
-    assert_eq!(rt; row.items(), numbers.as_slice());
-    assert_eq!(rt; row.clone()?, row);
-    assert_ne!(rt; Row::new(&[1, 2]), row);
-    assert_eq!(rt; Row::new(&[]).items(), [].as_slice());
+    let row = Row::new(&EIGHT);
+    assert_numbers(&rt, row.items(), &EIGHT);
+    assert!(rt; is_copied(&row)?);
+    assert!(rt; Row::new(&[1, 2]) != row);
+    assert_numbers(&rt, Row::new(&[]).items(), &[]);
     Ok(())
+}
+
+fn grown(alloc: Global) -> Result<Numbers, NoMemory> {
+    let mut list = Numbers::new(alloc);
+    list.push(7)?;
+    list.append(&[8, 9])?;
+    Ok(list)
+}
+
+// Whether a list is equal to one of these numbers.
+fn is_of(list: &Numbers, alloc: Global, numbers: &[u64]) -> Result<bool, NoMemory> {
+    Ok(Numbers::from_slice(alloc, numbers)? == *list)
 }
 
 #[test]
 fn grows_a_list(rt: HostRuntime) -> Result<(), Fail> {
-    let mut list = Numbers::new(rt.alloc());
-    assert!(rt; list.is_empty());
-    list.push(7)?;
-    list.append(&[8, 9])?;
+    assert!(rt; Numbers::new(rt.alloc()).is_empty());
+    let list = grown(rt.alloc())?;
     assert_eq!(rt; list.len(), 3);
     assert!(rt; !list.is_empty());
-    assert_eq!(rt; list.items(), [7, 8, 9].as_slice());
-    assert_eq!(rt; Numbers::from_slice(rt.alloc(), &[7, 8, 9])?, list);
-    assert_ne!(rt; Numbers::from_slice(rt.alloc(), &[7, 8])?, list);
+    assert_numbers(&rt, list.items(), &[7, 8, 9]);
+    assert!(rt; is_of(&list, rt.alloc(), &[7, 8, 9])?);
+    assert!(rt; !is_of(&list, rt.alloc(), &[7, 8])?);
     Ok(())
 }
 
@@ -191,7 +206,7 @@ fn copies_writes(rt: HostRuntime) -> Result<(), Fail> {
 #[test]
 fn makes_lists_of_a_length(rt: HostRuntime) -> Result<(), Fail> {
     let nines = Numbers::filled(rt.alloc(), 9, 3)?;
-    assert_eq!(rt; nines.items(), [9, 9, 9].as_slice());
+    assert_numbers(&rt, nines.items(), &[9, 9, 9]);
     Ok(())
 }
 

@@ -82,14 +82,6 @@ fn batches_go_in_one_by_one(rt: HostRuntime) -> Result<(), Fail> {
     Ok(())
 }
 
-fn at(stamp: u64, origin: u32, index: u64) -> Place {
-    Place {
-        stamp,
-        origin,
-        index,
-    }
-}
-
 // Three writes that are put in, the last first, and the places that each was given.
 fn put_in(alloc: Global) -> Result<(Ordered, [u64; 3]), Fail> {
     let mut ordered = Ordered::new(alloc);
@@ -116,6 +108,18 @@ fn commit(ordered: &mut Ordered, stamp: u64) -> Option<u64> {
     Some(ordered.commit_to(stamp))
 }
 
+// A write would come to this place.
+fn assert_place(rt: &impl Abort, ordered: &Ordered, stamp: u64, origin: u32, index: u64, due: u64) {
+    let found = place(ordered, stamp, origin, index);
+    assert_eq!(rt; found, Some(due), "{stamp}, {origin}, {index}");
+}
+
+// The committed and the tentative writes have these places.
+fn assert_parts(rt: &impl Abort, ordered: &Ordered, committed: &[Place], tentative: &[Place]) {
+    assert_at(rt, ordered.committed(), committed);
+    assert_at(rt, ordered.tentative(), tentative);
+}
+
 static FOUND: [(u64, u32, u64, u64); 6] = [
     (1, 0, 0, 0),
     (1, 0, 1, 1),
@@ -125,19 +129,24 @@ static FOUND: [(u64, u32, u64, u64); 6] = [
     (3, 1, 0, 3),
 ];
 
+#[rattlefmt::skip]
+static IN_ORDER: [Place; 3] = [
+    Place { stamp: 1, origin: 0, index: 0 },
+    Place { stamp: 1, origin: 1, index: 0 },
+    Place { stamp: 3, origin: 0, index: 1 },
+];
+
 #[test]
 fn puts_writes_in_order(rt: HostRuntime) -> Result<(), Fail> {
     let (mut ordered, places) = put_in(rt.alloc())?;
     assert_eq!(rt; places, [0, 0, 0]);
     for &(stamp, origin, index, due) in &FOUND {
-        let found = place(&ordered, stamp, origin, index);
-        assert_eq!(rt; found, Some(due), "{stamp}, {origin}, {index}");
+        assert_place(&rt, &ordered, stamp, origin, index, due);
     }
-    assert_at(&rt, ordered.committed(), &[]);
-    let counts = [commit(&mut ordered, 1), commit(&mut ordered, 2)];
-    assert_eq!(rt; counts, [Some(2), Some(2)]);
-    assert_at(&rt, ordered.committed(), &[at(1, 0, 0), at(1, 1, 0)]);
-    assert_at(&rt, ordered.tentative(), &[at(3, 0, 1)]);
+    assert_parts(&rt, &ordered, &[], &IN_ORDER);
+    assert_eq!(rt; commit(&mut ordered, 1), Some(2));
+    assert_eq!(rt; commit(&mut ordered, 2), Some(2));
+    assert_parts(&rt, &ordered, &IN_ORDER[..2], &IN_ORDER[2..]);
     Ok(())
 }
 
@@ -157,6 +166,12 @@ fn give_up(ordered: &mut Ordered) {
     ordered.drop_front(first as u64);
 }
 
+#[rattlefmt::skip]
+static SECOND: [Place; 1] = [Place { stamp: 2, origin: 0, index: 1 }];
+
+#[rattlefmt::skip]
+static THIRD: [Place; 1] = [Place { stamp: 3, origin: 1, index: 0 }];
+
 #[test]
 fn gives_up_the_first(rt: HostRuntime) -> Result<(), Fail> {
     let (mut ordered, places) = put_behind(rt.alloc())?;
@@ -164,8 +179,8 @@ fn gives_up_the_first(rt: HostRuntime) -> Result<(), Fail> {
     assert_eq!(rt; commit(&mut ordered, 2), Some(2));
     give_up(&mut ordered);
     assert_eq!(rt; ordered.dropped(), 1);
-    assert_at(&rt, ordered.committed(), &[at(2, 0, 1)]);
-    assert_eq!(rt; place(&ordered, 4, 0, 0), Some(3));
+    assert_parts(&rt, &ordered, &SECOND, &THIRD);
+    assert_place(&rt, &ordered, 4, 0, 0, 3);
     assert_eq!(rt; commit(&mut ordered, 3), Some(3));
     assert_at(&rt, ordered.tentative(), &[]);
     Ok(())

@@ -64,18 +64,22 @@ fn sends_what_others_lack(rt: HostRuntime) -> Result<(), Fail> {
     Ok(())
 }
 
+fn write() -> Result<Write, Fail> {
+    Ok(Write {
+        origin: 1,
+        index: 0,
+        stamp: 1,
+        moment: 0,
+        weights: Weights::new(&[])?,
+        op: Op::Put { key: 1, value: 5 },
+    })
+}
+
 // So many writes.
 fn writes(alloc: Global, count: usize) -> Result<SharedWrites, Fail> {
     let mut told = WriteList::new(alloc);
     for _ in 0..count {
-        told.push(Write {
-            origin: 1,
-            index: 0,
-            stamp: 1,
-            moment: 0,
-            weights: Weights::new(&[])?,
-            op: Op::Put { key: 1, value: 5 },
-        })?;
+        told.push(write()?)?;
     }
     Ok(SharedWrites::new(alloc, told)?)
 }

@@ -2,6 +2,7 @@
 
 ghost use Rattle.std.specs.Prelude.{◌≡◌, IfOk};
 
+use crate::checks::assert_numbers;
 use run_model::{Config, ConfigFault};
 use std::alloc::Global;
 use std::test::Fail;
@@ -41,38 +42,41 @@ static FAULTS: [(u32, u32, &[u64], &[u64], ConfigFault); 13] = [
 fn names_the_first_fault(rt: HostRuntime) {
     for &(replicas, conits, alphas, loans, fault) in &FAULTS {
         let found = fault_of(rt.alloc(), replicas, conits, alphas, loans);
-        assert_eq!(rt; found, Some(fault), "{alphas:?} {loans:?}");
+        assert_eq!(rt; found, Some(fault));
     }
 }
+
+static ALPHAS: [u64; 4] = [5, 6, 7, ALPHA_MAX];
+
+static LOANS: [u64; 8] = [0, 1, 0, 2, 3, 0, ALPHA_MAX, 0];
 
 // A copy of a setup of 2 replicas and 2 conits.
 fn made(alloc: Global) -> Result<Config, Fail>
     ensures { IfOk result (λ config. (config.replicas ≡ 2) × (config.conits ≡ 2)) }
 {
-    let loans = [0, 1, 0, 2, 3, 0, ALPHA_MAX, 0];
-    let config = Config::new(alloc, 2, 2, &[5, 6, 7, ALPHA_MAX], &loans)?;
+    let config = Config::new(alloc, 2, 2, &ALPHAS, &LOANS)?;
     Ok(config.copy(alloc)?)
 }
 
-// What is read of a setup of 2 replicas and 2 conits: its counts, an alpha of each replica, a loan of each, and a list of
-// loans.
-fn readings(config: &Config) -> ([u32; 2], [u64; 2], [u64; 2], &[u64])
+// What is read of a setup of 2 replicas and 2 conits: its counts, an alpha of each replica, and a loan of each.
+fn readings(config: &Config) -> [u64; 6]
     requires replicas { config.now.replicas ≡ 2 }
     requires conits { config.now.conits ≡ 2 }
 {
-    (
-        [config.replicas(), config.conits()],
-        [config.alpha(0, 1), config.alpha(1, 0)],
-        [config.loan(0, 1, 1), config.loan(1, 0, 0)],
-        config.loans(1, 1),
-    )
+    [
+        u64::from(config.replicas()),
+        u64::from(config.conits()),
+        config.alpha(0, 1),
+        config.alpha(1, 0),
+        config.loan(0, 1, 1),
+        config.loan(1, 0, 0),
+    ]
 }
 
 #[test]
 fn reads_what_it_was_made_of(rt: HostRuntime) -> Result<(), Fail> {
     let config = made(rt.alloc())?;
-    let (counts, alphas, loans, list) = readings(&config);
-    assert_eq!(rt; (counts, alphas, loans), ([2, 2], [6, 7], [2, 3]));
-    assert_eq!(rt; list, [ALPHA_MAX, 0].as_slice());
+    assert_numbers(&rt, &readings(&config), &[2, 2, 6, 7, 2, 3]);
+    assert_numbers(&rt, config.loans(1, 1), &[ALPHA_MAX, 0]);
     Ok(())
 }

@@ -343,13 +343,18 @@ fn prints_loans_and_restarts(rt: HostRuntime) -> Result<(), Fail> {
     Ok(())
 }
 
-// The first lines and the last line of a record of 7 entries of 2 replicas.
-fn ends(alloc: Global, conits: u32, alphas: &[u64], loans: &[u64]) -> Result<Bytes, Fail> {
-    let config = Config::new(alloc, 2, conits, alphas, loans)?;
+// The first lines and the last line of a record of 7 entries.
+fn lines(alloc: Global, config: &Config) -> Result<Bytes, NoMemory> {
     let mut out = Bytes::new(alloc);
-    head_of(&config, &mut out)?;
+    head_of(config, &mut out)?;
     end_of(7, &mut out)?;
     Ok(out)
+}
+
+// The same of 2 replicas.
+fn ends(alloc: Global, conits: u32, alphas: &[u64], loans: &[u64]) -> Result<Bytes, Fail> {
+    let config = Config::new(alloc, 2, conits, alphas, loans)?;
+    Ok(lines(alloc, &config)?)
 }
 
 static ENDS: [(u32, &[u64], &[u64], &str); 2] = [
