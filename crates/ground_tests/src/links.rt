@@ -168,7 +168,7 @@ fn answers_each_fate(rt: HostRuntime) -> Result<(), Fail> {
 // The fate of the put that comes after so many, and how many items wait then.
 fn next_put(alloc: Global, plan: LinkPlan, before: u64) -> Result<(Fate, u64), Fail> {
     let mut inbox = filled(alloc, plan, before)?;
-    let fate = inbox.put(&true, parcel_of(before))?;
+    let fate = inbox.put(&true, parcel_of(before.saturating_add(1)))?;
     Ok((fate, inbox.counts().waiting))
 }
 

@@ -1,5 +1,6 @@
 //! Logs by origin: what they take of what is told, and what they lend once the first are given up.
 
+use crate::checks::assert_numbers;
 use std::alloc::Global;
 use std::test::Fail;
 use tact_base::{NoMemory, Op, Weights, Write};
@@ -68,22 +69,22 @@ fn indices(alloc: Global, writes: &[Write]) -> Result<Vec<u64>, NoMemory> {
     Ok(indices)
 }
 
-// The first index that logs of eight origins lend that are told three writes of origin 7, and give up those before
-// `upto` and then those before `then`; and the indices of all that they lend.
+// What logs of eight origins answer that are told three writes of origin 7; and the first index that they lend once they
+// gave up those before `upto` and then those before `then`, and the indices of all that they lend.
 fn lent(
     alloc: Global,
     writes: &[Write; 3],
     upto: u64,
     then: u64,
-) -> Result<(u64, Vec<u64>), NoMemory> {
+) -> Result<(Taken, u64, Vec<u64>), NoMemory> {
     let mut logs = Logs::new(alloc, 8)?;
     logs.reserve(7, 3)?;
-    logs.extend(7, 0, writes);
+    let answer = logs.extend(7, 0, writes);
     logs.trim(7, upto.min(logs.count(7)));
     logs.trim(7, then.min(logs.count(7)));
     let first = logs.base(7);
     let held = logs.slice(7, first, logs.count(7) - first);
-    Ok((first, indices(alloc, held)?))
+    Ok((answer, first, indices(alloc, held)?))
 }
 
 static LENT: [(u64, u64, u64, &[u64]); 5] = [
@@ -98,8 +99,9 @@ static LENT: [(u64, u64, u64, &[u64]); 5] = [
 fn lends_what_is_held(rt: HostRuntime) -> Result<(), Fail> {
     let writes = writes()?;
     for &(upto, then, base, indices) in &LENT {
-        let (first, held) = lent(rt.alloc(), &writes, upto, then)?;
-        assert_eq!(rt; (first, held.as_slice()), (base, indices));
+        let (answer, first, held) = lent(rt.alloc(), &writes, upto, then)?;
+        assert_eq!(rt; (answer, first), (Taken::Added(3), base));
+        assert_numbers(&rt, &held, indices);
     }
     Ok(())
 }
