@@ -4,9 +4,10 @@ use crate::faults::fault_of;
 use link_faults::LinkPlan;
 use run_model::LoadKind;
 use std::alloc::Global;
+use std::process::Abort;
 use std::test::Fail;
 use tact_base::{Bytes, Need, Needs, Op, Weight, Weights};
-use work_load::{Item, LoadFault, parse_plan};
+use work_load::{Client, Item, LoadFault, Plan, parse_plan};
 
 const WORKLOAD: &[u8] = b"{\"replicas\":3,\"conits\":1,\n\
     \"bounds\":[[0,0,200,[0,100,100]],[1,0,200,[100,0,100]],[2,0,200,[100,100,0]]],\n\
@@ -59,32 +60,82 @@ fn read(key: u64) -> Result<Item, Fail> {
     Ok(Item::Read { key, needs })
 }
 
-#[test]
-fn a_run_and_its_links(rt: HostRuntime) -> Result<(), Fail> {
-    let plan = parse_plan(rt.alloc(), WORKLOAD)?;
-    assert_eq!(rt; plan.config().replicas(), 3);
-    assert_eq!(rt; plan.config().conits(), 1);
-    assert_eq!(rt; plan.config().alphas(), [200, 200, 200].as_slice());
-    assert_eq!(rt;
-        plan.config().opening_loans(),
-        [0, 100, 100, 100, 0, 100, 100, 100, 0].as_slice()
-    );
+fn plan(alloc: Global, text: &[u8]) -> Result<Plan, LoadFault> {
+    parse_plan(alloc, text)
+}
+
+// The bounds of a run, and what is lent at its opening.
+fn assert_setup(rt: &impl Abort, plan: &Plan, alphas: &[u64], loans: &[u64]) {
+    assert!(rt; plan.config().alphas() == alphas);
+    assert!(rt; plan.config().opening_loans() == loans);
+}
+
+// How many replicas and conits a run has, and how many rounds settle it.
+fn counts(plan: &Plan) -> (u32, u32, u64) {
+    (
+        plan.config().replicas(),
+        plan.config().conits(),
+        plan.settle(),
+    )
+}
+
+static SHARED: [u64; 3] = [200; 3];
+
+static LENT: [u64; 9] = [0, 100, 100, 100, 0, 100, 100, 100, 0];
+
+static LINKS: [LinkPlan; 3] = [
+    LinkPlan {
+        lose: 5,
+        double: 7,
+        turn: 0,
+    },
+    LinkPlan {
+        lose: 5,
+        double: 7,
+        turn: 0,
+    },
+    LinkPlan {
+        lose: 5,
+        double: 7,
+        turn: 3,
+    },
+];
+
+// The links are these, one to each replica.
+fn assert_links(rt: &impl Abort, plan: &Plan, links: &[LinkPlan]) {
     for to in 0..plan.config().replicas() {
-        let link = LinkPlan {
-            lose: 5,
-            double: 7,
-            turn: if to == 2 { 3 } else { 0 },
-        };
-        assert_eq!(rt; plan.link(to), link);
+        let link = plan.link(to);
+        assert!(rt; links.get(to as usize) == Some(&link));
     }
-    assert_eq!(rt; plan.settle(), 4);
-    Ok(())
 }
 
 #[test]
-fn clients_and_their_items(rt: HostRuntime) -> Result<(), Fail> {
-    let plan = parse_plan(rt.alloc(), WORKLOAD)?;
+fn a_run_and_its_links(rt: HostRuntime) -> Result<(), Fail> {
+    let plan = plan(rt.alloc(), WORKLOAD)?;
+    assert_eq!(rt; counts(&plan), (3, 1, 4));
+    assert_setup(&rt, &plan, &SHARED, &LENT);
+    assert_links(&rt, &plan, &LINKS);
+    Ok(())
+}
+
+fn first_items() -> Result<[Item; 3], Fail> {
     let add = Op::Add { key: 1, delta: 1 };
+    Ok([write(add, TALLY)?, write(add, TALLY)?, read(1)?])
+}
+
+fn second_items() -> [Item; 3] {
+    let reserve = Item::Reserve {
+        conit: 0,
+        amount: 5,
+    };
+    let held = Item::Held {
+        weight: FIVE,
+        op: Op::Add { key: 2, delta: 1 },
+    };
+    [reserve, held, Item::Release { conit: 0 }]
+}
+
+fn third_items() -> Result<[Item; 3], Fail> {
     let shift = Op::Shift {
         from: 1,
         to: 2,
@@ -95,79 +146,104 @@ fn clients_and_their_items(rt: HostRuntime) -> Result<(), Fail> {
         conit: 0,
         amount: 0,
     };
+    Ok([write(shift, BACK)?, lend, read(2)?])
+}
+
+fn last_items() -> Result<[Item; 3], Fail> {
     let back = Item::Back {
         owner: 0,
         conit: 0,
         amount: 10,
     };
-    let held = Item::Held {
-        weight: FIVE,
-        op: Op::Add { key: 2, delta: 1 },
-    };
-    let needless = Item::Read {
-        key: 9,
-        needs: Needs::new(&[])?,
-    };
-    let reserve = Item::Reserve {
-        conit: 0,
-        amount: 5,
-    };
-    let release = Item::Release { conit: 0 };
-    let first = [write(add, TALLY)?, write(add, TALLY)?, read(1)?];
-    let second = [reserve, held, release];
-    let third = [write(shift, BACK)?, lend, read(2)?];
-    let last = [write(Op::Put { key: 9, value: 4 }, TWO)?, back, needless];
-    let due: [(u32, u32, [Item; 3]); 4] = [
-        (0, 0, first),
-        (0, 1, second),
-        (1, 0, third),
-        (2, 0, last),
-    ];
-    assert_eq!(rt; plan.clients().len(), 4);
-    for (client, (replica, number, items)) in plan.clients().iter().zip(due) {
-        assert_eq!(rt; (client.replica, client.client), (replica, number));
-        assert_eq!(rt; client.items.items(), items.as_slice());
-    }
+    let needs = Needs::new(&[])?;
+    let put = write(Op::Put { key: 9, value: 4 }, TWO)?;
+    Ok([put, back, Item::Read { key: 9, needs }])
+}
+
+// A client, by its place, is this one of a replica, and has these items.
+fn assert_client(
+    rt: &impl Abort,
+    clients: &[Client],
+    place: usize,
+    due: (u32, u32),
+    items: [Item; 3],
+) {
+    assert!(rt; place < clients.len());
+    let client = &clients[place];
+    assert_eq!(rt; (client.replica, client.client), due);
+    assert!(rt; client.items.items() == items.as_slice());
+}
+
+#[test]
+fn clients_and_their_items(rt: HostRuntime) -> Result<(), Fail> {
+    let plan = plan(rt.alloc(), WORKLOAD)?;
+    assert_clients(&rt, plan.clients())
+}
+
+fn assert_clients(rt: &impl Abort, clients: &[Client]) -> Result<(), Fail> {
+    assert_eq!(rt; clients.len(), 4);
+    assert_client(rt, clients, 0, (0, 0), first_items()?);
+    assert_client(rt, clients, 1, (0, 1), second_items());
+    assert_client(rt, clients, 2, (1, 0), third_items()?);
+    assert_client(rt, clients, 3, (2, 0), last_items()?);
     Ok(())
+}
+
+fn assert_usual(rt: &impl Abort, plan: &Plan) {
+    assert!(rt; plan.config().alphas() == [1_000_000; 128].as_slice());
+    assert_usual_loans(rt, plan.config().opening_loans());
+}
+
+// What is lent where nothing is said of it, among eight replicas with sixteen conits.
+fn assert_usual_loans(rt: &impl Abort, loans: &[u64]) {
+    assert_eq!(rt; loans.len(), 1_024);
+    for (place, loan) in loans.iter().enumerate() {
+        let due = if place / 128 == place % 8 { 0 } else { 100_000 };
+        assert!(rt; *loan == due, "{place}");
+    }
 }
 
 #[test]
 fn what_no_name_says(rt: HostRuntime) -> Result<(), Fail> {
     let text = b"{\"clients\":[[7,7,[]]],\"replicas\":8,\"conits\":16}";
-    let plan = parse_plan(rt.alloc(), text)?;
-    assert_eq!(rt; plan.settle(), 0);
-    assert_eq!(rt; plan.config().alphas(), [1_000_000; 128].as_slice());
-    assert_eq!(rt; plan.config().opening_loans().len(), 1_024);
-    for (place, loan) in plan.config().opening_loans().iter().enumerate() {
-        let due = if place / 128 == place % 8 { 0 } else { 100_000 };
-        assert_eq!(rt; *loan, due, "{place}");
-    }
-    for to in 0..plan.config().replicas() {
-        assert_eq!(rt; plan.link(to), LinkPlan::default());
-    }
+    let plan = plan(rt.alloc(), text)?;
+    assert_eq!(rt; counts(&plan), (8, 16, 0));
+    assert_usual(&rt, &plan);
+    assert_links(&rt, &plan, &[LinkPlan::default(); 8]);
     Ok(())
 }
+
+static ALPHAS: [u64; 6] = [
+    1_000_000,
+    1_000_000_000_000,
+    1_000_000,
+    1_000_000,
+    1_000_000,
+    5,
+];
+
+static LOANS: [u64; 12] = [0, 100_000, 0, 0, 0, 100_000, 100_000, 0, 100_000, 0, 4, 0];
+
+static TWO_LINKS: [LinkPlan; 2] = [
+    LinkPlan {
+        lose: 0,
+        double: 0,
+        turn: 0,
+    },
+    LinkPlan {
+        lose: 0,
+        double: 2,
+        turn: 0,
+    },
+];
 
 #[test]
 fn bounds_among_others(rt: HostRuntime) -> Result<(), Fail> {
     let text = b" {\"replicas\":9, \"replicas\":2,\"conits\":3,\"links\":[[1,0,2,0]],\n\
         \"bounds\":[[1,2,5,[4,0]],[0,1,1000000000000,[0,0]]],\"clients\":[[1,0,[]]] }\n";
-    let plan = parse_plan(rt.alloc(), text)?;
-    let alphas = [
-        1_000_000,
-        1_000_000_000_000,
-        1_000_000,
-        1_000_000,
-        1_000_000,
-        5,
-    ];
-    let loans = [0, 100_000, 0, 0, 0, 100_000, 100_000, 0, 100_000, 0, 4, 0];
-    assert_eq!(rt; plan.config().alphas(), alphas.as_slice());
-    assert_eq!(rt; plan.config().opening_loans(), loans.as_slice());
-    for to in 0..plan.config().replicas() {
-        let double = if to == 1 { 2 } else { 0 };
-        assert_eq!(rt; plan.link(to).double, double);
-    }
+    let plan = plan(rt.alloc(), text)?;
+    assert_setup(&rt, &plan, &ALPHAS, &LOANS);
+    assert_links(&rt, &plan, &TWO_LINKS);
     Ok(())
 }
 
@@ -183,19 +259,19 @@ fn with_items(alloc: Global, count: usize) -> Result<Bytes, Fail> {
     Ok(text)
 }
 
+// Why a client of so many items is none, if it isn't.
+fn fault_with(alloc: Global, count: usize) -> Result<Option<LoadFault>, Fail> {
+    let text = with_items(alloc, count)?;
+    fault_of(alloc, text.items(), b"]]]", b"}")
+}
+
 #[test]
 fn a_thousand_items(rt: HostRuntime) -> Result<(), Fail> {
     let bad = LoadFault::Bad {
         place: 1,
         kind: LoadKind::Shape,
     };
-    for (count, due) in [(1_000, None), (1_001, Some(bad))] {
-        let text = with_items(rt.alloc(), count)?;
-        assert_eq!(rt;
-            fault_of(rt.alloc(), text.items(), b"]]]", b"}")?,
-            due,
-            "{count}"
-        );
-    }
+    assert_eq!(rt; fault_with(rt.alloc(), 1_000)?, None);
+    assert_eq!(rt; fault_with(rt.alloc(), 1_001)?, Some(bad));
     Ok(())
 }
