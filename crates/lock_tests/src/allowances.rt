@@ -67,7 +67,11 @@ fn reserve<R: Wait + Abort>(
 }
 
 // Splits 2 off, and joins them again.
-fn split_and_join<R: Wait + Abort>(rt: &R, node: &Node<'_, SureJournal, FreeGate>, allowance: &mut Allowance)
+fn split_and_join<R: Wait + Abort>(
+    rt: &R,
+    node: &Node<'_, SureJournal, FreeGate>,
+    allowance: &mut Allowance,
+)
     requires allowance { IsAllowanceOf node.now allowance.old }
     requires amount { 2 ≤ allowance.old.amount }
     ensures kept { allowance.new ≡ allowance.old }
@@ -137,8 +141,14 @@ fn an_allowance_is_spent(rt: HostRuntime) -> Result<(), Fail> {
         config,
         clerk,
     } = open_wide(rt.alloc())?;
-    let Ok((node, mut roster)) = Node::new(rt.alloc(), &desk, &config, clerk, SureJournal::new(rt.alloc()), FreeGate::new())
-    else {
+    let Ok((node, mut roster)) = Node::new(
+        rt.alloc(),
+        &desk,
+        &config,
+        clerk,
+        SureJournal::new(rt.alloc()),
+        FreeGate::new(),
+    ) else {
         panic!(rt; "no memory")
     };
     if config.conits() != 2 {

@@ -94,7 +94,14 @@ pub fn node_of<'d>(
     ensures node { (result.0.desk ≡ desk.now) × (result.0.replica ≡ clerk.replica) }
     ensures roster { IsRosterOf result.0 result.1 }
 {
-    match Node::new(alloc, desk, config, clerk, SureJournal::new(alloc), FreeGate::new()) {
+    match Node::new(
+        alloc,
+        desk,
+        config,
+        clerk,
+        SureJournal::new(alloc),
+        FreeGate::new(),
+    ) {
         Ok(made) => made,
         Err(_) => panic!(rt; "no memory"),
     }

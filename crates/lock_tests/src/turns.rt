@@ -13,7 +13,11 @@ use std::test::Fail;
 use tact_io::{FreeGate, SureJournal};
 
 // Reads key 7.
-fn read<R: Wait + Abort>(rt: &R, node: &Node<'_, SureJournal, FreeGate>, session: &mut Session) -> i64
+fn read<R: Wait + Abort>(
+    rt: &R,
+    node: &Node<'_, SureJournal, FreeGate>,
+    session: &mut Session,
+) -> i64
     requires { IsSessionOf node.now session.old }
     ensures { IsSessionOf node.now session.new }
 {
@@ -24,7 +28,11 @@ fn read<R: Wait + Abort>(rt: &R, node: &Node<'_, SureJournal, FreeGate>, session
 }
 
 // Makes room and writes in one turn, and gives the index of the write.
-fn write_in_turn<R: Wait + Abort>(rt: &R, node: &Node<'_, SureJournal, FreeGate>, session: &mut Session) -> u64
+fn write_in_turn<R: Wait + Abort>(
+    rt: &R,
+    node: &Node<'_, SureJournal, FreeGate>,
+    session: &mut Session,
+) -> u64
     requires { IsSessionOf node.now session.old }
     ensures { IsSessionOf node.now session.new }
 {
@@ -58,8 +66,14 @@ fn a_note_and_a_turn(rt: HostRuntime) -> Result<(), Fail> {
         first,
         second: _,
     } = open_two(rt.alloc())?;
-    let Ok((node, mut roster)) = Node::new(rt.alloc(), &desk, &config, first, SureJournal::new(rt.alloc()), FreeGate::new())
-    else {
+    let Ok((node, mut roster)) = Node::new(
+        rt.alloc(),
+        &desk,
+        &config,
+        first,
+        SureJournal::new(rt.alloc()),
+        FreeGate::new(),
+    ) else {
         panic!(rt; "no memory")
     };
     let mut one = session(&rt, &node, &mut roster, 0);

@@ -31,7 +31,11 @@ fn write_often<R: Wait + Abort>(
 }
 
 /// Writes, and gives the index of the write.
-pub fn write<R: Wait + Abort>(rt: &R, node: &Node<'_, SureJournal, FreeGate>, session: &mut Session) -> u64
+pub fn write<R: Wait + Abort>(
+    rt: &R,
+    node: &Node<'_, SureJournal, FreeGate>,
+    session: &mut Session,
+) -> u64
     requires { IsSessionOf node.now session.old }
     ensures { IsSessionOf node.now session.new }
 {
@@ -74,8 +78,14 @@ fn two_threads_write_at_a_node(rt: HostRuntime) -> Result<(), Fail> {
         first,
         second: _,
     } = open_two(rt.alloc())?;
-    let Ok((node, mut roster)) = Node::new(rt.alloc(), &desk, &config, first, SureJournal::new(rt.alloc()), FreeGate::new())
-    else {
+    let Ok((node, mut roster)) = Node::new(
+        rt.alloc(),
+        &desk,
+        &config,
+        first,
+        SureJournal::new(rt.alloc()),
+        FreeGate::new(),
+    ) else {
         panic!(rt; "no memory")
     };
     let one = session(&rt, &node, &mut roster, 0);
