@@ -1,13 +1,13 @@
 -- The entries that are due in a journal, and their pieces.
-use Rattle.std.proofs.Common.{◌≡◌, ℕ, zero, suc, ◌+◌, ◌<◌, ◌≤◌, List, [], ◌∷◌, ◌++◌, length, get_or, map, take, Option, None, Some, inl, inr, refl, ap, sym, subst, ◌∙◌, length-append, arith}
+use Rattle.std.proofs.Common.{◌≡◌, ℕ, zero, suc, ◌+◌, ◌<◌, ◌≤◌, List, [], ◌∷◌, ◌++◌, length, get_or, map, take, Option, None, Some, inl, inr, refl, ap, sym, ◌∙◌, arith}
 use Rattle.std.specs.List.{slice_get}
 use Rattle.std.specs.Option.{option_map}
-use Rattle.std.proofs.lemmas.List.{length-take, length-map, map-append, take_all, take-append-le}
-use Rattle.std.proofs.lemmas.Option.{slice_get_past, slice_get_within, slice_get-map, slice_get-get_or}
+use Rattle.std.proofs.lemmas.List.{length-take, length-map, map-append}
+use Rattle.std.proofs.lemmas.Option.{slice_get_past, slice_get-map, slice_get-get_or}
 use Rattle.run_model.specs.declared.entry.Entry.{Entry}
 use Rattle.restart_journal.specs.Pieces.{piece_bytes}
 use Rattle.restart_journal.proofs.PieceLists.{something_at, take_one_more}
-use Rattle.journal_reread.specs.Rereading.{HasPiecesOf, IsOtherAt, kept_where, with_kept}
+use Rattle.journal_reread.specs.Rereading.{HasPiecesOf, IsDueAt, IsOtherAt, with_kept}
 
 -- ---- lists
 
@@ -36,14 +36,6 @@ no_item x e = cc
 
 -- ---- what is due
 
-pub many_due : (entries : List Entry) (doubt : Option Entry) → length entries ≤ length (with_kept entries doubt)
-many_due entries None = omega arith
-many_due entries (Some kept) = omega (arith, length-append entries (kept ∷ []))
-
-few_due : (entries : List Entry) (doubt : Option Entry) → length (with_kept entries doubt) ≤ length entries + 1
-few_due entries None = omega arith
-few_due entries (Some kept) = omega (arith, length-append entries (kept ∷ []))
-
 -- the pieces of the stored entries stand in front
 stored_at : (entries : List Entry) (doubt : Option Entry) (k : ℕ) (piece : List ℕ)
     → slice_get (map piece_bytes entries) k ≡ Some piece
@@ -51,20 +43,6 @@ stored_at : (entries : List Entry) (doubt : Option Entry) (k : ℕ) (piece : Lis
 stored_at entries None k piece e = e
 stored_at entries (Some kept) k piece e =
     ap (λ ps. slice_get ps k) (map-append piece_bytes entries (kept ∷ [])) ∙ longer_at (map piece_bytes entries) (piece_bytes kept ∷ []) k piece e
-
--- and are these alone up to their end
-front_alone : (entries : List Entry) (doubt : Option Entry)
-    → take (length entries) (map piece_bytes (with_kept entries doubt)) ≡ map piece_bytes entries
-front_alone entries None = take_all (length entries) (map piece_bytes entries) (omega (arith, length-map entries piece_bytes))
-front_alone entries (Some kept) =
-    let long : length entries ≤ length (map piece_bytes entries) = omega (arith, length-map entries piece_bytes) in
-    ap (take (length entries)) (map-append piece_bytes entries (kept ∷ []))
-    ∙ take-append-le (length entries) (map piece_bytes entries) (piece_bytes kept ∷ []) long
-    ∙ take_all (length entries) (map piece_bytes entries) (omega (arith, length-map entries piece_bytes))
-
--- where a place has a piece that is due, it is within
-pub within_due : (due : List Entry) (place : ℕ) (piece : List ℕ) → slice_get (map piece_bytes due) place ≡ Some piece → place < length due
-within_due due place piece there = omega (arith, slice_get_within (map piece_bytes due) place piece there, length-map due piece_bytes)
 
 -- ---- what was found
 
@@ -112,22 +90,6 @@ module _ (found entries : List Entry) (doubt : Option Entry) (place : ℕ)
         length-map (with_kept entries doubt) piece_bytes,
       )
 
-  whole : length found ≡ place → map piece_bytes found ≡ take place (map piece_bytes (with_kept entries doubt))
-  whole end = sym (take_all place (map piece_bytes found) (omega (arith, length-map found piece_bytes))) ∙ front
-
-  -- all that is due, where that is one more than is stored
-  pub all_kept : length found ≡ place
-      → length entries < place
-      → map piece_bytes found ≡ map piece_bytes (with_kept entries doubt)
-  all_kept end more =
-      whole end ∙ take_all place (map piece_bytes (with_kept entries doubt)) (omega (arith, length-map (with_kept entries doubt) piece_bytes, few_due entries doubt))
-
-  -- or all that is stored
-  pub all_alone : length found ≡ place
-      → place ≡ length entries
-      → map piece_bytes found ≡ map piece_bytes entries
-  all_alone end same = whole end ∙ ap (λ n. take n (map piece_bytes (with_kept entries doubt))) same ∙ front_alone entries doubt
-
 -- such pieces are none that a journal of them may have
 pub no_other : (pieces : List (List ℕ)) (entries : List Entry) (doubt : Option Entry) (place : ℕ)
     → IsOtherAt pieces entries doubt place
@@ -137,3 +99,10 @@ no_other pieces entries None place other has = other.alone (ap (λ ps. slice_get
 no_other pieces entries (Some kept) place other (inl has) = other.alone (ap (λ ps. slice_get ps place) has)
 no_other pieces entries (Some kept) place other (inr has) =
     other.kept (ap (λ ps. slice_get ps place) (has ∙ sym (map-append piece_bytes entries (kept ∷ []))))
+
+-- one place more of a journal's pieces is as it is due
+pub one_due_more : (pieces due : List (List ℕ)) (place : ℕ)
+    → IsDueAt pieces due place
+    → take place pieces ≡ take place due
+    → take (place + 1) pieces ≡ take (place + 1) due
+one_due_more pieces due place is so_far = one_more pieces due place is.piece is.there is.same so_far

@@ -2,13 +2,11 @@
 use Rattle.std.proofs.Common.{◌≡◌, ◌≢◌, ℕ, suc, ◌+◌, ◌≤◌, ◌<◌, Bool, true, false, List, [], ◌∷◌, ◌++◌, length, get_or, map, take, drop, All, Option, None, Some, Err, inl, inr, sym, refl, ap, subst, ◌∙◌, arith}
 use Rattle.std.specs.List.{slice_get}
 use Rattle.std.specs.Option.{option_map}
-use Rattle.std.proofs.lemmas.Bool.{cases_lt}
 use Rattle.std.proofs.lemmas.Option.{same_Some, slice_get_within, slice_get-get_or, slice_get-map}
 use Rattle.std.proofs.lemmas.List.{take-append-drop, drop_more, map-append, take_all}
 use Rattle.std.proofs.lemmas.List.Elements.{All-append, All-head}
 use Rattle.tact_base.proofs.ListLemmas.{All-one, All-append_left, All-append_right}
 use Rattle.tact_base.specs.Setup.{Setup, IsSetup}
-use Rattle.tact_io.specs.Faults.{HasRisen}
 use Rattle.run_model.specs.Runs.{IsPart, MayFollow}
 use Rattle.run_model.specs.declared.entry.Entry.{Entry}
 use Rattle.run_model.proofs.PrefixLemmas.{EachAfter-push}
@@ -19,9 +17,7 @@ use Rattle.restart_journal.specs.Recovery.{IsJournalOf, TellsOf}
 use Rattle.restart_journal.proofs.DueReplies.{due_can_be_put}
 use Rattle.restart_journal.proofs.Journals.{good_is_told, one_journal}
 use Rattle.restart_journal.proofs.PieceLists.{take_one_more}
-use Rattle.journal_reread.specs.Rereading.{CanBeSpelled, HasPiecesOf, IsWithin, MayBeNext, entries_in, kept_where, with_kept}
-use Rattle.journal_reread.specs.declared.fault.RereadFault.{RereadFault}
-use Rattle.journal_reread.specs.declared.fault.RereadFault.TheVariants as reread
+use Rattle.journal_reread.specs.Rereading.{CanBeSpelled, HasPiecesOf, MayBeNext, entries_in, kept_where, with_kept}
 
 -- ---- what holds of all that is due
 
@@ -142,22 +138,3 @@ module _ (setup : Setup) (good : IsSetup setup) (replica : ℕ) where
       let it = which pieces entries doubt has in
       enough (good_is_told setup good replica pieces (Err fault) (with_kept entries (kept_where it.0 doubt)) told (λ e. read cc)
       (due_journal entries doubt part next spelled pieces it.0 it.1))
-
--- ---- faults
-
--- a fault that names no place may be told of any entries
-pub within_any : (count : ℕ) (fault : RereadFault) → IsWithin 0 fault → IsWithin count fault
-within_any count (reread.Foreign place) within = omega (arith, within)
-within_any count reread.JournalReadFault within = tt
-within_any count reread.NoMemory within = tt
-
--- a count that rose later rose
-pub rose_later : (before between after : ℕ) → before ≤ between → between ≤ after → HasRisen between after → HasRisen before after
-rose_later before between after up more rose =
-    elim (cases_lt before after) [
-      | inl lt ↦ inl lt
-      | inr le ↦ inr (elim rose [
-        | inl less ↦ absurd (omega (arith, le, up, less))
-        | inr end ↦ omega (arith, le, up, more, end)
-      ])
-    ]

@@ -55,6 +55,22 @@ IsUnlike pieces entries doubt (reread.Foreign place) = IsOtherAt pieces entries 
 IsUnlike pieces entries doubt reread.JournalReadFault = ⊥
 IsUnlike pieces entries doubt reread.NoMemory = Unit {0}
 
+-- a journal has at a place the piece that is due there
+pub record IsDueAt (pieces due : List (List ℕ)) (place : ℕ) : Type 0 where
+  pub piece : List ℕ
+  pub there : slice_get pieces place ≡ Some piece
+  pub same : slice_get due place ≡ Some piece
+
+-- of a journal's pieces up to a bad one that place is told at which first another stands than the one that is due there
+abbrev pub IsFirstOther : List (List ℕ) → List (List ℕ) → ℕ → RereadFault → Type 0
+IsFirstOther pieces due bad (reread.Foreign place) = (take place pieces ≡ take place due) × (place ≢ bad → ¬ (IsDueAt pieces due place))
+IsFirstOther pieces due bad fault = Unit {0}
+
+-- a fault names no place
+abbrev pub NamesNoPlace : RereadFault → Type 0
+NamesNoPlace (reread.Foreign place) = ⊥
+NamesNoPlace fault = Unit {0}
+
 -- a fault of reading as the journal's
 abbrev pub reread_fault : OutFault → RereadFault
 reread_fault out.Failed = reread.JournalReadFault

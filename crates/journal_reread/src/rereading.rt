@@ -1,11 +1,11 @@
 //! The replica that a journal gives back, where its pieces are those of the stored entries.
 
-ghost use Rattle.std.specs.Prelude.{◌≡◌, ℕ, ◌<◌, ◌≤◌, All, IsTrue, IfOk, IfErr, IsErrOf, Err, length, map};
+ghost use Rattle.std.specs.Prelude.{◌≡◌, ◌↔◌, ℕ, ◌<◌, ◌≤◌, All, IsTrue, IfOk, IfErr, IsErrOf, Err, length, map};
 ghost use Rattle.tact_io.specs.Faults.{HasRisen};
 ghost use Rattle.run_model.specs.Runs.{IsPart};
 ghost use Rattle.replica_core.specs.Stands.{Stands};
 ghost use Rattle.restart_journal.specs.Pieces.{CanBePut, piece_bytes};
-ghost use Rattle.journal_reread.specs.Rereading.{HasPiecesOf, IsWithin, MayBeNext, entries_in, kept_where, with_kept};
+ghost use Rattle.journal_reread.specs.Rereading.{HasPiecesOf, IsDueAt, IsFirstOther, IsWithin, MayBeNext, NamesNoPlace, entries_in, kept_where, with_kept};
 ghost use Rattle.journal_reread.specs.declared.fault.RereadFault.TheVariants as fault;
 
 use crate::comparing::{is_due_at, is_kept};
@@ -81,6 +81,7 @@ fn first_other<J: Journal>(
     journal: &mut J,
 ) -> RereadFault
     requires { All CanBePut (with_kept (entries_in stored.now) doubt.now) }
+    ensures first { IsTrue J.tells → IsFirstOther (J.pieces journal.old) (map piece_bytes (with_kept (entries_in stored.now) doubt.now)) bad result }
     ensures placed { IsWithin (length (with_kept (entries_in stored.now) doubt.now)) result }
     ensures failed { result ≡ fault.JournalReadFault → HasRisen (J.faults journal.old) (J.faults journal.new) }
     ensures stays { IsTrue J.tells → J.pieces journal.new ≡ J.pieces journal.old }
@@ -108,7 +109,9 @@ fn has_due_at<J: Journal>(
 ) -> Result<bool, RereadFault>
     requires { All CanBePut (with_kept (entries_in stored.now) doubt.now) }
     ensures within { IfOk result (λ same. IsTrue same → place < length (with_kept (entries_in stored.now) doubt.now)) }
-    ensures unplaced { IfErr result (IsWithin 0) }
+    ensures due { IfOk result (λ same. IsTrue J.tells
+        → (IsTrue same ↔ IsDueAt (J.pieces journal.old) (map piece_bytes (with_kept (entries_in stored.now) doubt.now)) place)) }
+    ensures unplaced { IfErr result NamesNoPlace }
     ensures failed { IsErrOf result RereadFault.JournalReadFault → HasRisen (J.faults journal.old) (J.faults journal.new) }
     ensures stays { IsTrue J.tells → J.pieces journal.new ≡ J.pieces journal.old }
     ensures room_pieces { J.spare_pieces journal.new ≡ J.spare_pieces journal.old }
