@@ -1,4 +1,4 @@
-use Rattle.std.proofs.Common.{◌≡◌, ◌≢◌, Err, All, List, map, sym, ap, subst, subst₂, ◌∙◌}
+use Rattle.std.proofs.Common.{◌≡◌, Err, All, List, map, sym, ap, subst, subst₂, ◌∙◌}
 use Rattle.run_model.specs.Runs.{IsPart}
 use Rattle.run_model.specs.declared.entry.Entry.{Entry}
 use Rattle.replica_core.specs.Stands.{Stands}
