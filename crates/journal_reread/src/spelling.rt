@@ -1,6 +1,6 @@
 //! That entries at hand can be spelled: their numbers have 64 bits. None of these functions changes anything.
 
-ghost use Rattle.std.specs.Prelude.{◌<◌, ◌^◌, All, FitsSigned};
+ghost use Rattle.std.specs.Prelude.{All, FitsSigned};
 ghost use Rattle.std.specs.Int.{w64};
 ghost use Rattle.run_model.specs.CallBytes.{HasWideNumbers};
 ghost use Rattle.restart_journal.specs.Pieces.{CanBePut, IsSpellable};
