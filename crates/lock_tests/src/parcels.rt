@@ -10,6 +10,7 @@ use run_model::Act;
 use std::process::Abort;
 use std::sync::Wait;
 use std::test::Fail;
+use tact_io::SureJournal;
 
 // Replica 0 writes and sends to replica 1. It has something to tell it from then on.
 fn write_and_send<R: Wait + Abort>(rt: &R, sender: &mut Client<'_, '_>) -> Parcel
