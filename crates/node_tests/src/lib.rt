@@ -1,8 +1,6 @@
-//! Tests of nodes: where one ends, when one is full, what clients in threads spend there, and where its journal fails.
+//! Tests of nodes: where one ends, when one is full, and what clients in threads spend there.
 #![tactic(auto)]
 
-#[cfg(test)]
-mod journals;
 #[cfg(test)]
 mod limits;
 #[cfg(test)]
