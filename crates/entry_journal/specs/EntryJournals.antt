@@ -60,3 +60,8 @@ pub record IsUntouched (before after : JournalView) : Type 0 where
   pub faults : after.faults ≡ before.faults
   pub halted : after.halted ≡ before.halted
   pub doubt : after.doubt ≡ before.doubt
+
+-- what is kept of the one in doubt: it, or nothing
+abbrev pub IsKeptOf : Option Entry → Option Entry → Type 0
+IsKeptOf doubt None = Unit {0}
+IsKeptOf doubt (Some kept) = doubt ≡ Some kept

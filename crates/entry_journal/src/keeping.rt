@@ -1,9 +1,16 @@
-ghost use Rattle.std.specs.Prelude.{◌≡◌, ◌≢◌, ℕ, ◌+◌, ◌<◌, ◌≤◌, true, false, None, IsTrue, IfOk, IsOk, OnOk, OnErr, length};
+ghost use Rattle.std.specs.Prelude.{◌≡◌, ◌≢◌, ℕ, ◌+◌, ◌<◌, ◌≤◌, true, false, None, Err, IsTrue, IfOk, IsOk, IsErrOf, OnOk, OnErr, length, map};
+ghost use Rattle.tact_io.specs.Faults.{HasRisen};
+ghost use Rattle.run_model.specs.Runs.{IsPart};
+ghost use Rattle.replica_core.specs.Stands.{Stands};
 ghost use Rattle.restart_journal.specs.Pieces.{CanBePut, piece_bytes};
-ghost use Rattle.entry_journal.specs.EntryJournals.{HasDoubt, HasKept, HasRoomFor, IsUntouched};
+ghost use Rattle.journal_reread.specs.Rereading.{MayBeNext, entries_in, with_kept};
+ghost use Rattle.journal_reread.specs.declared.fault.RereadFault.TheVariants as fault;
+ghost use Rattle.entry_journal.specs.EntryJournals.{HasDoubt, HasKept, HasPiecesOf, HasRoomFor, IsKeptOf, IsUntouched};
 
+use journal_reread::{Reread, RereadFault, reread};
+use replica_core::Replica;
 use restart_journal::put_entry;
-use run_model::Entry;
+use run_model::{Config, Entry};
 use std::alloc::Global;
 use std::marker::Model;
 use tact_base::{Bytes, NoMemory};
@@ -22,6 +29,13 @@ pub struct EntryJournal<J: Journal> {
     // For how many calls room was made.
     room: u64,
     alloc: Global,
+}
+
+/// What a journal gave back: the replica, made again, and the entry in doubt where the journal has it.
+#[derive(Drop)]
+pub struct Restarted {
+    pub replica: Replica,
+    pub kept: Option<Entry>,
 }
 
 impl<J: Journal> Model for EntryJournal<J> {
@@ -135,10 +149,78 @@ impl<J: Journal> EntryJournal<J> {
         Ok(piece)
     }
 
-    /// Appends the piece of an entry, for which there is room, and gives the entry back. The journal may not be halted
-    /// before. After `Failed` it is, and the entry is in doubt. Takes no memory.
+    /// Makes the replica of this number of a setup again from the journal, whose pieces are to be those of the stored
+    /// entries, or of these and of the one in doubt. Then it is known whether that one is there, and none is in doubt.
+    /// It stays halted if it was.
+    ///
+    /// `Foreign` tells the first piece that is another than was stored there, or is missing; it never comes where the
+    /// journal tells its pieces. After it, and after `JournalReadFault`, the journal is halted. All faults leave in doubt
+    /// what was.
+    pub fn reread(
+        &mut self,
+        config: &Config,
+        replica: u32,
+        stored: &[(u64, Entry)],
+    ) -> Result<Restarted, RereadFault>
+        requires among { replica < config.now.replicas }
+        requires part { IsPart config.now replica (entries_in stored.now) }
+        requires next { MayBeNext config.now replica (entries_in stored.now) self.old.doubt }
+        requires has { IsTrue self.old.tells → HasPiecesOf self.old.pieces (entries_in stored.now) self.old.doubt }
+        ensures setup { IfOk result (λ read. (read.replica.core.setup ≡ config.now) × (read.replica.core.replica ≡ replica)) }
+        ensures stands { IfOk result (λ read. Stands (with_kept (entries_in stored.now) read.kept) read.replica.core) }
+        ensures kept { IfOk result (λ read. IsKeptOf self.old.doubt read.kept) }
+        ensures told { IfOk result (λ read. IsTrue self.old.tells → self.old.pieces ≡ map piece_bytes (with_kept (entries_in stored.now) read.kept)) }
+        ensures sure { OnOk result ((self.new.halted ≡ self.old.halted) × (self.new.doubt ≡ None)) }
+        ensures doubt { OnErr result (self.new.doubt ≡ self.old.doubt) }
+        ensures no_memory { IsErrOf result RereadFault.NoMemory → self.new.halted ≡ self.old.halted }
+        ensures failed { IsErrOf result RereadFault.JournalReadFault → (self.new.halted ≡ true) × HasRisen self.old.faults self.new.faults }
+        ensures foreign { (place : ℕ) → result ≡ Err (fault.Foreign place) → (self.new.halted ≡ true) × (IsTrue self.old.tells → ⊥) }
+        ensures tells { self.new.tells ≡ self.old.tells }
+        ensures stays { IsTrue self.old.tells → self.new.pieces ≡ self.old.pieces }
+        ensures room { self.new.room ≡ self.old.room }
+        ensures never_falls { self.old.faults ≤ self.new.faults }
+    {
+        match reread(
+            self.alloc,
+            config,
+            replica,
+            stored,
+            &self.doubt,
+            &mut self.journal,
+        ) {
+            Ok(
+                Reread {
+                    replica,
+                    kept: true,
+                },
+            ) => Ok(Restarted {
+                replica,
+                kept: self.doubt.take(),
+            }),
+            Ok(
+                Reread {
+                    replica,
+                    kept: false,
+                },
+            ) => {
+                self.doubt = None;
+                Ok(Restarted {
+                    replica,
+                    kept: None,
+                })
+            }
+            Err(RereadFault::NoMemory) => Err(RereadFault::NoMemory),
+            Err(fault) => {
+                self.halted = true;
+                Err(fault)
+            }
+        }
+    }
+
+    /// Appends the piece of an entry, for which there is room, and gives the entry back. No entry may be in doubt before.
+    /// After that it isn't halted; after `Failed` it is, and the entry is in doubt. Takes no memory.
     pub fn append(&mut self, piece: &[u8], entry: Entry) -> Result<Entry, Failed>
-        requires going { self.old.halted ≡ false }
+        requires sure { self.old.doubt ≡ None }
         requires spelled { piece.now ≡ piece_bytes entry }
         requires room { HasRoomFor (length piece.now) self.old }
         ensures back { IfOk result (λ back. back ≡ entry) }
@@ -150,7 +232,10 @@ impl<J: Journal> EntryJournal<J> {
     {
         self.room = self.room.saturating_sub(1);
         match self.journal.append(piece) {
-            Ok(()) => Ok(entry),
+            Ok(()) => {
+                self.halted = false;
+                Ok(entry)
+            }
             Err(Failed) => {
                 self.halted = true;
                 self.doubt = Some(entry);

@@ -4,4 +4,5 @@
 
 mod keeping;
 
-pub use keeping::EntryJournal;
+pub use journal_reread::RereadFault;
+pub use keeping::{EntryJournal, Restarted};
