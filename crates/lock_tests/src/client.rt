@@ -3,7 +3,7 @@ ghost use Rattle.std.specs.Prelude.{◌≡◌, ◌≢◌, ◌<◌, ◌≤◌};
 ghost use Rattle.tact_base.specs.declared.limits.TheConstants.{CLIENTS, MOMENT_MAX};
 ghost use Rattle.run_model.specs.Ranges.{IsRequestInRange};
 ghost use Rattle.replica_lock.specs.Allowances.{IsAllowanceOf};
-ghost use Rattle.replica_lock.specs.Locks.{IsWriteOrRead};
+ghost use Rattle.locked_replica.specs.Locks.{IsWriteOrRead};
 ghost use Rattle.replica_lock.specs.Rosters.{IsRosterOf};
 ghost use Rattle.replica_lock.specs.Sessions.{IsSessionOf};
 ghost use Rattle.postbox.specs.Posts.{IsFor};

@@ -2,7 +2,7 @@
 ghost use Rattle.std.specs.Prelude.{◌≡◌, ◌+◌, ◌<◌, ◌≤◌, All};
 ghost use Rattle.tact_base.specs.Setup.{Setup};
 ghost use Rattle.run_model.specs.Ranges.{IsRequestInRange};
-ghost use Rattle.replica_lock.specs.Locks.{IsWriteOrRead};
+ghost use Rattle.locked_replica.specs.Locks.{IsWriteOrRead};
 ghost use Rattle.replica_lock.specs.Rosters.{IsRosterOf};
 ghost use Rattle.lock_tests.specs.Nodes.{IsOneOfFour};
 

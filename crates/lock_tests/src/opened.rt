@@ -3,7 +3,7 @@ ghost use Rattle.std.specs.Prelude.{◌≡◌, [], IfOk, vec_len, slice_index_or
 ghost use Rattle.tact_base.specs.Setup.{Setup};
 ghost use Rattle.run_model.specs.Ranges.{IsRequestInRange};
 ghost use Rattle.run_history.specs.Seats.{fresh_clerk};
-ghost use Rattle.replica_lock.specs.Locks.{IsWriteOrRead};
+ghost use Rattle.locked_replica.specs.Locks.{IsWriteOrRead};
 ghost use Rattle.replica_lock.specs.Rosters.{IsRosterOf};
 
 use replica_lock::{Node, Roster};

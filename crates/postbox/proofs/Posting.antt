@@ -8,7 +8,7 @@ use Rattle.link_faults.specs.declared.plan.Fate.{Fate}
 use Rattle.link_faults.proofs.Waiting.{Gains-all}
 use Rattle.run_history.specs.Seats.{DeskView}
 use Rattle.run_model.specs.declared.entry.Message.{Message}
-use Rattle.replica_lock.specs.Parcels.{ParcelView}
+use Rattle.locked_replica.specs.Parcels.{ParcelView}
 use Rattle.postbox.specs.declared.post.Address.{Address}
 use Rattle.postbox.specs.Posts.{AreFor, IsFateBy, IsFor, PostView, address_of}
 

@@ -6,7 +6,7 @@ use Rattle.link_faults.specs.Plans.{fate_of}
 use Rattle.link_faults.specs.declared.plan.Fate.{Fate}
 use Rattle.link_faults.specs.declared.plan.LinkPlan.{LinkPlan}
 use Rattle.run_model.specs.declared.entry.Message.{Message}
-use Rattle.replica_lock.specs.Parcels.{ParcelView}
+use Rattle.locked_replica.specs.Parcels.{ParcelView}
 use Rattle.postbox.specs.declared.post.Address.{Address}
 
 -- the table of its desk, its replica, and the plan, the parcels that wait and the counts

@@ -1,5 +1,5 @@
 -- The totals after a call that writes or reads: no conit's changes.
-use Rattle.std.proofs.Common.{◌≡◌, ℕ, ◌+◌, ◌*◌, ◌<◌, length, get_or, set, OnOk, IfOk, Result, Ok, Err, refl, sym, ap, ◌∙◌, subst, arith}
+use Rattle.std.proofs.Common.{◌≡◌, ℕ, ◌+◌, ◌-◌, ◌*◌, ◌<◌, length, get_or, set, OnOk, IfOk, Result, Ok, Err, refl, sym, ap, ◌∙◌, subst, arith}
 use Rattle.std.proofs.lemmas.List.{set-get_or}
 use Rattle.tact_base.specs.Setup.{Setup, IsSetup}
 use Rattle.tact_base.specs.declared.limits.TheConstants.{CLIENTS}
@@ -10,11 +10,12 @@ use Rattle.run_model.specs.declared.call.Request.{Request}
 use Rattle.run_model.specs.declared.call.Request.TheVariants as request
 use Rattle.replica_lock.specs.Allowances.{AllowanceView, IsAllowanceOf, allowance_of}
 use Rattle.replica_lock.specs.Answering.{HasAnswered}
-use Rattle.replica_lock.specs.Locks.{IsLocked, IsWriteOrRead, made_place, one_more_at, part_in, turns_place}
+use Rattle.locked_replica.specs.Locks.{IsLocked, IsWriteOrRead, made_place, one_more_at, part_in, turns_place}
 use Rattle.replica_lock.specs.Sessions.{NodeView, SessionView, TurnView}
-use Rattle.replica_lock.specs.declared.fault.NodeFault.{NodeFault}
-use Rattle.replica_lock.proofs.Allowing.{entered-client, reserved-entered}
-use Rattle.replica_lock.proofs.Totals.{counted, counted-else}
+use Rattle.locked_replica.specs.declared.fault.NodeFault.{NodeFault}
+use Rattle.locked_replica.proofs.Allowing.{entered-client, reserved-entered}
+use Rattle.locked_replica.proofs.Totals.{counted, counted-else}
+use Rattle.replica_lock.proofs.LedgerLemmas.{counted-conit}
 
 -- the first conit of a node
 pub first-conit : (setup : Setup) → IsSetup setup → 0 < setup.conits
@@ -60,3 +61,21 @@ module _ (before after : TurnView) (old new : SessionView) (moment : ℕ) (asked
       → OnOk result (after.state.totals ≡ one_more_at (made_place old.conits old.client) (one_more_at (turns_place old.conits old.client) before.state.totals))
   totals-plain (Ok given) answered = totals-given given answered
   totals-plain (Err fault) answered = tt
+
+  -- nor does the book's
+  book-given : (given : Reply)
+      → HasAnswered before after old new moment 0 asked given
+      → (after.book ≡ one_more_at (made_place old.conits old.client) (one_more_at (turns_place old.conits old.client) before.book)) × (after.owes ≡ before.owes)
+  book-given given answered =
+      let list = one_more_at (made_place old.conits old.client) (one_more_at (turns_place old.conits old.client) before.book) in
+      let still = counted-conit old.conits old.client 0 before.book some in
+      let moved = reserved-entered before.state after.state _ _ answered.entered are 0 in
+      let none = plain-moves 0 asked given plain in
+      let here : get_or before.book 0 0 + reserved (part_in after.state) 0 - reserved (part_in before.state) 0 ≡ get_or list 0 0 = omega (arith, moved, none.0, none.1, still) in
+      (answered.book ∙ ap (set list 0) here ∙ set-get_or list 0 0, answered.owes)
+
+  pub book-plain : (result : Result Reply NodeFault)
+      → IfOk result (HasAnswered before after old new moment 0 asked)
+      → OnOk result ((after.book ≡ one_more_at (made_place old.conits old.client) (one_more_at (turns_place old.conits old.client) before.book)) × (after.owes ≡ before.owes))
+  book-plain (Ok given) answered = book-given given answered
+  book-plain (Err fault) answered = tt

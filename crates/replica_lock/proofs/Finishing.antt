@@ -1,18 +1,17 @@
--- How a node ends with the sessions of all its clients.
-use Rattle.std.proofs.Common.{◌≡◌, ◌≢◌, ℕ, suc, ◌+◌, ◌<◌, List, [], ◌∷◌, ◌++◌, All, AllPairs, Contains, ⊎_elim, drop, length, map, get_or, set, sum, sum_by, refl, sym, ap, ◌∙◌, subst, arith, get_or-set_same, get_or-set_other}
+-- How a node ends with the sessions of all its clients: their places are given back, one client after another.
+use Rattle.std.proofs.Common.{◌≡◌, ◌≢◌, ℕ, suc, ◌+◌, ◌<◌, List, [], ◌∷◌, ◌++◌, All, AllPairs, Contains, ⊎_elim, length, map, get_or, set, sum, sum_by, refl, sym, ap, ◌∙◌, subst, arith, get_or-set_same, get_or-set_other}
 use Rattle.std.proofs.lemmas.Bool.{cases_eq}
-use Rattle.std.proofs.lemmas.List.{get_or-drop, get_or-map, length-drop, length-map, length-set, map-append}
+use Rattle.std.proofs.lemmas.List.{get_or-map, length-map, length-set, map-append}
 use Rattle.std.proofs.lemmas.List.Elements.{All-head, All-tail, All-cons, All-nil, All-push, Contains-append_right}
 use Rattle.std.proofs.lemmas.List.Sums.{sum_by-set, sum_by-cons}
 use Rattle.tact_base.proofs.ElementLemmas.{AllPairs-first, AllPairs-rest, Contains-cases, Contains-first, Contains-none}
 use Rattle.tact_base.specs.declared.limits.TheConstants.{CLIENTS}
 use Rattle.weight_ledger.specs.Amounts.{IsMoved}
 use Rattle.weight_ledger.specs.Seen.{TallyView}
-use Rattle.run_model.specs.Histories.{calls_in}
-use Rattle.replica_lock.specs.Locks.{IsLocked, LockedView, made_place, part_in, turns_place}
-use Rattle.replica_lock.specs.Rosters.{AreAllSessions, HasCounts, HasPlacesOf}
-use Rattle.replica_lock.specs.Sessions.{KeepsSession, SessionView, own_calls}
-use Rattle.replica_lock.proofs.Opening.{counts-left, not_before, not_itself, places-left}
+use Rattle.replica_lock.specs.Rosters.{HasNumbers, no_numbers}
+use Rattle.replica_lock.specs.Sessions.{HasPlacesOf, KeepsSession, SessionView, numbers_of, place_of}
+use Rattle.replica_lock.proofs.Opening.{not_before, not_itself}
+use Rattle.replica_lock.proofs.Places.{at-place, nothing-at, numbers-left, own_places, places-left}
 
 -- numbers that are all 0 add up to nothing
 pub sum-nothing : (numbers : List ℕ)
@@ -91,23 +90,17 @@ AllPairs-before R (one ∷ before) x after all =
 -- the places of a session's client are given to a tally that has nothing of it
 pub places-given : (session : SessionView) (tally before left gone after : TallyView)
     → KeepsSession session before
-    → HasCounts session.conits session.client 0 0 tally
-    → All (IsMoved before left gone) (turns_place session.conits session.client ∷ made_place session.conits session.client ∷ [])
+    → HasNumbers session.conits session.client no_numbers tally
+    → All (IsMoved before left gone) (own_places session.conits session.client)
     → ((p : ℕ) → get_or after.amounts p 0 ≡ get_or tally.amounts p 0 + get_or gone.amounts p 0)
     → ((p : ℕ) → get_or after.owns p 0 ≡ get_or tally.owns p 0 + get_or gone.owns p 0)
-    → HasPlacesOf session.conits session.client (length (own_calls session)) session.made after
+    → HasPlacesOf session.conits session.client (numbers_of session) after
 places-given session tally before left gone after keeps nothing moved amounts owns =
-    let at_turns = turns_place session.conits session.client in
-    let at_made = made_place session.conits session.client in
-    let turns = All-head (IsMoved before left gone) at_turns (at_made ∷ []) moved in
-    let made = All-head (IsMoved before left gone) at_made [] (All-tail (IsMoved before left gone) at_turns (at_made ∷ []) moved) in
-    record {
-      owns_turns = λ none. keeps.owns_turns (omega (arith, owns at_turns, turns.got, none));
-      owns_made = λ none. keeps.owns_made (omega (arith, owns at_made, made.got, none));
-      counts = record {
-        turns = omega (arith, amounts at_turns, nothing.turns, turns.all, keeps.turns, keeps.calls);
-        made = omega (arith, amounts at_made, nothing.made, made.all, keeps.made);
-      };
+    let place = λ (k : ℕ). place_of session.conits session.client k in
+    let at = at-place (IsMoved before left gone) session.conits session.client moved in record {
+      owns = λ k within none. keeps.places.owns k within (omega (arith, owns (place k), (at k within).got, none));
+      amounts = λ k within.
+          omega (arith, amounts (place k), nothing k within, nothing-at k, (at k within).all, keeps.places.amounts k within);
     }
 
 -- One more session has given its places.
@@ -115,7 +108,7 @@ module _ (conits : ℕ) (clients : List ℕ) (done : List SessionView) (session 
     (whole : map (λ (s : SessionView). s.client) (done ++ session ∷ rest) ≡ clients)
     (apart : AllPairs (λ (one other : ℕ). one ≢ other) clients)
     (among : session.client < CLIENTS)
-    (elsewhere : (p : ℕ) → p ≢ turns_place conits session.client → p ≢ made_place conits session.client
+    (elsewhere : (p : ℕ) → ((k : ℕ) → k < 5 → p ≢ place_of conits session.client k)
     → (get_or new.amounts p 0 ≡ get_or old.amounts p 0) × (get_or old.owns p 0 ≢ 0 → get_or new.owns p 0 ≢ 0)) where
   others : All (λ (s : SessionView). s.client ≢ session.client) done
   others =
@@ -132,31 +125,28 @@ module _ (conits : ℕ) (clients : List ℕ) (done : List SessionView) (session 
       (Contains-append_right (map (λ (s : SessionView). s.client) done) (map (λ (s : SessionView). s.client) (session ∷ rest)) session.client
       (Contains-first session.client session.client (map (λ (s : SessionView). s.client) rest) refl)))
 
-  abbrev Places : TallyView → SessionView → Type 0
-  Places tally s = HasPlacesOf conits s.client (length (own_calls s)) s.made tally
-
   pub places-more : All (λ (s : SessionView). s.client < CLIENTS) done
-      → All (λ (s : SessionView). HasPlacesOf conits s.client (length (own_calls s)) s.made old) done
-      → HasPlacesOf conits session.client (length (own_calls session)) session.made new
-      → All (λ (s : SessionView). HasPlacesOf conits s.client (length (own_calls s)) s.made new) (done ++ session ∷ [])
+      → All (λ (s : SessionView). HasPlacesOf conits s.client (numbers_of s) old) done
+      → HasPlacesOf conits session.client (numbers_of session) new
+      → All (λ (s : SessionView). HasPlacesOf conits s.client (numbers_of s) new) (done ++ session ∷ [])
   places-more within placed mine =
-      All-push (Places new) done session
+      All-push (λ (s : SessionView). HasPlacesOf conits s.client (numbers_of s) new) done session
       (λ k d at. let s = get_or done k d in
-      places-left conits session.client old new s.client (within k d at) among (others k d at) elsewhere (length (own_calls s)) s.made (placed k d at))
+      places-left conits session.client old new s.client (within k d at) among (others k d at) elsewhere (numbers_of s) (placed k d at))
       mine
 
-  pub nothing-more : ((client : ℕ) → client < CLIENTS → (Contains (map (λ (s : SessionView). s.client) done) client → ⊥) → HasCounts conits client 0 0 old)
-      → (client : ℕ) → client < CLIENTS → (Contains (map (λ (s : SessionView). s.client) (done ++ session ∷ [])) client → ⊥) → HasCounts conits client 0 0 new
+  pub nothing-more : ((client : ℕ) → client < CLIENTS → (Contains (map (λ (s : SessionView). s.client) done) client → ⊥) → HasNumbers conits client no_numbers old)
+      → (client : ℕ) → client < CLIENTS → (Contains (map (λ (s : SessionView). s.client) (done ++ session ∷ [])) client → ⊥) → HasNumbers conits client no_numbers new
   nothing-more nothing client within out =
       let free = λ (among_all : Contains (map (λ (s : SessionView). s.client) done ++ session.client ∷ []) client).
       out (subst (λ cs. Contains cs client) (sym (map-append (λ (s : SessionView). s.client) done (session ∷ []))) among_all) in
-      counts-left conits session.client old new client within among (not_itself _ session.client client free) elsewhere 0 0
+      numbers-left conits session.client old new client within among (not_itself _ session.client client free) elsewhere no_numbers
       (nothing client within (not_before _ session.client client free))
 
-  pub free-more : ((client : ℕ) → client < CLIENTS → (Contains clients client → ⊥) → HasPlacesOf conits client 0 0 old)
-      → (client : ℕ) → client < CLIENTS → (Contains clients client → ⊥) → HasPlacesOf conits client 0 0 new
+  pub free-more : ((client : ℕ) → client < CLIENTS → (Contains clients client → ⊥) → HasPlacesOf conits client no_numbers old)
+      → (client : ℕ) → client < CLIENTS → (Contains clients client → ⊥) → HasPlacesOf conits client no_numbers new
   free-more free client within out =
-      places-left conits session.client old new client within among (λ same. out (subst (Contains clients) (sym same) is_listed)) elsewhere 0 0 (free client within out)
+      places-left conits session.client old new client within among (λ same. out (subst (Contains clients) (sym same) is_listed)) elsewhere no_numbers (free client within out)
 
 -- what holds of what each element gives holds of each of the list of what they give
 pub All-map : {X Y : Type 0} (P : Y → Type 0) (f : X → Y) (xs : List X)
@@ -169,55 +159,3 @@ pub All-unmap : {X Y : Type 0} (P : Y → Type 0) (f : X → Y) (xs : List X)
     → All P (map f xs)
     → All (λ x. P (f x)) xs
 All-unmap P f xs all k d within = subst P (get_or-map f xs k d (f d) within) (all k (f d) (omega (arith, length-map xs f, within)))
-
--- A node's lock, where a tally with the places of all clients agrees with its totals: of each session it has as many calls
--- as this has seen, and no calls of others.
-module _ (locked : LockedView) (clients : List ℕ) (sessions : List SessionView) (tally : TallyView)
-    (kept : IsLocked locked)
-    (agrees : (p : ℕ) → get_or tally.owns p 0 ≢ 0 → get_or locked.totals p 0 ≡ get_or tally.amounts p 0)
-    (placed : All (λ (s : SessionView). HasPlacesOf locked.core.setup.conits s.client (length (own_calls s)) s.made tally) sessions)
-    (whole : map (λ (s : SessionView). s.client) sessions ≡ clients)
-    (among : All (λ (client : ℕ). client < CLIENTS) clients)
-    (apart : AllPairs (λ (one other : ℕ). one ≢ other) clients)
-    (others : (client : ℕ) → client < CLIENTS → (Contains clients client → ⊥) → HasPlacesOf locked.core.setup.conits client 0 0 tally) where
-  within : All (λ (s : SessionView). s.client < CLIENTS) sessions
-  within = All-unmap (λ (client : ℕ). client < CLIENTS) (λ (s : SessionView). s.client) sessions (subst (All (λ (client : ℕ). client < CLIENTS)) (sym whole) among)
-
-  counted : (client calls entries : ℕ)
-      → client < CLIENTS
-      → HasPlacesOf locked.core.setup.conits client calls entries tally
-      → (calls_in (part_in locked) client ≡ calls) × (get_or locked.totals (made_place locked.core.setup.conits client) 0 ≡ entries)
-  counted client calls entries few has = (
-    sym (kept.turns client few) ∙ agrees (turns_place locked.core.setup.conits client) has.owns_turns ∙ has.counts.turns,
-    agrees (made_place locked.core.setup.conits client) has.owns_made ∙ has.counts.made,
-  )
-
-  abbrev numbers : List ℕ
-  numbers = drop (locked.core.setup.conits + CLIENTS) locked.totals
-
-  width : length numbers ≡ CLIENTS
-  width = omega (arith, length-drop (locked.core.setup.conits + CLIENTS) locked.totals, kept.places)
-
-  made-placed : All (λ (s : SessionView). (s.client < length numbers) × (get_or numbers s.client 0 ≡ s.made)) sessions
-  made-placed = λ k d at. (
-    omega (arith, width, within k d at),
-    get_or-drop (locked.core.setup.conits + CLIENTS) locked.totals (get_or sessions k d).client 0
-        ∙ (counted (get_or sessions k d).client (length (own_calls (get_or sessions k d))) (get_or sessions k d).made (within k d at) (placed k d at)).1,
-  )
-
-  made-none : (place : ℕ) → place < length numbers → (Contains (map (λ (s : SessionView). s.client) sessions) place → ⊥) → get_or numbers place 0 ≡ 0
-  made-none place at out =
-      let few : place < CLIENTS = omega (arith, width, at) in
-      get_or-drop (locked.core.setup.conits + CLIENTS) locked.totals place 0
-      ∙ (counted place 0 0 few (others place few (λ in_it. out (subst (λ cs. Contains cs place) (sym whole) in_it)))).1
-
-  pub all-sessions : AreAllSessions clients sessions (part_in locked)
-  all-sessions = record {
-    calls = λ k d at. (counted (get_or sessions k d).client (length (own_calls (get_or sessions k d))) (get_or sessions k d).made (within k d at) (placed k d at)).0;
-    others = λ client few out. (counted client 0 0 few (others client few out)).0;
-    made =
-        length-map locked.stored (λ pair. pair.1) ∙ sym kept.made
-        ∙ sum-placed (λ (s : SessionView). s.client) (λ (s : SessionView). s.made) sessions numbers made-placed
-        (AllPairs-from_map (λ (one other : ℕ). one ≢ other) (λ (s : SessionView). s.client) sessions (subst (AllPairs (λ (one other : ℕ). one ≢ other)) (sym whole) apart))
-        made-none;
-  }

@@ -10,7 +10,7 @@ use Rattle.run_model.specs.declared.entry.Entry.{Entry}
 use Rattle.run_model.proofs.PartLemmas.{part_of-push_same}
 use Rattle.run_model.proofs.PrefixLemmas.{EachAfter-last}
 use Rattle.run_promises.proofs.Kept.{IsKept-run}
-use Rattle.replica_lock.specs.Locks.{HasEntered, LockedView, entry_in, part_in}
+use Rattle.locked_replica.specs.Locks.{HasEntered, LockedView, entry_in, part_in}
 use Rattle.replica_lock.specs.Sessions.{SessionView, HasMade, entry_after}
 use Rattle.replica_lock.proofs.Seeing.{calls_of-same}
 
@@ -41,8 +41,8 @@ module _ (setup : Setup) (sound : IsSetup setup) (before after : LockedView) (ol
   seen_is : new.seen ≡ entered.front ++ entry_after old entered.front moment done ∷ []
   seen_is = ap (λ (s : SessionView). s.seen) value ∙ entered.seen ∙ ap (λ (e : Entry). entered.front ++ e ∷ []) spelt
 
-  pub HasMade-entered : old.calls ≡ calls_in (part_in before) old.client
-      → calls_in (part_of old.seen old.replica) old.client ≡ old.calls
+  pub HasMade-entered : (old.doubt ≡ false → old.calls ≡ calls_in (part_in before) old.client)
+      → (old.doubt ≡ false → calls_in (part_of old.seen old.replica) old.client ≡ old.calls)
       → is_call_of old.client done ≡ false
       → HasMade setup old new moment done
   HasMade-entered calls known quiet =
@@ -50,13 +50,13 @@ module _ (setup : Setup) (sound : IsSetup setup) (before after : LockedView) (ol
       let entry = entry_after old front moment done in
       let run : IsRun setup new.seen = subst (λ (s : SessionView). IsRun setup s.seen) (sym value) (subst (λ s. IsRun s after.clerk.seen) (sym of_setup) entered.run) in
       let lawful = EachAfter-last (IsLawful setup) front entry (subst (IsRun setup) seen_is run) in
-      let same = calls_of-same old.seen front old.replica old.client entered.told (known ∙ calls ∙ ap (λ p. calls_in p old.client) (sym part_is)) in
       record {
         front = front;
         seen = seen_is;
         told = entered.told;
         due = lawful.due;
-        calls =
+        calls = λ certain.
+            let same = calls_of-same old.seen front old.replica old.client entered.told (known certain ∙ calls certain ∙ ap (λ p. calls_in p old.client) (sym part_is)) in
             ap (λ (s : SessionView). calls_of s.seen s.replica s.client) value
             ∙ ap (λ h. calls_of h old.replica old.client) (entered.seen ∙ ap (λ (e : Entry). front ++ e ∷ []) spelt)
             ∙ calls_of-quiet front old moment done quiet

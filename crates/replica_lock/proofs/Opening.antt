@@ -1,171 +1,43 @@
 -- How nodes and sessions begin.
-use Rattle.std.proofs.Common.{◌≡◌, ◌≢◌, ℕ, ◌+◌, ◌-◌, ◌*◌, ◌<◌, ◌≤◌, List, [], ◌∷◌, ◌++◌, All, AllPairs, Contains, drop, length, replicate, get_or, sum, sym, ap, ◌∙◌, subst, arith}
-use Rattle.std.proofs.lemmas.List.{drop-replicate, get_or-replicate, get_or-append-add}
-use Rattle.std.proofs.lemmas.List.Elements.{All-cons, All-contains_itself, All-nil, All-head, All-tail, Contains-push, Contains-append_left}
+use Rattle.std.proofs.Common.{◌≡◌, ◌≢◌, ◌==◌, ℕ, zero, suc, ◌+◌, ◌-◌, ◌*◌, ◌<◌, ◌≤◌, Bool, true, false, if◌then◌else◌, List, [], ◌∷◌, ◌++◌, All, AllPairs, Contains, ⊎_elim, None, Some, IsTrue, take, map, replicate, get_or, sum, sum_by, refl, sym, ap, ◌∙◌, subst, arith}
+use Rattle.std.proofs.lemmas.Bool.{cases_eq}
+use Rattle.std.proofs.lemmas.List.{drop-replicate, length-replicate}
+use Rattle.std.proofs.lemmas.List.Elements.{All-contains_itself, Contains-push, Contains-append_left}
 use Rattle.std.proofs.lemmas.List.Quantifiers.{all_pairs_push}
-use Rattle.std.proofs.lemmas.List.Folds.{sum_by-replicate}
+use Rattle.std.proofs.lemmas.List.Sums.{sum_by-cons, sum_by-take-le}
 use Rattle.tact_base.specs.declared.limits.TheConstants.{CLIENTS, CONITS_MAX}
 use Rattle.run_model.specs.Histories.{part_of, calls_in}
-use Rattle.run_model.specs.Missing.{reserved}
+use Rattle.run_model.specs.declared.entry.Entry.{Entry}
 use Rattle.run_history.specs.Ticks.{entries_of}
-use Rattle.replica_core.specs.Stands.{Stands}
+use Rattle.restart_journal.specs.Pieces.{piece_bytes}
+use Rattle.entry_journal.specs.EntryJournals.{HasPiecesOf, JournalView}
+use Rattle.locked_replica.specs.Journals.{DoubtMayCome, IsJournaled}
 use Rattle.weight_ledger.specs.Seen.{TallyView}
-use Rattle.weight_ledger.specs.Amounts.{zeros, all_owned, IsMoved, IsLeft}
+use Rattle.weight_ledger.specs.Amounts.{IsLeft, IsMoved, zeros}
 use Rattle.weight_ledger.proofs.Places.{get_or-zeros, length-zeros}
-use Rattle.replica_lock.specs.Locks.{IsLocked, LockedView, turns_place, made_place, part_in}
-use Rattle.replica_lock.specs.Rosters.{HasCounts, HasPlacesOf}
-use Rattle.replica_lock.specs.Sessions.{KeepsSession, SessionView}
-
--- the value of a node that made no entry
-pub IsLocked-new : (locked : LockedView)
-    → locked.clerk.replica ≡ locked.core.replica
-    → Stands [] locked.core
-    → locked.clerk.pairs ≡ []
-    → locked.stored ≡ []
-    → part_of locked.clerk.seen locked.clerk.replica ≡ entries_of locked.clerk.pairs
-    → locked.totals ≡ zeros (locked.core.setup.conits + 2 * CLIENTS)
-    → IsLocked locked
-IsLocked-new locked replica stands drawn stored own totals =
-    let conits = locked.core.setup.conits in
-    let none : part_in locked ≡ [] = ap entries_of stored in
-    let rest = drop-replicate (conits + CLIENTS) (conits + 2 * CLIENTS) 0 in
-    let all = sum_by-replicate (λ (n : ℕ). n) (conits + 2 * CLIENTS - (conits + CLIENTS)) 0 in
-    record {
-      replica = replica;
-      stands = subst (λ part. Stands part locked.core) (sym none) stands;
-      drawn = drawn ∙ sym stored;
-      own = ap (part_of locked.clerk.seen) (sym replica) ∙ own ∙ ap entries_of (drawn ∙ sym stored);
-      places = ap length totals ∙ length-zeros (conits + 2 * CLIENTS);
-      allowances = λ conit within. ap (λ t. get_or t conit 0) totals ∙ get_or-zeros (conits + 2 * CLIENTS) conit ∙ sym (ap (λ part. reserved part conit) none);
-      turns = λ client within. ap (λ t. get_or t (turns_place conits client) 0) totals ∙ get_or-zeros (conits + 2 * CLIENTS) (turns_place conits client) ∙ sym (ap (λ part. calls_in part client) none);
-      made = ap (λ t. sum (drop (conits + CLIENTS) t)) totals ∙ ap sum rest ∙ omega (arith, all) ∙ sym (ap length stored);
-    }
-
--- what the first tally has of a client
-pub counts-first : (conits client : ℕ) (tally : TallyView)
-    → tally.amounts ≡ zeros (conits + 2 * CLIENTS)
-    → HasCounts conits client 0 0 tally
-counts-first conits client tally amounts = record {
-  turns = ap (λ t. get_or t (turns_place conits client) 0) amounts ∙ get_or-zeros (conits + 2 * CLIENTS) (turns_place conits client);
-  made = ap (λ t. get_or t (made_place conits client) 0) amounts ∙ get_or-zeros (conits + 2 * CLIENTS) (made_place conits client);
-}
-
--- a client's places in the first tally
-pub places-first : (conits client : ℕ) (tally : TallyView)
-    → client < CLIENTS
-    → tally.amounts ≡ zeros (conits + 2 * CLIENTS)
-    → tally.owns ≡ all_owned conits (2 * CLIENTS)
-    → HasPlacesOf conits client 0 0 tally
-places-first conits client tally among amounts owns =
-    let owned = λ (i : ℕ) (within : i < 2 * CLIENTS).
-    ap (λ t. get_or t (conits + i) 0) owns
-    ∙ ap (λ n. get_or (all_owned conits (2 * CLIENTS)) (n + i) 0) (sym (length-zeros conits))
-    ∙ get_or-append-add (zeros conits) (replicate (2 * CLIENTS) 1) i 0
-    ∙ get_or-replicate (2 * CLIENTS) i 1 0 within in
-    record {
-      owns_turns = λ none. absurd (omega (arith, owned client (omega (arith, among)), none));
-      owns_made = λ none. absurd (omega (arith, owned (CLIENTS + client) (omega (arith, among)), ap (λ n. get_or tally.owns n 0) (sum-split conits client), none));
-      counts = counts-first conits client tally amounts;
-    }
-  where
-    sum-split : (n i : ℕ) → n + (CLIENTS + i) ≡ n + CLIENTS + i
-    sum-split n i = omega arith
-
--- two clients have no place in common
-pub places-apart : (conits one other : ℕ)
-    → one < CLIENTS
-    → other < CLIENTS
-    → other ≢ one
-    → ((turns_place conits other ≢ turns_place conits one) × (turns_place conits other ≢ made_place conits one))
-    × ((made_place conits other ≢ turns_place conits one) × (made_place conits other ≢ made_place conits one))
-places-apart conits one other one_among other_among apart = (
-  (λ same. apart (omega (arith, same)), λ same. absurd (omega (arith, same, other_among))),
-  (λ same. absurd (omega (arith, same, one_among)), λ same. apart (omega (arith, same))),
-)
-
--- a client's places are its own: what moves there goes to it alone
-module _ (conits client : ℕ) (before left gone : TallyView) where
-  abbrev pub own_places : List ℕ
-  own_places = turns_place conits client ∷ made_place conits client ∷ []
-
-  pub owns-both : (turns made : ℕ) → HasPlacesOf conits client turns made before → All (λ p. get_or before.owns p 0 ≢ 0) own_places
-  owns-both turns made has =
-      All-cons (λ p. get_or before.owns p 0 ≢ 0) _ (made_place conits client ∷ []) has.owns_turns
-      (All-cons (λ p. get_or before.owns p 0 ≢ 0) _ [] has.owns_made (All-nil (λ p. get_or before.owns p 0 ≢ 0)))
-
-  pub places-moved : (turns made : ℕ)
-      → HasPlacesOf conits client turns made before
-      → All (IsMoved before left gone) own_places
-      → HasPlacesOf conits client turns made gone × HasCounts conits client 0 0 left
-  places-moved turns made has moved =
-      let at_turns = All-head (IsMoved before left gone) _ (made_place conits client ∷ []) moved in
-      let at_made = All-head (IsMoved before left gone) _ [] (All-tail (IsMoved before left gone) _ (made_place conits client ∷ []) moved) in (
-        record {
-          owns_turns = λ none. has.owns_turns (sym at_turns.got ∙ none);
-          owns_made = λ none. has.owns_made (sym at_made.got ∙ none);
-          counts = record { turns = at_turns.all ∙ has.counts.turns; made = at_made.all ∙ has.counts.made };
-        },
-        record { turns = at_turns.none; made = at_made.none },
-      )
-
-  -- elsewhere nothing moves
-  pub away : ((p : ℕ) → All (λ q. q ≢ p) own_places → IsLeft before left gone p)
-      → (p : ℕ)
-      → p ≢ turns_place conits client
-      → p ≢ made_place conits client
-      → IsLeft before left gone p
-  away others p not_turns not_made =
-      others p (All-cons (λ q. q ≢ p) _ (made_place conits client ∷ []) (λ same. not_turns (sym same))
-      (All-cons (λ q. q ≢ p) _ [] (λ same. not_made (sym same)) (All-nil (λ q. q ≢ p))))
-
--- what a tally has of a client, and its places, where another has the same there
-pub counts-same : (conits client turns made : ℕ) (before after : TallyView)
-    → get_or after.amounts (turns_place conits client) 0 ≡ get_or before.amounts (turns_place conits client) 0
-    → get_or after.amounts (made_place conits client) 0 ≡ get_or before.amounts (made_place conits client) 0
-    → HasCounts conits client turns made before
-    → HasCounts conits client turns made after
-counts-same conits client turns made before after same_turns same_made has = record { turns = same_turns ∙ has.turns; made = same_made ∙ has.made }
-
--- what another client has is left to it
-module _ (conits client : ℕ) (before after : TallyView) (other : ℕ) (among : other < CLIENTS) (client_among : client < CLIENTS) (apart : other ≢ client)
-    (elsewhere : (p : ℕ) → p ≢ turns_place conits client → p ≢ made_place conits client
-    → (get_or after.amounts p 0 ≡ get_or before.amounts p 0) × (get_or before.owns p 0 ≢ 0 → get_or after.owns p 0 ≢ 0)) where
-  at_turns : (get_or after.amounts (turns_place conits other) 0 ≡ get_or before.amounts (turns_place conits other) 0)
-      × (get_or before.owns (turns_place conits other) 0 ≢ 0 → get_or after.owns (turns_place conits other) 0 ≢ 0)
-  at_turns = let places = places-apart conits client other client_among among apart in elsewhere (turns_place conits other) places.0.0 places.0.1
-
-  at_made : (get_or after.amounts (made_place conits other) 0 ≡ get_or before.amounts (made_place conits other) 0)
-      × (get_or before.owns (made_place conits other) 0 ≢ 0 → get_or after.owns (made_place conits other) 0 ≢ 0)
-  at_made = let places = places-apart conits client other client_among among apart in elsewhere (made_place conits other) places.1.0 places.1.1
-
-  pub counts-left : (turns made : ℕ) → HasCounts conits other turns made before → HasCounts conits other turns made after
-  counts-left turns made = counts-same conits other turns made before after at_turns.0 at_made.0
-
-  pub places-left : (turns made : ℕ) → HasPlacesOf conits other turns made before → HasPlacesOf conits other turns made after
-  places-left turns made has = record {
-    owns_turns = at_turns.1 has.owns_turns;
-    owns_made = at_made.1 has.owns_made;
-    counts = counts-left turns made has.counts;
-  }
+use Rattle.locked_replica.specs.Locks.{LockedView, made_place, part_in, turns_place}
+use Rattle.replica_lock.specs.Ledgers.{IsAccounted, IsBooked, IsMarked, all_clients, nothing_owed, owe_of, owed_by, standing}
+use Rattle.replica_lock.specs.Rosters.{HasNumbers, KeepsRoster, RosterView, no_numbers}
+use Rattle.replica_lock.specs.Sessions.{HasPlacesOf, KeepsSession, SessionView, numbers_of, place_of}
+use Rattle.replica_lock.specs.declared.owe.Owe.{Owe}
+use Rattle.replica_lock.proofs.Places.{away, numbers-left, own_places, places-left, places-moved}
 
 -- a session that begins
 pub KeepsSession-new : (session : SessionView) (tally : TallyView)
     → session.client < CLIENTS
     → session.conits ≤ CONITS_MAX
-    → session.calls ≡ 0
-    → session.made ≡ 0
+    → numbers_of session ≡ no_numbers
     → part_of session.seen session.replica ≡ []
-    → HasPlacesOf session.conits session.client 0 0 tally
+    → HasPlacesOf session.conits session.client no_numbers tally
     → KeepsSession session tally
-KeepsSession-new session tally among few calls made none has = record {
-  among = among;
-  few = few;
-  owns_turns = has.owns_turns;
-  owns_made = has.owns_made;
-  turns = has.counts.turns ∙ sym calls;
-  made = has.counts.made ∙ sym made;
-  calls = ap (λ part. calls_in part session.client) none ∙ sym calls;
-}
+KeepsSession-new session tally among few numbers none has =
+    let calls : session.calls ≡ 0 = ap (λ ns. get_or ns 0 0) numbers in record {
+      among = among;
+      few = few;
+      places = subst (λ ns. HasPlacesOf session.conits session.client ns tally) (sym numbers) has;
+      calls = λ certain. ap (λ part. calls_in part session.client) none ∙ sym calls;
+      least = omega (arith, calls);
+    }
 
 -- who isn't in a list with one more isn't that one, and wasn't in the list
 pub not_itself : (clients : List ℕ) (client other : ℕ) → (Contains (clients ++ client ∷ []) other → ⊥) → other ≢ client
@@ -182,3 +54,131 @@ pub apart-push : (clients : List ℕ) (client : ℕ)
 apart-push clients client out apart =
     all_pairs_push (λ (one other : ℕ). one ≢ other) clients client apart
     (λ k d within same. out (subst (Contains clients) same (All-contains_itself clients k d within)))
+
+-- A roster of which the places of a client went to its session.
+module _ (roster : RosterView) (client : ℕ) (seen : List Entry) (before left gone : TallyView)
+    (keeps : KeepsRoster roster seen before)
+    (among : client < CLIENTS)
+    (out : Contains roster.clients client → ⊥)
+    (moved : All (IsMoved before left gone) (own_places roster.conits client))
+    (others : (p : ℕ) → All (λ q. q ≢ p) (own_places roster.conits client) → IsLeft before left gone p) where
+  elsewhere : (p : ℕ) → ((k : ℕ) → k < 5 → p ≢ place_of roster.conits client k)
+      → (get_or left.amounts p 0 ≡ get_or before.amounts p 0) × (get_or before.owns p 0 ≢ 0 → get_or left.owns p 0 ≢ 0)
+  elsewhere p apart =
+      let is_left = away roster.conits client before left gone others p apart in
+      (is_left.all, λ owned none. owned (sym is_left.kept ∙ none))
+
+  pub places-given_out : HasPlacesOf roster.conits client no_numbers gone
+  places-given_out = (places-moved roster.conits client before left gone no_numbers (keeps.free client among out) moved).0
+
+  pub nothing-left : (other : ℕ) → other < CLIENTS → HasNumbers roster.conits other no_numbers left
+  nothing-left other within =
+      ⊎_elim {C = HasNumbers roster.conits other no_numbers left}
+      (λ (same : other ≡ client). rw same (places-moved roster.conits client before left gone no_numbers (keeps.free client among out) moved).1)
+      (λ (differs : other ≢ client). numbers-left roster.conits client before left other within among differs elsewhere no_numbers (keeps.nothing other within))
+      (cases_eq other client)
+
+  pub free-left : (other : ℕ) → other < CLIENTS → (Contains (roster.clients ++ client ∷ []) other → ⊥) → HasPlacesOf roster.conits other no_numbers left
+  free-left other within free =
+      places-left roster.conits client before left other within among (not_itself roster.clients client other free) elsewhere no_numbers
+      (keeps.free other within (not_before roster.clients client other free))
+
+-- zeros add up to nothing, from any place on
+sum-zeros : (n : ℕ) → sum (zeros n) ≡ 0
+sum-zeros zero = refl
+sum-zeros (suc n) = omega (arith, sum_by-cons (λ (x : ℕ). x) 0 (zeros n), sum-zeros n)
+
+take-zeros : (m n : ℕ) → sum (take m (zeros n)) ≡ 0
+take-zeros m n = omega (arith, sum_by-take-le (λ (x : ℕ). x) (zeros n) m, sum-zeros n)
+
+all-nothing : (place size : ℕ) → all_clients place (zeros size) ≡ 0
+all-nothing place size = ap (λ xs. sum (take CLIENTS xs)) (drop-replicate place size 0) ∙ take-zeros CLIENTS (size - place)
+
+-- nothing is owed to anybody
+none-owed : (n client : ℕ) → get_or (replicate n nothing_owed) client nothing_owed ≡ nothing_owed
+none-owed zero client = refl
+none-owed (suc n) zero = refl
+none-owed (suc n) (suc client) = none-owed n client
+
+owed-nothing : (f : Owe → ℕ) (n : ℕ) → f nothing_owed ≡ 0 → sum_by f (replicate n nothing_owed) ≡ 0
+owed-nothing f zero none = refl
+owed-nothing f (suc n) none = omega (arith, sum_by-cons f nothing_owed (replicate n nothing_owed), none, owed-nothing f n none)
+
+owed-none : (same : Bool) → ◌≡◌ {A = ℕ} (if same then 0 else 0) 0
+owed-none true = refl
+owed-none false = refl
+
+-- a book of nothing, beside totals of nothing
+booked-new : (conits : ℕ) → IsBooked conits (zeros (conits + 2 * CLIENTS)) (zeros (conits + 5 * CLIENTS)) (replicate CLIENTS nothing_owed)
+booked-new conits = record {
+  totals_sized = length-zeros (conits + 2 * CLIENTS);
+  book_sized = length-zeros (conits + 5 * CLIENTS);
+  owes_sized = length-replicate CLIENTS nothing_owed;
+  amounts = λ conit within.
+      omega (arith, none conit, nought conit, owed-nothing (owed_by conit) CLIENTS (owed-none (0 == conit)));
+  turns = λ client within. none (turns_place conits client) ∙ sym (ap (λ owe. standing owe) (none-owed CLIENTS client)) ∙ sym (plus (turns_place conits client) (standing (owe_of owes client)));
+  made = λ client within. none (made_place conits client) ∙ sym (ap (λ (owe : Owe). owe.kept) (none-owed CLIENTS client)) ∙ sym (plus (made_place conits client) (owe_of owes client).kept);
+  certain = λ client within certain.
+      (ap (λ (owe : Owe). owe.stands) (none-owed CLIENTS client), ap (λ (owe : Owe). owe.amount) (none-owed CLIENTS client));
+  within = λ client among some. absurd (some (ap (λ (owe : Owe). owe.amount) (none-owed CLIENTS client)));
+}
+  where
+    owes : List Owe
+    owes = replicate CLIENTS nothing_owed
+
+    none : (place : ℕ) → get_or (zeros (conits + 2 * CLIENTS)) place 0 ≡ 0
+    none place = get_or-zeros (conits + 2 * CLIENTS) place
+
+    nought : (place : ℕ) → get_or (zeros (conits + 5 * CLIENTS)) place 0 ≡ 0
+    nought place = get_or-zeros (conits + 5 * CLIENTS) place
+
+    plus : (place more : ℕ) → get_or (zeros (conits + 5 * CLIENTS)) place 0 + more ≡ more
+    plus place more = omega (arith, nought place)
+
+marked-new : (conits : ℕ) (journal : JournalView) → journal.doubt ≡ None → IsMarked conits journal (zeros (conits + 5 * CLIENTS)) (replicate CLIENTS nothing_owed)
+marked-new conits journal certain = record {
+  faults = λ short. omega (arith, all-nothing (conits + 2 * CLIENTS) (conits + 5 * CLIENTS));
+  halts = λ some. absurd (some (all-nothing (conits + 3 * CLIENTS) (conits + 5 * CLIENTS)));
+  kept = λ none. owed-nothing (λ (owe : Owe). owe.kept) CLIENTS refl;
+  doubt = λ entry is. absurd (differ (sym certain ∙ is));
+}
+  where
+    differ : {entry : Entry} → None ≡ Some entry → ⊥
+    differ same = cc
+
+-- a journal that has no piece and isn't halted is that of a node that made no entry
+pub IsJournaled-new : (state : LockedView) (journal : JournalView)
+    → state.stored ≡ []
+    → (IsTrue journal.tells → journal.pieces ≡ [])
+    → journal.halted ≡ false
+    → journal.doubt ≡ None
+    → IsJournaled state journal
+IsJournaled-new state journal none empty going certain = record {
+  pieces = λ told.
+      subst (λ doubt. HasPiecesOf journal.pieces (part_in state) doubt) (sym certain)
+      (empty told ∙ sym (ap (λ stored. map piece_bytes (entries_of stored)) none));
+  next = subst (λ doubt. DoubtMayCome state doubt) (sym certain) tt;
+  certain = λ going. certain;
+  counted = λ halted. absurd (differ (sym going ∙ halted));
+}
+  where
+    differ : false ≡ true → ⊥
+    differ same = cc
+
+-- a node that begins: the totals and the book are 0 everywhere, nothing is owed, and none is in doubt
+pub IsAccounted-new : (state : LockedView) (journal : JournalView) (book : List ℕ) (owes : List Owe)
+    → state.totals ≡ zeros (state.core.setup.conits + 2 * CLIENTS)
+    → book ≡ zeros (state.core.setup.conits + 5 * CLIENTS)
+    → owes ≡ replicate CLIENTS nothing_owed
+    → journal.doubt ≡ None
+    → IsAccounted state journal book owes
+IsAccounted-new state journal book owes totals booked owed certain =
+    let conits = state.core.setup.conits in record {
+      booked =
+          subst (λ t. IsBooked conits t book owes) (sym totals)
+          (subst (λ b. IsBooked conits (zeros (conits + 2 * CLIENTS)) b owes) (sym booked)
+          (subst (λ o. IsBooked conits (zeros (conits + 2 * CLIENTS)) (zeros (conits + 5 * CLIENTS)) o) (sym owed) (booked-new conits)));
+      marked =
+          subst (λ b. IsMarked conits journal b owes) (sym booked)
+          (subst (λ o. IsMarked conits journal (zeros (conits + 5 * CLIENTS)) o) (sym owed) (marked-new conits journal certain));
+    }

@@ -1,5 +1,5 @@
 -- What a session has seen after a call.
-use Rattle.std.proofs.Common.{◌≡◌, ℕ, ◌+◌, ◌≤◌, ◌==◌, Bool, true, cond, List, [], ◌∷◌, ◌++◌, length, filter, refl, sym, ap, ◌∙◌, subst, arith}
+use Rattle.std.proofs.Common.{◌≡◌, ℕ, ◌+◌, ◌≤◌, ◌==◌, Bool, true, false, cond, List, [], ◌∷◌, ◌++◌, length, filter, refl, sym, ap, ◌∙◌, subst, arith}
 use Rattle.std.proofs.lemmas.Bool.{eq-eqb}
 use Rattle.std.proofs.lemmas.Bool.Decides.{nat_tests}
 use Rattle.std.proofs.lemmas.List.Elements.{filter-append}
@@ -19,13 +19,13 @@ use Rattle.run_promises.proofs.Kept.{IsKept-run}
 use Rattle.run_history.proofs.RunLemmas.{parts_are_short, run_is_short}
 use Rattle.replica_core.specs.States.{Core, is_full}
 use Rattle.entry_journal.specs.EntryJournals.{JournalView}
-use Rattle.replica_lock.specs.Faults.{IsNodeFaultOf}
-use Rattle.replica_lock.specs.Journals.{IsRefusal}
-use Rattle.replica_lock.specs.Locks.{HasEntered, IsLocked, LockedView, part_in}
+use Rattle.locked_replica.specs.Faults.{IsNodeFaultOf}
+use Rattle.locked_replica.specs.Journals.{IsRefusal}
+use Rattle.locked_replica.specs.Locks.{HasEntered, IsLocked, LockedView, part_in}
 use Rattle.replica_lock.specs.Sessions.{SessionView, HasCalled, HasHeard, IsFaultSeen, call_after}
-use Rattle.replica_lock.specs.declared.fault.NodeFault.{NodeFault}
-use Rattle.replica_lock.specs.declared.fault.NodeFault.TheVariants as fault
-use Rattle.replica_lock.proofs.Entering.{call_entry}
+use Rattle.locked_replica.specs.declared.fault.NodeFault.{NodeFault}
+use Rattle.locked_replica.specs.declared.fault.NodeFault.TheVariants as fault
+use Rattle.locked_replica.proofs.Entering.{call_entry}
 
 -- what two histories have of a client, one of which is a front of the other, where both have as many calls of it
 pub calls_of-same : (seen more : List Entry) (replica client : ℕ)
@@ -90,21 +90,22 @@ module _ (setup : Setup) (sound : IsSetup setup) where
   pub HasHeard-learnt : (after : LockedView) (old new : SessionView)
       → IsLocked after
       → old.replica ≡ after.core.replica
-      → old.calls ≡ calls_in (part_in after) old.client
-      → calls_in (part_of old.seen old.replica) old.client ≡ old.calls
+      → (old.doubt ≡ false → old.calls ≡ calls_in (part_in after) old.client)
+      → (old.doubt ≡ false → calls_in (part_of old.seen old.replica) old.client ≡ old.calls)
       → IsPrefix old.seen after.clerk.seen
       → IsRun setup after.clerk.seen
       → new ≡ record old { seen = after.clerk.seen }
-      → HasHeard setup old new
+      → HasHeard setup old old new
   HasHeard-learnt after old new kept replica calls known told run value =
       let part : part_of after.clerk.seen old.replica ≡ part_in after = ap (part_of after.clerk.seen) replica ∙ kept.own in
-      let same = calls_of-same old.seen after.clerk.seen old.replica old.client told (known ∙ calls ∙ ap (λ p. calls_in p old.client) (sym part)) in
       let seen : new.seen ≡ after.clerk.seen = ap (λ (s : SessionView). s.seen) value in
       let is_run : IsRun setup new.seen = subst (IsRun setup) (sym seen) run in
       record {
         value = value ∙ ap (λ h. record old { seen = h }) (sym seen);
         told = subst (IsPrefix old.seen) (sym seen) told;
-        calls = ap (λ (s : SessionView). calls_of s.seen s.replica s.client) value ∙ sym same;
+        calls = λ certain.
+            let same = calls_of-same old.seen after.clerk.seen old.replica old.client told (known certain ∙ calls certain ∙ ap (λ p. calls_in p old.client) (sym part)) in
+            ap (λ (s : SessionView). calls_of s.seen s.replica s.client) value ∙ sym same;
         run = is_run;
         promised = IsKept-run setup new.seen sound is_run;
       }

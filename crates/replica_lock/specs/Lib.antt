@@ -1,10 +1,9 @@
-pub mod Faults
-pub mod Locks
-pub mod Parcels
+pub mod Ledgers
 pub mod Sessions
 pub mod Nodes
 pub mod Rosters
 pub mod Allowances
 pub mod Answering
 pub mod Loans
-pub mod Journals
+pub mod Restarts
+pub mod Resuming

@@ -1,7 +1,7 @@
 //! Allowances: amounts that are reserved on a conit of a node, out with its clients.
 ghost use Rattle.std.specs.Prelude.{◌≡◌, ◌≢◌, ◌+◌, ◌-◌, ◌<◌, ◌≤◌, IfErr, OnOk};
 ghost use Rattle.replica_lock.specs.Allowances.{IsAllowanceOf, allowance_of};
-ghost use Rattle.replica_lock.specs.Sessions.{IsSessionOf};
+ghost use Rattle.replica_lock.specs.Sessions.{IsAtNode, IsSessionOf};
 
 use crate::label::Label;
 use crate::node::Node;
@@ -57,6 +57,16 @@ impl<'d, J: Journal, G: Gate> Node<'d, J, G> {
     /// An allowance of nothing on a conit. It makes no entry, takes no memory and waits for nobody.
     pub fn empty(&self, session: &mut Session, conit: u32) -> Allowance
         requires session { IsSessionOf self.now session.old }
+        requires conit { conit < self.now.desk.setup.conits }
+        ensures session { session.new ≡ session.old }
+        ensures empty { result ≡ allowance_of self.now conit 0 }
+    {
+        self.bare(session, conit)
+    }
+
+    // The same of a session that may be in doubt.
+    pub(crate) fn bare(&self, session: &mut Session, conit: u32) -> Allowance
+        requires session { IsAtNode self.now session.old }
         requires conit { conit < self.now.desk.setup.conits }
         ensures session { session.new ≡ session.old }
         ensures empty { result ≡ allowance_of self.now conit 0 }

@@ -3,17 +3,19 @@
 
 mod allowance;
 mod asking;
+mod counts;
 mod ended;
 mod fault;
-mod keeping;
 mod label;
+mod ledger;
 mod lending;
-mod loan;
-mod locked;
 mod locked_box;
+mod marking;
 mod node;
-mod parcel;
+mod owe;
 mod reserving;
+mod restarting;
+mod resuming;
 mod roster;
 mod sending;
 mod session;
@@ -22,10 +24,11 @@ mod turn;
 
 pub use allowance::Allowance;
 pub use ended::{Ended, Stored};
-pub use fault::{NewFault, NodeFault, NodeLoanFault, SessionFault, TakeFault};
+pub use fault::{NewFault, SessionFault};
+pub use locked_replica::{NodeFault, NodeLoanFault, Parcel, RestartFault, TakeFault};
 pub use node::Node;
-pub use parcel::Parcel;
 pub use reserving::{Accepted, Reserving};
+pub use resuming::Resumed;
 pub use roster::Roster;
 pub use session::Session;
 pub use turn::Turn;

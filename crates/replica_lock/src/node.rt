@@ -1,22 +1,24 @@
 //! Nodes, which their clients share.
-ghost use Rattle.std.specs.Prelude.{◌≡◌, ◌≢◌, ◌<◌, ◌≤◌, ℕ, [], ◌∷◌, ◌++◌, All, AllPairs, Contains, IsTrue, IfOk, IfErr, OnErr, OnOk, length, map, slice_index};
-ghost use Rattle.tact_base.specs.declared.limits.TheConstants.{CLIENTS, MOMENT_MAX};
+ghost use Rattle.std.specs.Prelude.{◌≡◌, ◌≢◌, ◌<◌, ◌≤◌, ℕ, false, [], ◌∷◌, ◌++◌, All, AllPairs, Contains, IsTrue, IfOk, IfErr, OnErr, OnOk, length, map, slice_index};
+ghost use Rattle.tact_base.specs.declared.limits.TheConstants.{CLIENTS, CONITS_MAX, MOMENT_MAX};
 ghost use Rattle.run_model.specs.Histories.{IsPrefix};
 ghost use Rattle.run_model.specs.Ranges.{IsRequestInRange};
 ghost use Rattle.run_history.specs.Ticks.{entries_of};
-ghost use Rattle.replica_lock.specs.Locks.{IsLocked, IsWriteOrRead, made_place, turns_place};
-ghost use Rattle.replica_lock.specs.Journals.{IsJournaled, LeavesPieces, OnlyWhere};
-ghost use Rattle.replica_lock.specs.Rosters.{AreAllSessions, HasCounts, HasPlacesOf, IsRosterOf, IsSessionFaultOf};
-ghost use Rattle.replica_lock.specs.Sessions.{HasCalled, HasHeard, IsFaultSeen, IsSessionOf, own_calls};
+ghost use Rattle.locked_replica.specs.Locks.{IsLocked, IsWriteOrRead};
+ghost use Rattle.locked_replica.specs.Journals.{IsJournaled, LeavesPieces, OnlyWhere};
+ghost use Rattle.replica_lock.specs.Rosters.{AreAllSessions, HasNumbers, IsRosterOf, IsSessionFaultOf, no_numbers};
+ghost use Rattle.replica_lock.specs.Sessions.{HasCalled, HasHeard, HasPlacesOf, IsAtNode, IsFaultSeen, IsSessionOf, failed_by, numbers_of, own_calls, place_of};
+ghost use Rattle.replica_lock.specs.Ledgers.{IsAccounted};
 
+use crate::counts::Counts;
 use crate::ended::{Ended, Stored};
 use crate::label::Label;
-use crate::locked::Locked;
 use crate::locked_box::{LockedBox, stand};
 use crate::roster::Roster;
 use crate::session::Session;
 use crate::turn::Turn;
-use crate::{NewFault, NodeFault, SessionFault};
+use crate::{NewFault, SessionFault};
+use locked_replica::{Locked, NodeFault};
 use run_history::{Clerk, Desk, Note};
 use run_model::{Config, Reply, Request};
 use std::alloc::Global;
@@ -78,8 +80,8 @@ impl<'d, J: Journal, G: Gate> Node<'d, J, G> {
             Ok(locked) => locked,
             Err(clerk) => return Err(NewFault { clerk, journal }),
         };
-        let locked = LockedBox::new(alloc, locked, journal)?;
-        match Cell::new(alloc, locked, conits, 2 * CLIENTS) {
+        let locked = LockedBox::new(alloc, conits, locked, journal)?;
+        match Cell::new(alloc, locked, conits, 5 * CLIENTS) {
             Ok((cell, tally)) => {
                 let roster = Roster {
                     replica,
@@ -106,7 +108,7 @@ impl<'d, J: Journal, G: Gate> Node<'d, J, G> {
         requires roster { IsRosterOf self.now roster.old }
         requires client { client < CLIENTS }
         ensures of { IfOk result (IsSessionOf self.now) }
-        ensures fresh { IfOk result (λ session. (session.client ≡ client) × (session.calls ≡ 0) × (session.made ≡ 0) × (own_calls session ≡ [])) }
+        ensures fresh { IfOk result (λ session. (session.client ≡ client) × (session.calls ≡ 0) × (session.made ≡ 0) × (session.faults ≡ 0) × (session.halts ≡ 0) × (own_calls session ≡ [])) }
         ensures clients { OnOk result (roster.new ≡ record roster.old { clients = roster.old.clients ++ client ∷ [] }) }
         ensures free { OnOk result (Contains roster.old.clients client → ⊥) }
         ensures fault { IfErr result (IsSessionFaultOf roster.old.clients client) }
@@ -117,7 +119,7 @@ impl<'d, J: Journal, G: Gate> Node<'d, J, G> {
         }
         roster.clients.push(client)?;
         let conits = roster.conits;
-        let places = [conits + client, conits + CLIENTS + client];
+        let places = places_of(conits, client);
         let tally = self.cell.split_own(&mut roster.tally, &places);
         Ok(Session {
             replica: roster.replica,
@@ -125,6 +127,9 @@ impl<'d, J: Journal, G: Gate> Node<'d, J, G> {
             client,
             calls: 0,
             made: 0,
+            faults: 0,
+            halts: 0,
+            doubt: false,
             note: roster.note.twin(self.desk),
             tally,
         })
@@ -135,12 +140,20 @@ impl<'d, J: Journal, G: Gate> Node<'d, J, G> {
         ensures node { result.node ≡ self.now }
         ensures kept { IsLocked result.state }
         ensures journaled { IsJournaled result.state result.journal }
+        ensures accounted { IsAccounted result.state result.journal result.book result.owes }
     {
-        let (held, LockedBox { locked, journal }) = self.cell.lock(rt);
+        let (
+            held,
+            LockedBox {
+                locked,
+                journal,
+                ledger,
+            },
+        ) = self.cell.lock(rt);
         stand(&locked);
         Turn {
             node: self,
-            held,
+            counts: Counts::new(held, ledger),
             locked,
             journal,
         }
@@ -148,7 +161,7 @@ impl<'d, J: Journal, G: Gate> Node<'d, J, G> {
 
     /// A note of what the session has seen. It waits for nobody.
     pub fn note(&self, session: &mut Session) -> Note
-        requires { IsSessionOf self.now session.old }
+        requires { IsAtNode self.now session.old }
         ensures session { session.new ≡ session.old }
         ensures desk { result.table ≡ self.now.desk.table }
         ensures seen { result.seen ≡ session.old.seen }
@@ -160,7 +173,7 @@ impl<'d, J: Journal, G: Gate> Node<'d, J, G> {
     pub fn hear<R: Wait>(&self, rt: &R, session: &mut Session, note: Note)
         requires session { IsSessionOf self.now session.old }
         requires note { note.table ≡ self.now.desk.table }
-        ensures heard { HasHeard self.now.desk.setup session.old session.new }
+        ensures heard { HasHeard self.now.desk.setup session.old session.old session.new }
         ensures note { IsPrefix note.seen session.new.seen }
     {
         let mut turn = self.turn(rt);
@@ -188,14 +201,15 @@ impl<'d, J: Journal, G: Gate> Node<'d, J, G> {
 
     /// Ends the node, with the sessions of all clients that have one, in the order in which they came. It gives the
     /// node's clerk and the entries that it stored, which are what the clerk drew. Of each session's client these have
-    /// as many calls as the session has seen, and no calls of others.
+    /// as many calls as the session has seen, if it isn't in doubt, and no calls of others. The journal counted each fault
+    /// that a session marked.
     pub fn finish<R: Wait>(self, rt: &R, roster: Roster, sessions: Vec<Session>) -> Ended<J>
         requires roster { IsRosterOf self roster }
-        requires sessions { All (IsSessionOf self) sessions.items }
+        requires sessions { All (IsAtNode self) sessions.items }
         requires whole { map (λ session. session.client) sessions.items ≡ roster.clients }
         ensures clerk { (result.clerk.table ≡ self.entry.desk.table) × (result.clerk.replica ≡ self.entry.replica) }
         ensures stored { result.stored ≡ result.clerk.pairs }
-        ensures sessions { AreAllSessions roster.clients sessions.items (entries_of result.stored) }
+        ensures sessions { AreAllSessions roster.clients sessions.items (entries_of result.stored) J.tells (J.faults result.journal) }
         ensures journal { LeavesPieces J.tells (J.pieces result.journal) (J.faults result.journal) (entries_of result.stored) }
     {
         let Node {
@@ -220,7 +234,7 @@ impl<'d, J: Journal, G: Gate> Node<'d, J, G> {
         requires in_range { IsRequestInRange self.now.desk.setup request }
         requires plain { IsWriteOrRead request }
         ensures called { IfOk result (HasCalled self.now.desk.setup session.old session.new moment request) }
-        ensures refused { OnErr result (HasHeard self.now.desk.setup session.old session.new) }
+        ensures refused { IfErr result (λ told. HasHeard self.now.desk.setup session.old (failed_by told session.old) session.new) }
         ensures fault { IfErr result (IsFaultSeen session.new) }
         ensures met { IfErr result (OnlyWhere (IsTrue J.tells → (met : J) × (J.faults met ≢ 0))) }
     {
@@ -236,6 +250,8 @@ fn ended<J: Journal>(kept: LockedBox<J>) -> Ended<J>
     ensures clerk { result.clerk ≡ kept.state.clerk }
     ensures stored { result.stored ≡ kept.state.stored }
     ensures kept { IsLocked kept.state }
+    ensures accounted { IsAccounted kept.state kept.journal kept.book kept.owes }
+    ensures faults { (J.faults result.journal ≡ kept.journal.faults) × (kept.journal.tells ≡ J.tells) }
     ensures journal { LeavesPieces J.tells (J.pieces result.journal) (J.faults result.journal) (entries_of result.stored) }
 {
     let (locked, journal) = kept.into_parts();
@@ -257,16 +273,33 @@ fn gathered<J: Journal>(
     requires sessions { All (λ session. (session.cell ≡ cell.now.id) × (session.conits ≡ roster.conits)) sessions.items }
     requires whole { map (λ session. session.client) sessions.items ≡ roster.clients }
     ensures cell { result.id ≡ cell.now.id }
-    ensures sessions { All (λ session. HasPlacesOf roster.conits session.client (length (own_calls session)) session.made result) sessions.items }
+    ensures sessions { All (λ session. HasPlacesOf roster.conits session.client (numbers_of session) result) sessions.items }
+    ensures counted { All (λ session. session.doubt ≡ false → session.calls ≡ length (own_calls session)) sessions.items }
     ensures among { All (λ client. client < CLIENTS) roster.clients }
     ensures apart { AllPairs (λ one other. one ≢ other) roster.clients }
-    ensures others { (client : ℕ) → client < CLIENTS → (Contains roster.clients client → ⊥) → HasPlacesOf roster.conits client 0 0 result }
+    ensures others { (client : ℕ) → client < CLIENTS → (Contains roster.clients client → ⊥) → HasPlacesOf roster.conits client no_numbers result }
 {
     let Roster { mut tally, .. } = roster;
     for session in sessions {
         give_places(cell, &mut tally, session);
     }
     tally
+}
+
+// The places of a client: its turns, the entries made for it, its faults, its halts and its doubt.
+fn places_of(conits: u32, client: u32) -> [u32; 5]
+    requires few { conits ≤ CONITS_MAX }
+    requires client { client < CLIENTS }
+    ensures { result ≡ map (place_of conits client) (0 ∷ 1 ∷ 2 ∷ 3 ∷ 4 ∷ []) }
+{
+    let place = conits + client;
+    [
+        place,
+        place + CLIENTS,
+        place + 2 * CLIENTS,
+        place + 3 * CLIENTS,
+        place + 4 * CLIENTS,
+    ]
 }
 
 // Gives the places of a session's client to a tally that has nothing of it.
@@ -276,17 +309,15 @@ fn give_places<J: Journal>(
     mut session: Session,
 )
     requires cell { (tally.old.id ≡ cell.now.id) × (session.cell ≡ cell.now.id) }
-    requires nothing { session.client < CLIENTS → HasCounts session.conits session.client 0 0 tally.old }
+    requires nothing { session.client < CLIENTS → HasNumbers session.conits session.client no_numbers tally.old }
     ensures cell { tally.new.id ≡ cell.now.id }
     ensures among { session.client < CLIENTS }
-    ensures places { HasPlacesOf session.conits session.client (length (own_calls session)) session.made tally.new }
-    ensures others { (place : ℕ) → place ≢ turns_place session.conits session.client → place ≢ made_place session.conits session.client
+    ensures places { HasPlacesOf session.conits session.client (numbers_of session) tally.new }
+    ensures counted { session.doubt ≡ false → session.calls ≡ length (own_calls session) }
+    ensures others { (place : ℕ) → ((k : ℕ) → k < 5 → place ≢ place_of session.conits session.client k)
         → (slice_index tally.new.amounts place ≡ slice_index tally.old.amounts place) × (slice_index tally.old.owns place ≢ 0 → slice_index tally.new.owns place ≢ 0) }
 {
-    let places = [
-        session.conits + session.client,
-        session.conits + CLIENTS + session.client,
-    ];
+    let places = places_of(session.conits, session.client);
     let own = cell.split_own(&mut session.tally, &places);
     cell.join(tally, own);
 }

@@ -4,17 +4,17 @@ ghost use Rattle.tact_base.specs.declared.limits.TheConstants.{AMOUNT_MAX, MOMEN
 ghost use Rattle.run_model.specs.Ranges.{IsOpInRange, IsWeightInRange};
 ghost use Rattle.run_model.specs.declared.call.Reply.TheVariants as reply;
 ghost use Rattle.run_model.specs.declared.call.Request.TheVariants as request;
-ghost use Rattle.replica_lock.specs.Journals.{IsJournaled, OnlyWhere};
-ghost use Rattle.replica_lock.specs.Allowances.{IsAllowanceOf};
+ghost use Rattle.locked_replica.specs.Journals.{IsJournaled, OnlyWhere};
+ghost use Rattle.replica_lock.specs.Allowances.{IsAllowanceOf, lost_with};
 ghost use Rattle.replica_lock.specs.Answering.{HasAnswered, HasRefused, IsReserved};
-ghost use Rattle.replica_lock.specs.Locks.{IsLocked};
-ghost use Rattle.replica_lock.specs.Sessions.{HasCalled, HasHeard, IsFaultSeen, IsSessionOf};
+ghost use Rattle.locked_replica.specs.Locks.{IsLocked};
+ghost use Rattle.replica_lock.specs.Sessions.{HasCalled, HasHeard, IsFaultSeen, IsSessionOf, failed_by};
 
-use crate::NodeFault;
 use crate::allowance::Allowance;
 use crate::node::Node;
 use crate::session::Session;
 use crate::turn::Turn;
+use locked_replica::NodeFault;
 use run_model::{Reply, Request};
 use std::sync::Wait;
 use tact_base::{Op, Weight};
@@ -56,7 +56,7 @@ impl<'n, 'd, J: Journal, G: Gate> Turn<'n, 'd, J, G> {
         ensures seen { session.new.seen ≡ self.new.state.clerk.seen }
         ensures reserved { IfOk result (IsReserved self.old.node conit amount
             (HasAnswered self.old self.new session.old session.new moment conit (request.Reserve conit amount))) }
-        ensures refused { IfErr result (HasRefused self.old self.new session.old session.new) }
+        ensures refused { IfErr result (HasRefused self.old self.new session.old session.new moment conit (request.Reserve conit amount)) }
         ensures spare { self.old.state.spare ≤ self.new.state.spare + 1 }
         ensures room { self.old.state.room ≤ self.new.state.room + 1 }
         ensures journaled { IsJournaled self.new.state self.new.journal }
@@ -79,7 +79,8 @@ impl<'n, 'd, J: Journal, G: Gate> Turn<'n, 'd, J, G> {
     }
 
     /// Gives back all that an allowance has, and tells how much that was; it then has nothing. It is a call of the
-    /// session's client, which is drawn and stored. A refusal leaves the allowance as it was.
+    /// session's client, which is drawn and stored. A refusal leaves the allowance as it was, but where the journal failed: then the session is in doubt, and what
+    /// the write takes is kept for it.
     pub fn release(
         &mut self,
         session: &mut Session,
@@ -96,8 +97,8 @@ impl<'n, 'd, J: Journal, G: Gate> Turn<'n, 'd, J, G> {
         ensures released { OnOk result (HasAnswered self.old self.new session.old session.new moment allowance.old.conit
             (request.Release allowance.old.conit allowance.old.amount) reply.Released) }
         ensures allowance { OnOk result (allowance.new ≡ record allowance.old { amount = 0 }) }
-        ensures refused { IfErr result (HasRefused self.old self.new session.old session.new) }
-        ensures left { OnErr result (allowance.new ≡ allowance.old) }
+        ensures refused { IfErr result (HasRefused self.old self.new session.old session.new moment allowance.old.conit (request.Release allowance.old.conit allowance.old.amount)) }
+        ensures left { IfErr result (λ told. allowance.new ≡ lost_with (Some allowance.old.amount) told allowance.old) }
         ensures spare { self.old.state.spare ≤ self.new.state.spare + 1 }
         ensures room { self.old.state.room ≤ self.new.state.room + 1 }
         ensures journaled { IsJournaled self.new.state self.new.journal }
@@ -117,7 +118,8 @@ impl<'n, 'd, J: Journal, G: Gate> Turn<'n, 'd, J, G> {
 
     /// Writes with a weight that an allowance covers, which never waits. The weight is on the allowance's conit and of
     /// at most its size, which the allowance then is less by. It is a call of the session's client, which is drawn and
-    /// stored. A refusal leaves the allowance as it was.
+    /// stored. A refusal leaves the allowance as it was, but where the journal failed: then the session is in doubt, and what
+    /// the write takes is kept for it.
     pub fn write_held(
         &mut self,
         session: &mut Session,
@@ -139,8 +141,8 @@ impl<'n, 'd, J: Journal, G: Gate> Turn<'n, 'd, J, G> {
         ensures accepted { IfOk result (λ accepted. HasAnswered self.old self.new session.old session.new moment allowance.old.conit
             (request.Held weight op) (reply.Done accepted.index accepted.stamp)) }
         ensures allowance { OnOk result (allowance.new ≡ record allowance.old { amount = allowance.old.amount - unsigned_abs weight.nweight }) }
-        ensures refused { IfErr result (HasRefused self.old self.new session.old session.new) }
-        ensures left { OnErr result (allowance.new ≡ allowance.old) }
+        ensures refused { IfErr result (HasRefused self.old self.new session.old session.new moment allowance.old.conit (request.Held weight op)) }
+        ensures left { IfErr result (λ told. allowance.new ≡ lost_with (Some (unsigned_abs weight.nweight)) told allowance.old) }
         ensures spare { self.old.state.spare ≤ self.new.state.spare + 1 }
         ensures room { self.old.state.room ≤ self.new.state.room + 1 }
         ensures journaled { IsJournaled self.new.state self.new.journal }
@@ -174,7 +176,7 @@ impl<'d, J: Journal, G: Gate> Node<'d, J, G> {
         requires amount { amount ≤ AMOUNT_MAX }
         ensures reserved { IfOk result (IsReserved self.now conit amount
             (HasCalled self.now.desk.setup session.old session.new moment (request.Reserve conit amount))) }
-        ensures refused { OnErr result (HasHeard self.now.desk.setup session.old session.new) }
+        ensures refused { IfErr result (λ told. HasHeard self.now.desk.setup session.old (failed_by told session.old) session.new) }
         ensures fault { IfErr result (IsFaultSeen session.new) }
         ensures met { IfErr result (OnlyWhere (IsTrue J.tells → (met : J) × (J.faults met ≢ 0))) }
     {
@@ -200,10 +202,10 @@ impl<'d, J: Journal, G: Gate> Node<'d, J, G> {
         ensures released { OnOk result (HasCalled self.now.desk.setup session.old session.new moment
             (request.Release allowance.old.conit allowance.old.amount) reply.Released) }
         ensures allowance { OnOk result (allowance.new ≡ record allowance.old { amount = 0 }) }
-        ensures refused { OnErr result (HasHeard self.now.desk.setup session.old session.new) }
+        ensures refused { IfErr result (λ told. HasHeard self.now.desk.setup session.old (failed_by told session.old) session.new) }
         ensures fault { IfErr result (IsFaultSeen session.new) }
         ensures met { IfErr result (OnlyWhere (IsTrue J.tells → (met : J) × (J.faults met ≢ 0))) }
-        ensures left { OnErr result (allowance.new ≡ allowance.old) }
+        ensures left { IfErr result (λ told. allowance.new ≡ lost_with (Some allowance.old.amount) told allowance.old) }
     {
         let mut turn = self.turn(rt);
         let answer = turn.release(session, allowance, moment);
@@ -233,10 +235,10 @@ impl<'d, J: Journal, G: Gate> Node<'d, J, G> {
         ensures accepted { IfOk result (λ accepted. HasCalled self.now.desk.setup session.old session.new moment
             (request.Held weight op) (reply.Done accepted.index accepted.stamp)) }
         ensures allowance { OnOk result (allowance.new ≡ record allowance.old { amount = allowance.old.amount - unsigned_abs weight.nweight }) }
-        ensures refused { OnErr result (HasHeard self.now.desk.setup session.old session.new) }
+        ensures refused { IfErr result (λ told. HasHeard self.now.desk.setup session.old (failed_by told session.old) session.new) }
         ensures fault { IfErr result (IsFaultSeen session.new) }
         ensures met { IfErr result (OnlyWhere (IsTrue J.tells → (met : J) × (J.faults met ≢ 0))) }
-        ensures left { OnErr result (allowance.new ≡ allowance.old) }
+        ensures left { IfErr result (λ told. allowance.new ≡ lost_with (Some (unsigned_abs weight.nweight)) told allowance.old) }
     {
         let mut turn = self.turn(rt);
         let answer = turn.write_held(session, allowance, moment, weight, op);

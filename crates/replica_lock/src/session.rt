@@ -12,6 +12,9 @@ pub struct Session {
     pub(crate) client: u32,
     pub(crate) calls: u64,
     pub(crate) made: u64,
+    pub(crate) faults: u64,
+    pub(crate) halts: u64,
+    pub(crate) doubt: bool,
     pub(crate) note: Note,
     pub(crate) tally: Tally<Label>,
 }
@@ -29,6 +32,9 @@ impl Model for Session {
       client = s.client;
       calls = s.calls;
       made = s.made;
+      faults = s.faults;
+      halts = s.halts;
+      doubt = s.doubt;
       seen = s.note.seen;
     } };
 
@@ -64,5 +70,26 @@ impl Session {
         ensures { result ≡ self.now.made }
     {
         self.made
+    }
+
+    /// How often it was told that the journal failed. It stops at 2^60.
+    pub fn faults(&self) -> u64
+        ensures { result ≡ self.now.faults }
+    {
+        self.faults
+    }
+
+    /// How often it was told that its node is halted, or that the journal gave another piece back. It stops at 2^60.
+    pub fn halts(&self) -> u64
+        ensures { result ≡ self.now.halts }
+    {
+        self.halts
+    }
+
+    /// Whether it is in doubt: of its last call it isn't known whether it stands.
+    pub fn in_doubt(&self) -> bool
+        ensures { result ≡ self.now.doubt }
+    {
+        self.doubt
     }
 }

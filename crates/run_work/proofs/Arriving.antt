@@ -10,7 +10,7 @@ use Rattle.run_model.specs.declared.entry.Entry.{Entry}
 use Rattle.link_faults.specs.Inboxes.{InboxState}
 use Rattle.link_faults.specs.Plans.{no_faults}
 use Rattle.link_faults.specs.declared.plan.LinkPlan.{LinkPlan}
-use Rattle.replica_lock.specs.Parcels.{ParcelView}
+use Rattle.locked_replica.specs.Parcels.{ParcelView}
 use Rattle.run_work.specs.Rounds.{HasArrived, HasSeenAt, lose_at, made_at}
 use Rattle.run_work.specs.Ends.{made_by}
 use Rattle.run_work.specs.Settling.{HasMet, HaveMadeFew, SettlingView}

@@ -1,6 +1,7 @@
 -- What nodes leave when they end.
-use Rattle.std.proofs.Common.{◌≡◌, ℕ, ◌+◌, ◌<◌, ◌⊎◌, inl, inr, List, [], ◌∷◌, ◌++◌, All, Contains, drop, length, get_or, map, refl, sym, ap, ◌∙◌, subst, ⊎_elim, arith}
+use Rattle.std.proofs.Common.{◌≡◌, ℕ, ◌+◌, ◌<◌, ◌⊎◌, inl, inr, true, List, [], ◌∷◌, ◌++◌, All, Contains, drop, length, get_or, map, refl, sym, ap, ◌∙◌, subst, ⊎_elim, arith}
 use Rattle.std.specs.List.{list_any}
+use Rattle.std.specs.Prelude.{sum_by}
 use Rattle.std.proofs.lemmas.Bool.{cases_eq, cases_lt, false_from_ne_true}
 use Rattle.std.proofs.lemmas.List.{append-nil, drop-drop, get_or-drop, get_or_append_left, get_or_at, get_or_push, length-append, length_push, nil_from_length}
 use Rattle.std.proofs.lemmas.List.Elements.{All-head, All-tail}
@@ -11,7 +12,7 @@ use Rattle.run_model.specs.declared.entry.Entry.{Entry}
 use Rattle.run_history.specs.Seats.{ClerkView, DeskView, NoteView}
 use Rattle.run_history.specs.Ticks.{entries_of}
 use Rattle.replica_lock.specs.Rosters.{AreAllSessions}
-use Rattle.replica_lock.specs.Sessions.{NodeView, SessionView, own_calls}
+use Rattle.replica_lock.specs.Sessions.{IsSessionOf, NodeView, SessionView, own_calls}
 use Rattle.work_load.specs.Clients.{is_of}
 use Rattle.work_load.specs.declared.plan.Client.{Client}
 use Rattle.run_work.specs.Ends.{AreWhole, IsDrawn, IsWhole, noted_calls}
@@ -19,11 +20,30 @@ use Rattle.run_work.specs.Sites.{IsNodeAt}
 use Rattle.run_work.specs.declared.seat.End.{End}
 use Rattle.run_work.proofs.Noted.{among-is_of, noted_calls-none}
 
+-- The sessions of a node that has ended over a journal that never failed: of each session's client the part has as many
+-- calls as the session has seen, of others none; and the entries are those made for all sessions.
+pub record AreAll (clients : List ℕ) (sessions : List SessionView) (part : List Entry) : Type 0 where
+  pub calls : All (λ (session : SessionView). calls_in part session.client ≡ length (own_calls session)) sessions
+  pub others : (client : ℕ) → client < CLIENTS → (Contains clients client → ⊥) → calls_in part client ≡ 0
+  pub made : length part ≡ sum_by (λ (session : SessionView). session.made) sessions
+
+pub AreAll-sure : (node : NodeView) (clients : List ℕ) (sessions : List SessionView) (part : List Entry)
+    → All (IsSessionOf node) sessions
+    → AreAllSessions clients sessions part true 0
+    → AreAll clients sessions part
+AreAll-sure node clients sessions part of are =
+    let none : sum_by (λ (session : SessionView). session.faults) sessions ≡ 0 = omega (arith, are.faults (omega arith)) in
+    record {
+      calls = λ at d within. are.calls at d within (of at d within).certain;
+      others = are.others;
+      made = omega (arith, are.made, are.drawn none);
+    }
+
 -- the clerk that a node left, and of which calls its part is
 pub record IsLeft (node : NodeView) (end : End) (clerk : ClerkView) : Type 0 where
   pub table : clerk.table ≡ node.desk.table
   pub replica : clerk.replica ≡ node.replica
-  pub sessions : AreAllSessions end.roster.clients end.sessions.items (entries_of clerk.pairs)
+  pub sessions : AreAll end.roster.clients end.sessions.items (entries_of clerk.pairs)
 
 -- one of each of the first nodes
 abbrev pub AreLeft : List NodeView → List End → List ClerkView → Type 0
@@ -126,7 +146,7 @@ of_number P (first ∷ sessions) number all within =
 -- of each client the part has the calls that the client's note has seen
 calls_drawn : (clients : List Client) (notes : List NoteView) (replica : ℕ) (node : NodeView) (end : End) (part : List Entry)
     → IsWhole clients notes replica node end
-    → AreAllSessions end.roster.clients end.sessions.items part
+    → AreAll end.roster.clients end.sessions.items part
     → (number : ℕ) → number < CLIENTS
     → calls_in part number ≡ length (noted_calls clients notes replica number)
 calls_drawn clients notes replica node end part whole are number below =

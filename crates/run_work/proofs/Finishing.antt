@@ -12,7 +12,7 @@ use Rattle.link_faults.specs.Inboxes.{InboxState, empty_inbox}
 use Rattle.link_faults.specs.Plans.{no_faults}
 use Rattle.link_faults.specs.declared.plan.LinkPlan.{LinkPlan}
 use Rattle.postbox.specs.Posts.{PostboxView}
-use Rattle.replica_lock.specs.Parcels.{ParcelView}
+use Rattle.locked_replica.specs.Parcels.{ParcelView}
 use Rattle.work_load.specs.Attempts.{settling}
 use Rattle.work_load.specs.Workloads.{Workload}
 use Rattle.work_load.specs.declared.plan.Client.{Client}

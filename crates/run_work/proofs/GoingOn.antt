@@ -1,6 +1,6 @@
 -- How a session goes on, entry by entry.
 use Rattle.std.proofs.Common.{◌≡◌, ℕ, ◌+◌, ◌≤◌, List, [], ◌∷◌, ◌++◌, refl, sym, ap, ap₂, ◌∙◌, arith}
-use Rattle.std.specs.Prelude.{OnErr, OnOk, Result, Ok, Err}
+use Rattle.std.specs.Prelude.{OnErr, OnOk, Result, Ok, Err, false}
 use Rattle.tact_base.specs.Setup.{Setup}
 use Rattle.run_model.specs.Histories.{IsPrefix}
 use Rattle.run_model.specs.declared.call.Reply.{Reply}
@@ -56,7 +56,7 @@ IsLater-made setup before after moment done made = record {
 }
 
 pub IsLater-heard : (setup : Setup) (before after : SessionView) (most : ℕ)
-    → HasHeard setup before after
+    → HasHeard setup before before after
     → IsLater most before after
 IsLater-heard setup before after most heard = record {
   value = going_on before after before.calls before.made heard.value;
@@ -84,10 +84,13 @@ pub IsSessionOf-later : (node : NodeView) (most : ℕ) (before after : SessionVi
     → IsSessionOf node before
     → IsSessionOf node after
 IsSessionOf-later node most before after later of = record {
-  cell = ap (λ (s : SessionView). s.cell) later.value ∙ of.cell;
-  desk = ap (λ (s : SessionView). s.desk) later.value ∙ of.desk;
-  conits = ap (λ (s : SessionView). s.conits) later.value ∙ of.conits;
-  replica = ap (λ (s : SessionView). s.replica) later.value ∙ of.replica;
+  at = record {
+    cell = ap (λ (s : SessionView). s.cell) later.value ∙ of.at.cell;
+    desk = ap (λ (s : SessionView). s.desk) later.value ∙ of.at.desk;
+    conits = ap (λ (s : SessionView). s.conits) later.value ∙ of.at.conits;
+    replica = ap (λ (s : SessionView). s.replica) later.value ∙ of.at.replica;
+  };
+  certain = ap (λ (s : SessionView). s.doubt) later.value ∙ of.certain;
 }
 
 pub client-later : (most : ℕ) (before after : SessionView) → IsLater most before after → after.client ≡ before.client
@@ -104,22 +107,25 @@ pub IsQuiet-weaker : (few most : ℕ) (before after : SessionView)
 IsQuiet-weaker few most before after less quiet = record { later = IsLater-weaker few most before after less quiet.later; calls = quiet.calls }
 
 pub IsQuiet-made : (setup : Setup) (before after : SessionView) (moment : ℕ) (done : Act)
+    → before.doubt ≡ false
     → HasMade setup before after moment done
     → IsQuiet 1 before after
-IsQuiet-made setup before after moment done made = record { later = IsLater-made setup before after moment done made; calls = made.calls }
+IsQuiet-made setup before after moment done certain made = record { later = IsLater-made setup before after moment done made; calls = made.calls certain }
 
 pub IsQuiet-heard : (setup : Setup) (before after : SessionView) (most : ℕ)
-    → HasHeard setup before after
+    → before.doubt ≡ false
+    → HasHeard setup before before after
     → IsQuiet most before after
-IsQuiet-heard setup before after most heard = record { later = IsLater-heard setup before after most heard; calls = heard.calls }
+IsQuiet-heard setup before after most certain heard = record { later = IsLater-heard setup before after most heard; calls = heard.calls certain }
 
 -- an entry that is no call, or a refusal
 pub IsQuiet-either : {A E : Type 0} (answer : Result A E) (setup : Setup) (before after : SessionView) (moment : ℕ) (done : Act)
+    → before.doubt ≡ false
     → OnOk answer (HasMade setup before after moment done)
-    → OnErr answer (HasHeard setup before after)
+    → OnErr answer (HasHeard setup before before after)
     → IsQuiet 1 before after
-IsQuiet-either (Ok given) setup before after moment done made heard = IsQuiet-made setup before after moment done made
-IsQuiet-either (Err fault) setup before after moment done made heard = IsQuiet-heard setup before after 1 heard
+IsQuiet-either (Ok given) setup before after moment done certain made heard = IsQuiet-made setup before after moment done certain made
+IsQuiet-either (Err fault) setup before after moment done certain made heard = IsQuiet-heard setup before after 1 certain heard
 
 pub IsQuiet-same : (session : SessionView) (most : ℕ) → IsQuiet most session session
 IsQuiet-same session most = record { later = IsLater-same session most; calls = refl }

@@ -7,10 +7,13 @@ use Rattle.std.proofs.lemmas.List.Sums.{sum_by_push}
 use Rattle.tact_base.specs.declared.conit_list.Weight.{Weight}
 use Rattle.tact_base.specs.declared.write.Op.{Op}
 use Rattle.run_model.specs.Missing.{granted_by, reserved, used_by}
+use Rattle.run_model.specs.declared.call.Reply.{Reply}
 use Rattle.run_model.specs.declared.call.Reply.TheVariants as reply
+use Rattle.run_model.specs.declared.call.Request.{Request}
 use Rattle.run_model.specs.declared.call.Request.TheVariants as request
 use Rattle.run_model.specs.declared.entry.Act.TheVariants as act
 use Rattle.run_model.specs.declared.entry.Entry.{Entry}
+use Rattle.locked_replica.specs.Locks.{IsWriteOrRead}
 use Rattle.replica_lock.specs.Allowances.{AllowanceView, allowance_of}
 use Rattle.replica_lock.specs.Sessions.{NodeView}
 use Rattle.run_work.specs.Holding.{Holds, granted, used}
@@ -71,6 +74,17 @@ Holds-moved node calls call allowances at more less moved moves others within en
       (cases_eq conit at);
 }
 
+-- and one that moves nothing on any conit leaves it with what it held
+pub Holds-same : (node : NodeView) (calls : List Entry) (call : Entry) (allowances : List AllowanceView)
+    → ((conit : ℕ) → Moves conit 0 0 call)
+    → Holds node calls allowances
+    → Holds node (calls ++ call ∷ []) allowances
+Holds-same node calls call allowances moves holds = record {
+  conits = holds.conits;
+  amounts = λ conit none below. holds.amounts conit none below ∙ ap (allowance_of node conit) (sym (reserved-same calls call conit (moves conit)));
+  covered = λ conit. covered-push calls call conit 0 0 (moves conit) (holds.covered conit) (omega arith);
+}
+
 -- an amount or none, by conit
 at_conit : (at amount : ℕ) → cond (at == at) amount 0 ≡ amount
 at_conit at amount = ap (λ yes. cond yes amount 0) (eq-eqb at at refl)
@@ -78,7 +92,7 @@ at_conit at amount = ap (λ yes. cond yes amount 0) (eq-eqb at at refl)
 elsewhere : (conit at amount : ℕ) → conit ≢ at → cond (at == conit) amount 0 ≡ 0
 elsewhere conit at amount other = ap (λ yes. cond yes amount 0) (ne_eqb at conit (λ same. other (sym same)))
 
--- A release and a held write move what they say, on their conit alone.
+-- A release, a reserve that is granted and a held write move what they say, on their conit alone.
 module _ (call : Entry) (client number : ℕ) where
   module _ (at amount : ℕ) where
     pub Moves-released : call.act ≡ act.Call client number (request.Release at amount) reply.Released → Moves at 0 amount call
@@ -90,9 +104,29 @@ module _ (call : Entry) (client number : ℕ) where
         → Moves conit 0 0 call
     Moves-released_elsewhere conit other is = record { more_is = ap (granted_by conit) is; less_is = ap (used_by conit) is ∙ elsewhere conit at amount other }
 
+    pub Moves-granted : call.act ≡ act.Call client number (request.Reserve at amount) reply.Granted → Moves at amount 0 call
+    Moves-granted is = record { more_is = ap (granted_by at) is ∙ at_conit at amount; less_is = ap (used_by at) is }
+
+    pub Moves-granted_elsewhere : (conit : ℕ)
+        → conit ≢ at
+        → call.act ≡ act.Call client number (request.Reserve at amount) reply.Granted
+        → Moves conit 0 0 call
+    Moves-granted_elsewhere conit other is = record { more_is = ap (granted_by conit) is ∙ elsewhere conit at amount other; less_is = ap (used_by conit) is }
+
   module _ (weight : Weight) (op : Op) (index stamp : ℕ) (is : call.act ≡ act.Call client number (request.Held weight op) (reply.Done index stamp)) where
     pub Moves-held : Moves weight.conit 0 (unsigned_abs weight.nweight) call
     Moves-held = record { more_is = ap (granted_by weight.conit) is; less_is = ap (used_by weight.conit) is ∙ at_conit weight.conit (unsigned_abs weight.nweight) }
 
     pub Moves-held_elsewhere : (conit : ℕ) → conit ≢ weight.conit → Moves conit 0 0 call
     Moves-held_elsewhere conit other = record { more_is = ap (granted_by conit) is; less_is = ap (used_by conit) is ∙ elsewhere conit weight.conit (unsigned_abs weight.nweight) other }
+
+-- A write or a read moves nothing.
+pub Moves-plain : (call : Entry) (client number : ℕ) (asked : Request) (given : Reply) (conit : ℕ)
+    → IsWriteOrRead asked
+    → call.act ≡ act.Call client number asked given
+    → Moves conit 0 0 call
+Moves-plain call client number (request.Write weights op) given conit plain is = record { more_is = ap (granted_by conit) is; less_is = ap (used_by conit) is }
+Moves-plain call client number (request.Read key needs) given conit plain is = record { more_is = ap (granted_by conit) is; less_is = ap (used_by conit) is }
+Moves-plain call client number (request.Held weight op) given conit plain is = absurd plain
+Moves-plain call client number (request.Reserve at amount) given conit plain is = absurd plain
+Moves-plain call client number (request.Release at amount) given conit plain is = absurd plain

@@ -9,12 +9,13 @@ use Rattle.tact_base.specs.Setup.{Setup}
 use Rattle.run_model.specs.Histories.{IsPrefix, part_of}
 use Rattle.run_model.specs.declared.entry.Entry.{Entry}
 use Rattle.run_model.proofs.PrefixLemmas.{IsPrefix-refl, IsPrefix-trans}
-use Rattle.replica_lock.specs.Loans.{IsLoanFaultSeen, act_of}
+use Rattle.replica_lock.specs.Loans.{IsLoanFaultSeen}
+use Rattle.locked_replica.specs.Loans.{act_of}
 use Rattle.replica_lock.specs.Sessions.{HasHeard, HasMade, SessionView, entry_after}
-use Rattle.replica_lock.specs.declared.fault.NodeLoanFault.{NodeLoanFault}
-use Rattle.replica_lock.specs.declared.fault.NodeLoanFault.TheVariants as fault
-use Rattle.replica_lock.specs.declared.loan.Loan.{Loan}
-use Rattle.replica_lock.specs.declared.loan.Loan.TheVariants as loan
+use Rattle.locked_replica.specs.declared.fault.NodeLoanFault.{NodeLoanFault}
+use Rattle.locked_replica.specs.declared.fault.NodeLoanFault.TheVariants as fault
+use Rattle.locked_replica.specs.declared.loan.Loan.{Loan}
+use Rattle.locked_replica.specs.declared.loan.Loan.TheVariants as loan
 use Rattle.work_load.specs.declared.plan.Item.{Item}
 use Rattle.work_load.specs.declared.plan.Item.TheVariants as item
 use Rattle.run_work.specs.Served.{AreLent, HasPassed, is_loan, loan_in, loan_of, loans_asked, loans_made, times}
@@ -233,7 +234,7 @@ HasLent-none setup item before after none = rw (none) tt
 pub HasLent-asked : (setup : Setup) (item : Item) (one : Loan) (before after : SessionView) (moment : ℕ) (answer : Result (Unit {0}) NodeLoanFault)
     → loan_of item ≡ Some one
     → OnOk answer (HasMade setup before after moment (act_of one))
-    → OnErr answer (HasHeard setup before after)
+    → OnErr answer (HasHeard setup before before after)
     → IfErr answer (IsLoanFaultSeen setup after one)
     → OnOk (loaned_by answer) (HasLent setup item before after)
 HasLent-asked setup item one before after moment (Ok done) is made heard seen = rw (is) (inl (made_more setup before after one moment made))

@@ -1,17 +1,20 @@
 -- What a client holds after a call that moves some of it.
-use Rattle.std.proofs.Common.{◌≡◌, ℕ, ◌+◌, ◌-◌, ◌<◌, ◌≤◌, List, get_or, set, sym, ap, ◌∙◌, subst, refl, arith}
+use Rattle.std.proofs.Common.{◌≡◌, ℕ, ◌+◌, ◌-◌, ◌<◌, ◌≤◌, List, get_or, set, sym, ap, ap₂, ◌∙◌, subst, refl, arith}
 use Rattle.std.specs.Prelude.{unsigned_abs}
 use Rattle.tact_base.specs.Setup.{Setup}
 use Rattle.tact_base.specs.declared.conit_list.Weight.{Weight}
 use Rattle.tact_base.specs.declared.write.Op.{Op}
 use Rattle.run_model.specs.Missing.{reserved}
+use Rattle.run_model.specs.declared.call.Reply.{Reply}
 use Rattle.run_model.specs.declared.call.Reply.TheVariants as reply
+use Rattle.run_model.specs.declared.call.Request.{Request}
 use Rattle.run_model.specs.declared.call.Request.TheVariants as request
 use Rattle.run_model.specs.declared.entry.Entry.{Entry}
+use Rattle.locked_replica.specs.Locks.{IsWriteOrRead}
 use Rattle.replica_lock.specs.Allowances.{AllowanceView, allowance_of}
 use Rattle.replica_lock.specs.Sessions.{HasCalled, NodeView, SessionView, call_after, own_calls}
 use Rattle.run_work.specs.Holding.{Holds}
-use Rattle.run_work.proofs.HoldingLemmas.{Holds-moved, Moves-held, Moves-held_elsewhere, Moves-released, Moves-released_elsewhere}
+use Rattle.run_work.proofs.HoldingLemmas.{Holds-moved, Holds-same, Moves-granted, Moves-granted_elsewhere, Moves-held, Moves-held_elsewhere, Moves-plain, Moves-released, Moves-released_elsewhere}
 
 -- the allowance on a conit is what is reserved there
 pub allowance-at : (node : NodeView) (calls : List Entry) (allowances : List AllowanceView) (conit : ℕ) (one : AllowanceView)
@@ -55,3 +58,38 @@ Holds-held setup node before after allowances moment weight op index stamp holds
     (Moves-held call before.client before.calls weight op index stamp refl)
     (λ other apart. Moves-held_elsewhere call before.client before.calls weight op index stamp refl other apart)
     (omega (arith, holds.conits, within)) (omega (arith, enough)) (ap (allowance_of node weight.conit) less) holds)
+
+-- a write or a read nothing
+pub Holds-plain : (setup : Setup) (node : NodeView) (before after : SessionView) (allowances : List AllowanceView) (moment : ℕ) (asked : Request) (given : Reply)
+    → IsWriteOrRead asked
+    → Holds node (own_calls before) allowances
+    → HasCalled setup before after moment asked given
+    → Holds node (own_calls after) allowances
+Holds-plain setup node before after allowances moment asked given plain holds called =
+    let call : Entry = call_after before called.front moment asked given in
+    subst (λ (calls : List Entry). Holds node calls allowances) (sym called.calls)
+    (Holds-same node (own_calls before) call allowances (λ conit. Moves-plain call before.client before.calls asked given conit plain refl) holds)
+
+-- a reserve that is granted adds its amount to what is held
+pub Holds-granted : (setup : Setup) (node : NodeView) (before after : SessionView) (allowances : List AllowanceView) (moment conit amount : ℕ) (one other moved : AllowanceView)
+    → Holds node (own_calls before) allowances
+    → conit < node.desk.setup.conits
+    → one ≡ get_or allowances conit one
+    → other ≡ allowance_of node conit amount
+    → moved ≡ record one { amount = one.amount + other.amount }
+    → HasCalled setup before after moment (request.Reserve conit amount) reply.Granted
+    → Holds node (own_calls after) (set allowances conit moved)
+Holds-granted setup node before after allowances moment conit amount one other moved holds within there other_is moved_is called =
+    let call : Entry = call_after before called.front moment (request.Reserve conit amount) reply.Granted in
+    let was = reserved (own_calls before) conit in
+    let more : was + amount ≡ was + amount - 0 = omega arith in
+    let is : moved ≡ allowance_of node conit (was + amount - 0) =
+    moved_is
+    ∙ ap₂ (λ (o g : AllowanceView). let sum : AllowanceView = record o { amount = o.amount + g.amount } in sum)
+    (allowance-at node (own_calls before) allowances conit one holds within there) other_is
+    ∙ ap (allowance_of node conit) more in
+    subst (λ (calls : List Entry). Holds node calls (set allowances conit moved)) (sym called.calls)
+    (Holds-moved node (own_calls before) call allowances conit amount 0 moved
+    (Moves-granted call before.client before.calls conit amount refl)
+    (λ elsewhere apart. Moves-granted_elsewhere call before.client before.calls conit amount elsewhere apart refl)
+    (omega (arith, holds.conits, within)) (omega arith) is holds)

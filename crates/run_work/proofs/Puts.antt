@@ -16,7 +16,7 @@ use Rattle.link_faults.specs.declared.plan.Fate.{Fate}
 use Rattle.link_faults.specs.declared.plan.Fate.TheVariants.{Lost, LostFull, Doubled, Queued}
 use Rattle.link_faults.specs.declared.plan.LinkPlan.{LinkPlan}
 use Rattle.link_faults.specs.declared.plan.TheConstants.{INBOX_MAX}
-use Rattle.replica_lock.specs.Parcels.{ParcelView}
+use Rattle.locked_replica.specs.Parcels.{ParcelView}
 use Rattle.run_work.specs.Rounds.{HaveCome, lose_at, messages_in, waiting_at}
 use Rattle.run_work.specs.Settling.{IsSettling, SettlingView}
 use Rattle.run_work.proofs.RoundSteps.{lose-there, waiting-mine, waiting-others, waiting-there}

@@ -9,7 +9,7 @@ use Rattle.run_model.specs.declared.entry.Message.{Message}
 use Rattle.link_faults.specs.Inboxes.{InboxState}
 use Rattle.link_faults.specs.Plans.{no_faults}
 use Rattle.link_faults.specs.declared.plan.LinkPlan.{LinkPlan}
-use Rattle.replica_lock.specs.Parcels.{ParcelView}
+use Rattle.locked_replica.specs.Parcels.{ParcelView}
 use Rattle.replica_lock.specs.Sessions.{NodeView, SessionView}
 use Rattle.run_work.specs.Rounds.{AreStill, HasMadeOne, HasReached, HasSeen, HasSeenAt, HasSeenSending, HasSeenTaking, HaveSeen, lose_at, made_at, messages_in, waiting_at}
 use Rattle.run_work.specs.Ends.{made_by}

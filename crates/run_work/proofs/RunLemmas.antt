@@ -16,8 +16,8 @@ use Rattle.run_model.proofs.PrefixLemmas.{IsPrefix-trans}
 use Rattle.run_history.specs.Seats.{ClerkView, DeskView, NoteView, fresh_clerk}
 use Rattle.run_history.specs.Closing.{AreAllThere}
 use Rattle.run_history.specs.Ticks.{drawn_by, entries_of}
-use Rattle.replica_lock.specs.declared.fault.NodeFault.{NodeFault}
-use Rattle.replica_lock.specs.declared.fault.NodeFault.TheVariants as node
+use Rattle.locked_replica.specs.declared.fault.NodeFault.{NodeFault}
+use Rattle.locked_replica.specs.declared.fault.NodeFault.TheVariants as node
 use Rattle.work_load.specs.Attempts.{Attempts, Begun, reach}
 use Rattle.work_load.specs.Clients.{is_of}
 use Rattle.work_load.specs.Entries.{EachAfter}

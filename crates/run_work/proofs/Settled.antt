@@ -1,12 +1,12 @@
 -- Sessions that go on without a call, and what ends nodes with them.
-use Rattle.std.proofs.Common.{◌≡◌, ◌≢◌, ⊎_elim, get_or-set_same, get_or-set_other, ℕ, ◌<◌, List, [], ◌∷◌, ◌++◌, inl, inr, All, Contains, IfSome, Option, Some, None, get_or, length, map, set, refl, sym, ap, ◌∙◌, subst, arith}
+use Rattle.std.proofs.Common.{◌≡◌, ◌≢◌, false, ⊎_elim, get_or-set_same, get_or-set_other, ℕ, ◌<◌, List, [], ◌∷◌, ◌++◌, inl, inr, All, Contains, IfSome, Option, Some, None, get_or, length, map, set, refl, sym, ap, ◌∙◌, subst, arith}
 use Rattle.std.specs.List.{list_any}
 use Rattle.std.specs.Option.{option_to_list}
 use Rattle.std.specs.Vec.{with_item}
 use Rattle.std.proofs.lemmas.List.{get_or_default, length-set}
 use Rattle.std.proofs.lemmas.Bool.{cases_eq, false_from_ne_true}
 use Rattle.link_faults.specs.Inboxes.{InboxState}
-use Rattle.replica_lock.specs.Parcels.{ParcelView}
+use Rattle.locked_replica.specs.Parcels.{ParcelView}
 use Rattle.postbox.specs.Posts.{AreFor}
 use Rattle.std.proofs.lemmas.List.Elements.{All-head, All-cons, All-nil}
 use Rattle.tact_base.specs.Setup.{Setup}
@@ -42,21 +42,23 @@ HasStayed-trans one two three first second = record {
 }
 
 pub HasStayed-made : (setup : Setup) (before after : SessionView) (moment : ℕ) (done : Act)
+    → before.doubt ≡ false
     → HasMade setup before after moment done
     → HasStayed before after
-HasStayed-made setup before after moment done made = record {
+HasStayed-made setup before after moment done certain made = record {
   value = made.counts ∙ ap (λ n. record before { made = n; seen = after.seen }) (sym (ap (λ (s : SessionView). s.made) made.counts));
   told = IsPrefix-trans before.seen made.front after.seen made.told (entry_after before made.front moment done ∷ [], made.seen);
-  calls = made.calls;
+  calls = made.calls certain;
 }
 
 pub HasStayed-heard : (setup : Setup) (before after : SessionView)
-    → HasHeard setup before after
+    → before.doubt ≡ false
+    → HasHeard setup before before after
     → HasStayed before after
-HasStayed-heard setup before after heard = record {
+HasStayed-heard setup before after certain heard = record {
   value = heard.value ∙ ap (λ n. record before { made = n; seen = after.seen }) (sym (ap (λ (s : SessionView). s.made) heard.value));
   told = heard.told;
-  calls = heard.calls;
+  calls = heard.calls certain;
 }
 
 pub HasStayed-same : (before after : SessionView) → after ≡ before → HasStayed before after
@@ -64,10 +66,13 @@ HasStayed-same before after same = subst (HasStayed before) (sym same) (HasStaye
 
 pub IsSessionOf-stayed : (node : NodeView) (before after : SessionView) → HasStayed before after → IsSessionOf node before → IsSessionOf node after
 IsSessionOf-stayed node before after stayed of = record {
-  cell = ap (λ (s : SessionView). s.cell) stayed.value ∙ of.cell;
-  desk = ap (λ (s : SessionView). s.desk) stayed.value ∙ of.desk;
-  conits = ap (λ (s : SessionView). s.conits) stayed.value ∙ of.conits;
-  replica = ap (λ (s : SessionView). s.replica) stayed.value ∙ of.replica;
+  at = record {
+    cell = ap (λ (s : SessionView). s.cell) stayed.value ∙ of.at.cell;
+    desk = ap (λ (s : SessionView). s.desk) stayed.value ∙ of.at.desk;
+    conits = ap (λ (s : SessionView). s.conits) stayed.value ∙ of.at.conits;
+    replica = ap (λ (s : SessionView). s.replica) stayed.value ∙ of.at.replica;
+  };
+  certain = ap (λ (s : SessionView). s.doubt) stayed.value ∙ of.certain;
 }
 
 -- What ends a node goes on.

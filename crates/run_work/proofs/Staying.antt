@@ -22,7 +22,7 @@ pub Owes-worker : (desk : DeskView) (worker : WorkerView) (after : SessionView) 
 Owes-worker desk worker after moment asked given kept called =
     Owes-called worker.node.desk.setup worker.session after moment asked given
     (subst (λ (d : DeskView). IsSetup d.setup) (sym kept.desk_is) kept.sound)
-    (subst₂ (λ (replica : ℕ) (d : DeskView). replica < d.setup.replicas) (sym kept.session.replica) (sym kept.desk_is) kept.among)
+    (subst₂ (λ (replica : ℕ) (d : DeskView). replica < d.setup.replicas) (sym kept.session.at.replica) (sym kept.desk_is) kept.among)
     called
 
 module _ (desk : DeskView) (worker : WorkerView) (kept : IsWorker desk worker) (most : ℕ) (after : SessionView) where

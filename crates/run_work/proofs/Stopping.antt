@@ -5,7 +5,7 @@ use Rattle.run_model.specs.Histories.{calls_of, part_of}
 use Rattle.tact_base.specs.Setup.{Setup}
 use Rattle.run_history.specs.Seats.{DeskView, NoteView}
 use Rattle.replica_lock.specs.Sessions.{NodeView, SessionView, own_calls}
-use Rattle.replica_lock.specs.declared.fault.NodeFault.{NodeFault}
+use Rattle.locked_replica.specs.declared.fault.NodeFault.{NodeFault}
 use Rattle.work_load.specs.Attempts.{Attempts, Begun}
 use Rattle.work_load.proofs.AttemptLemmas.{Begun-from_Attempts}
 use Rattle.run_work.proofs.Zips.{AllZip-join, AllZip-less, AllZip-size}
@@ -134,7 +134,7 @@ desk_of sites tries worker are has = ap (λ (node : NodeView). node.desk) (has.n
 
 pub replica_of : (sites : SitesView) (tries : ℕ) (worker : WorkerView) → AreSites sites → HasWorked sites tries worker → worker.session.replica ≡ worker.client.replica
 replica_of sites tries worker are has =
-    has.session.replica ∙ ap (λ (node : NodeView). node.replica) (has.node worker.node) ∙ (are.node worker.client.replica worker.node has.replica).1
+    has.session.at.replica ∙ ap (λ (node : NodeView). node.replica) (has.node worker.node) ∙ (are.node worker.client.replica worker.node has.replica).1
 
 -- where no worker stopped, all clients have ended however the settling did
 pub HaveEnded-after : {E : Type 0} (tries : ℕ) (clients : List Client) (notes : List NoteView) (answer : Result (Option Stop) E)

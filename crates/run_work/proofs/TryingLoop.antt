@@ -5,7 +5,7 @@ use Rattle.std.proofs.lemmas.List.{length-append}
 use Rattle.run_model.specs.declared.entry.Entry.{Entry}
 use Rattle.work_load.specs.declared.plan.Item.{Item}
 use Rattle.tact_base.specs.Setup.{Setup}
-use Rattle.replica_lock.specs.declared.loan.Loan.{Loan}
+use Rattle.locked_replica.specs.declared.loan.Loan.{Loan}
 use Rattle.replica_lock.specs.Allowances.{AllowanceView}
 use Rattle.replica_lock.specs.Sessions.{SessionView, own_calls}
 use Rattle.run_work.specs.Holding.{IsLater, IsQuiet}

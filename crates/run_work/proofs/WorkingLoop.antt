@@ -5,7 +5,7 @@ use Rattle.work_load.specs.Attempts.{Attempts, Begun}
 use Rattle.work_load.specs.declared.plan.Client.{Client}
 use Rattle.work_load.specs.declared.plan.Item.{Item}
 use Rattle.replica_lock.specs.Sessions.{IsSessionOf, NodeView, SessionView, own_calls}
-use Rattle.replica_lock.specs.declared.fault.NodeFault.{NodeFault}
+use Rattle.locked_replica.specs.declared.fault.NodeFault.{NodeFault}
 use Rattle.run_work.specs.Holding.{IsLater}
 use Rattle.run_work.specs.Served.{AreLent}
 use Rattle.run_work.specs.Serving.{AreHeededBut, HasLent, IsClientServed, IsHeededBut}
@@ -41,7 +41,7 @@ IsWorking-start tries desk before kept none made = record {
   number = kept.number;
   done = none;
   busy = omega (arith, made);
-  replica = kept.session.replica ∙ kept.replica;
+  replica = kept.session.at.replica ∙ kept.replica;
   heeded = AreHeeded-none None before.session.replica before.session.client before.session.seen none;
   lent = AreLent-none before.node.desk.setup before.session.replica before.session.seen;
 }

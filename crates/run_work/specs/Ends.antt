@@ -9,7 +9,7 @@ use Rattle.run_history.specs.Seats.{ClerkView, DeskView, NoteView}
 use Rattle.run_history.specs.Ticks.{entries_of}
 use Rattle.replica_lock.specs.Rosters.{IsRosterOf}
 use Rattle.replica_lock.specs.Sessions.{IsSessionOf, NodeView, SessionView, own_calls}
-use Rattle.replica_lock.specs.declared.fault.NodeFault.{NodeFault}
+use Rattle.locked_replica.specs.declared.fault.NodeFault.{NodeFault}
 use Rattle.work_load.specs.Attempts.{Attempts, Begun, is_call}
 use Rattle.work_load.specs.Clients.{is_of}
 use Rattle.work_load.specs.declared.plan.Client.{Client}

@@ -4,8 +4,8 @@ use Rattle.link_faults.specs.Plans.{no_faults}
 use Rattle.run_model.specs.Histories.{IsPrefix}
 use Rattle.run_model.specs.declared.entry.Entry.{Entry}
 use Rattle.run_history.specs.Seats.{ClerkView, DeskView, NoteView}
-use Rattle.replica_lock.specs.declared.fault.NodeFault.{NodeFault}
-use Rattle.replica_lock.specs.declared.fault.NodeFault.TheVariants as node
+use Rattle.locked_replica.specs.declared.fault.NodeFault.{NodeFault}
+use Rattle.locked_replica.specs.declared.fault.NodeFault.TheVariants as node
 use Rattle.work_load.specs.Attempts.{settling}
 use Rattle.work_load.specs.Workloads.{Workload}
 use Rattle.run_work.specs.Ends.{AreDrawn, HaveEnded, HaveServed, IsStop, AreFew}

@@ -6,7 +6,7 @@ use Rattle.run_model.specs.declared.entry.Entry.{Entry}
 use Rattle.run_model.specs.declared.entry.Message.{Message}
 use Rattle.link_faults.specs.Inboxes.{InboxState}
 use Rattle.link_faults.specs.Plans.{no_faults}
-use Rattle.replica_lock.specs.Parcels.{ParcelView}
+use Rattle.locked_replica.specs.Parcels.{ParcelView}
 use Rattle.replica_lock.specs.Sessions.{SessionView}
 use Rattle.run_work.specs.Ends.{made_by}
 use Rattle.run_work.specs.Settling.{SettlingView}

@@ -10,9 +10,9 @@ use Rattle.run_model.specs.declared.entry.Act.{Act}
 use Rattle.run_model.specs.declared.entry.Act.TheVariants as act
 use Rattle.run_model.specs.declared.entry.Entry.{Entry}
 use Rattle.run_model.specs.declared.entry.Message.{Message}
-use Rattle.replica_lock.specs.Loans.{amount_of, most_of}
-use Rattle.replica_lock.specs.declared.loan.Loan.{Loan}
-use Rattle.replica_lock.specs.declared.loan.Loan.TheVariants as loan
+use Rattle.locked_replica.specs.Loans.{amount_of, most_of}
+use Rattle.locked_replica.specs.declared.loan.Loan.{Loan}
+use Rattle.locked_replica.specs.declared.loan.Loan.TheVariants as loan
 use Rattle.work_load.specs.Attempts.{is_call}
 use Rattle.work_load.specs.Workloads.{Workload}
 use Rattle.work_load.specs.declared.plan.Client.{Client}

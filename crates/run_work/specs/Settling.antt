@@ -6,7 +6,7 @@ use Rattle.run_model.specs.Histories.{IsPrefix}
 use Rattle.run_model.specs.declared.entry.Entry.{Entry}
 use Rattle.run_history.specs.Seats.{DeskView, NoteView}
 use Rattle.link_faults.specs.Inboxes.{InboxState}
-use Rattle.replica_lock.specs.Parcels.{ParcelView}
+use Rattle.locked_replica.specs.Parcels.{ParcelView}
 use Rattle.replica_lock.specs.Rosters.{IsRosterOf}
 use Rattle.replica_lock.specs.Sessions.{IsSessionOf, NodeView, SessionView, own_calls}
 use Rattle.work_load.specs.declared.plan.Client.{Client}

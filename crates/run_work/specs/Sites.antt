@@ -5,7 +5,7 @@ use Rattle.run_history.specs.Seats.{DeskView}
 use Rattle.link_faults.specs.Inboxes.{InboxState}
 use Rattle.link_faults.specs.Plans.{no_faults}
 use Rattle.work_load.specs.Workloads.{Workload}
-use Rattle.replica_lock.specs.Parcels.{ParcelView}
+use Rattle.locked_replica.specs.Parcels.{ParcelView}
 use Rattle.replica_lock.specs.Sessions.{NodeView}
 use Rattle.postbox.specs.Posts.{AreFor, PostboxView}
 

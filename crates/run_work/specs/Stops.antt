@@ -5,8 +5,8 @@ use Rattle.run_model.specs.Histories.{part_of}
 use Rattle.run_model.specs.Taking.{clock}
 use Rattle.run_model.specs.declared.entry.Entry.{Entry}
 use Rattle.replica_lock.specs.Sessions.{SessionView}
-use Rattle.replica_lock.specs.declared.fault.NodeFault.{NodeFault}
-use Rattle.replica_lock.specs.declared.fault.NodeFault.TheVariants as fault
+use Rattle.locked_replica.specs.declared.fault.NodeFault.{NodeFault}
+use Rattle.locked_replica.specs.declared.fault.NodeFault.TheVariants as fault
 
 -- what a stop tells of what the session had seen: full, where the replica made as many entries as it may, with both numbers,
 -- or want of memory; the journals of a run never fail

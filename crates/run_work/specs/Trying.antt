@@ -3,9 +3,9 @@ use Rattle.std.specs.Prelude.{◌≡◌, ◌⊎◌, ℕ, false, if◌then◌else
 use Rattle.anti_entropy.specs.Wishes.{wish_of}
 use Rattle.run_model.specs.Call.{is_waiting}
 use Rattle.run_model.specs.declared.call.Reply.{Reply}
-use Rattle.replica_lock.specs.declared.fault.NodeFault.{NodeFault}
-use Rattle.replica_lock.specs.declared.fault.NodeLoanFault.{NodeLoanFault}
-use Rattle.replica_lock.specs.declared.fault.NodeLoanFault.TheVariants.{Node}
+use Rattle.locked_replica.specs.declared.fault.NodeFault.{NodeFault}
+use Rattle.locked_replica.specs.declared.fault.NodeLoanFault.{NodeLoanFault}
+use Rattle.locked_replica.specs.declared.fault.NodeLoanFault.TheVariants.{Node}
 use Rattle.run_model.specs.declared.call.Request.{Request}
 use Rattle.run_model.specs.declared.entry.Entry.{Entry}
 use Rattle.work_load.specs.Attempts.{AreCallsFor, AreWaitingFor, Asks, IsWaitingFor, asked, waits}

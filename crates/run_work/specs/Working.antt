@@ -4,7 +4,7 @@ use Rattle.tact_base.specs.Setup.{IsSetup}
 use Rattle.run_history.specs.Seats.{DeskView}
 use Rattle.replica_lock.specs.Allowances.{AllowanceView}
 use Rattle.replica_lock.specs.Sessions.{IsSessionOf, NodeView, SessionView, own_calls}
-use Rattle.replica_lock.specs.declared.fault.NodeFault.{NodeFault}
+use Rattle.locked_replica.specs.declared.fault.NodeFault.{NodeFault}
 use Rattle.work_load.specs.Attempts.{Attempts, Begun}
 use Rattle.work_load.specs.Ranges.{IsItemOf}
 use Rattle.work_load.specs.declared.plan.Client.{Client}

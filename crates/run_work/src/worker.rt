@@ -3,7 +3,7 @@ ghost use Rattle.std.specs.Prelude.{◌≡◌, ◌≢◌, ◌<◌, ◌≤◌, �
 ghost use Rattle.tact_base.specs.declared.limits.TheConstants.{MOMENT_MAX};
 ghost use Rattle.replica_lock.specs.Sessions.{own_calls};
 ghost use Rattle.run_model.specs.Ranges.{IsOpInRange, IsRequestInRange};
-ghost use Rattle.replica_lock.specs.Locks.{IsWriteOrRead};
+ghost use Rattle.locked_replica.specs.Locks.{IsWriteOrRead};
 ghost use Rattle.work_load.specs.Ranges.{IsAmountOf, IsItemOf, IsWeightOf};
 ghost use Rattle.work_load.specs.declared.plan.Item.TheVariants as item;
 ghost use Rattle.run_work.specs.Holding.{IsLater};

@@ -4,7 +4,7 @@ use Rattle.std.proofs.lemmas.List.{append_assoc, get_or_append_left, get_or_push
 use Rattle.link_faults.specs.Inboxes.{InboxState}
 use Rattle.link_faults.specs.declared.plan.LinkPlan.{LinkPlan}
 use Rattle.run_history.specs.Seats.{DeskView}
-use Rattle.replica_lock.specs.Parcels.{ParcelView}
+use Rattle.locked_replica.specs.Parcels.{ParcelView}
 use Rattle.postbox.specs.Posts.{AreFor, PostboxView}
 use Rattle.run_work.specs.Sites.{IsInboxAt}
 use Rattle.run_work.proofs.Ended.{all_there}

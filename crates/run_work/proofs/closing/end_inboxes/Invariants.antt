@@ -1,6 +1,6 @@
 use Rattle.std.proofs.Common.{◌≡◌, ℕ, ◌<◌, ◌++◌, get_or, length, map}
 use Rattle.link_faults.specs.Inboxes.{InboxState}
-use Rattle.replica_lock.specs.Parcels.{ParcelView}
+use Rattle.locked_replica.specs.Parcels.{ParcelView}
 use Rattle.postbox.specs.Posts.{AreFor, PostboxView}
 use Rattle.run_work.proofs.closing.end_inboxes.Given as goal
 

@@ -4,12 +4,11 @@ use Rattle.tact_base.specs.Roomy.{Roomy}
 use Rattle.run_model.specs.declared.entry.Entry.{Entry}
 use Rattle.run_history.specs.Seats.{ClerkView, NoteView}
 use Rattle.run_history.specs.Ticks.{entries_of}
-use Rattle.replica_lock.specs.Rosters.{AreAllSessions}
 use Rattle.replica_lock.specs.Sessions.{NodeView}
 use Rattle.work_load.specs.declared.plan.Client.{Client}
 use Rattle.run_work.specs.Ends.{AreWhole, IsWhole}
 use Rattle.run_work.specs.declared.seat.End.{End}
-use Rattle.run_work.proofs.Ended.{AreLeft, AreLeft-more, IsLeft, all_there, count_at, drawn_each, first_dropped, rest_dropped, stands_at}
+use Rattle.run_work.proofs.Ended.{AreAll, AreAll-sure, AreLeft, AreLeft-more, IsLeft, all_there, count_at, drawn_each, first_dropped, rest_dropped, stands_at}
 use Rattle.run_work.proofs.Reach.{AreFew-left}
 use Rattle.run_work.proofs.closing.finish_all.Goals as goal
 
@@ -53,8 +52,10 @@ pub finish-clerk-requires-clause-sessions : goal.finish-clerk-requires-clause-se
 finish-clerk-requires-clause-sessions g c =
     let whole : c.loop-node.yielded ++ c.in-Some.node ∷ c.next.new.self.rest.items ≡ c.args.nodes.items =
     ap (λ (items : List NodeView). c.loop-node.yielded ++ items) (sym c.in-Some.ensures.steps.0) ∙ c.loop-node.invariant.all in
-    (whole_at c.requires.ends.0 c.requires.ends.1 c.args.nodes.items c.loop-node.yielded c.next.new.self.rest.items c.in-Some.node c.args.ends.items
-    c.next-in-loop-node.new.self.rest.items c.in-Some-next.field-0 c.requires.ends.2 whole (sym c.in-Some-next.ensures.items ∙ c.loop-node.invariant.ends)).sessions
+    let is =
+    whole_at c.requires.ends.0 c.requires.ends.1 c.args.nodes.items c.loop-node.yielded c.next.new.self.rest.items c.in-Some.node c.args.ends.items
+    c.next-in-loop-node.new.self.rest.items c.in-Some-next.field-0 c.requires.ends.2 whole (sym c.in-Some-next.ensures.items ∙ c.loop-node.invariant.ends) in
+    λ at d within. (is.sessions at d within).at
 
 pub finish-clerk-requires-clause-whole : goal.finish-clerk-requires-clause-whole
 finish-clerk-requires-clause-whole g c =
@@ -77,7 +78,12 @@ loop-node-preserved g c =
     let is : IsLeft node end clerk = record {
       table = c.finish-clerk.ensures.clerk.0;
       replica = c.finish-clerk.ensures.clerk.1;
-      sessions = subst (λ (stored : List (ℕ × Entry)). AreAllSessions end.roster.clients end.sessions.items (entries_of stored)) c.finish-clerk.ensures.stored c.finish-clerk.ensures.sessions;
+      sessions = subst (λ (stored : List (ℕ × Entry)). AreAll end.roster.clients end.sessions.items (entries_of stored)) c.finish-clerk.ensures.stored
+          (AreAll-sure node end.roster.clients end.sessions.items (entries_of c.finish-clerk.result.stored)
+          (whole_at c.requires.ends.0 c.requires.ends.1 c.args.nodes.items before c.next.new.self.rest.items node ends
+          c.next-in-loop-node.new.self.rest.items end c.requires.ends.2
+          (ap (λ (items : List NodeView). before ++ items) (sym c.in-Some.ensures.steps.0) ∙ c.loop-node.invariant.all) dropped).sessions
+          c.finish-clerk.ensures.sessions);
     } in
     record {
       all = append_assoc before (node ∷ []) c.next.new.self.rest.items ∙ ap (λ (items : List NodeView). before ++ items) (sym c.in-Some.ensures.steps.0) ∙ c.loop-node.invariant.all;

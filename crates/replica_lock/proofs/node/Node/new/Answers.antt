@@ -4,7 +4,7 @@ use Rattle.run_history.specs.Seats.{ClerkView}
 use Rattle.run_history.specs.Ticks.{entries_of}
 use Rattle.run_model.specs.Histories.{part_of}
 use Rattle.weight_ledger.specs.Seen.{TallyView}
-use Rattle.replica_lock.proofs.Opening.{counts-first, places-first}
+use Rattle.replica_lock.proofs.Places.{numbers-first, places-first}
 use Rattle.replica_lock.proofs.node.Node.new.Goals as goal
 
 pub invariant_of-roster : goal.invariant_of-roster
@@ -16,6 +16,6 @@ invariant_of-roster g c = record {
       ∙ ap (λ (k : ClerkView). entries_of k.pairs) c.note-note.ensures.kept ∙ ap entries_of c.learn.ensures.drawn
       ∙ ap (λ (k : ClerkView). entries_of k.pairs) c.note-seen.ensures.kept ∙ ap entries_of c.requires.drawn;
   apart = subst (AllPairs (λ (one other : ℕ). one ≢ other)) (sym c.new-in-Ok-new.ensures) (AllPairs-nil (λ (one other : ℕ). one ≢ other));
-  nothing = λ client among. counts-first _ client _ (ap (λ (t : TallyView). t.amounts) c.in-Ok-new.ensures.tally);
-  free = λ client among free. places-first _ client _ among (ap (λ (t : TallyView). t.amounts) c.in-Ok-new.ensures.tally) (ap (λ (t : TallyView). t.owns) c.in-Ok-new.ensures.tally);
+  nothing = λ client among. numbers-first c.conits-conits.result client c.in-Ok-new.tally (ap (λ (t : TallyView). t.amounts) c.in-Ok-new.ensures.tally);
+  free = λ client among free. places-first c.conits-conits.result client c.in-Ok-new.tally among (ap (λ (t : TallyView). t.amounts) c.in-Ok-new.ensures.tally) (ap (λ (t : TallyView). t.owns) c.in-Ok-new.ensures.tally);
 }

@@ -4,7 +4,7 @@ use Rattle.run_model.specs.Missing.{reserved}
 use Rattle.run_model.specs.declared.call.Request.TheVariants as request
 use Rattle.replica_lock.specs.Allowances.{AllowanceView}
 use Rattle.replica_lock.specs.Answering.{HasAnswered}
-use Rattle.replica_lock.specs.Locks.{part_in}
+use Rattle.locked_replica.specs.Locks.{part_in}
 use Rattle.replica_lock.proofs.Replying.{release-released}
 use Rattle.replica_lock.proofs.turn.Turn.release.Goals as goal
 

@@ -3,7 +3,7 @@ use Rattle.run_model.specs.Histories.{moment_at}
 use Rattle.run_model.specs.declared.call.Request.TheVariants as request
 use Rattle.replica_lock.specs.Allowances.{AllowanceView}
 use Rattle.replica_lock.specs.Answering.{HasAnswered}
-use Rattle.replica_lock.specs.Locks.{part_in}
+use Rattle.locked_replica.specs.Locks.{part_in}
 use Rattle.replica_lock.proofs.Replying.{reserve-waits}
 use Rattle.replica_lock.proofs.turn.Turn.reserve.Goals as goal
 

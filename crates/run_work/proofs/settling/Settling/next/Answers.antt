@@ -1,6 +1,6 @@
 use Rattle.std.proofs.Common.{◌++◌, IfSome, ap, sym, ◌∙◌, subst}
 use Rattle.std.specs.Option.{option_map, option_to_list}
-use Rattle.replica_lock.specs.Parcels.{ParcelView}
+use Rattle.locked_replica.specs.Parcels.{ParcelView}
 use Rattle.postbox.specs.Posts.{IsFor}
 use Rattle.run_work.specs.Settling.{SettlingView}
 use Rattle.run_work.proofs.Puts.{first_message, none_waits}

@@ -2,7 +2,7 @@ use Rattle.std.proofs.Common.{refl, sym, subst}
 use Rattle.link_faults.specs.Inboxes.{InboxState}
 use Rattle.postbox.specs.Posts.{AreFor, IsFor, PostView}
 use Rattle.postbox.proofs.Posting.{are_for-after_put}
-use Rattle.replica_lock.specs.Parcels.{ParcelView}
+use Rattle.locked_replica.specs.Parcels.{ParcelView}
 use Rattle.run_work.specs.Settling.{AreReady, SettlingView}
 use Rattle.run_work.proofs.Puts.{HaveCome-none, HaveCome-put, waits-put}
 use Rattle.run_work.proofs.Settled.{HaveGoneOn-inbox, IsSettling-inbox, waiting-are_for}

@@ -2,7 +2,7 @@ use Rattle.std.proofs.Common.{◌≡◌, ◌<◌, get_or, length, map, ap, arith
 use Rattle.run_history.specs.Seats.{NoteView}
 use Rattle.run_model.specs.Histories.{IsPrefix}
 use Rattle.link_faults.specs.Inboxes.{InboxState}
-use Rattle.replica_lock.specs.Parcels.{ParcelView}
+use Rattle.locked_replica.specs.Parcels.{ParcelView}
 use Rattle.run_work.proofs.Arriving.{HaveMadeFew-from, HaveMet-arrived, lose_at-there, on_ok_none}
 use Rattle.run_work.proofs.Settled.{AreSettled-on, AreSettled-trans, have_gone_on_then}
 use Rattle.run_work.proofs.settling.Settling.settle.Goals as goal

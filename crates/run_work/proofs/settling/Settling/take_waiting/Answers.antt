@@ -1,6 +1,6 @@
 use Rattle.std.proofs.Common.{◌≡◌, ◌++◌, ap, ◌∙◌}
 use Rattle.std.specs.Option.{option_map, option_to_list}
-use Rattle.replica_lock.specs.Parcels.{ParcelView}
+use Rattle.locked_replica.specs.Parcels.{ParcelView}
 use Rattle.run_work.specs.Rounds.{waiting_at}
 use Rattle.run_work.proofs.RoundLoops.{HasTakenSome-all, HasTakenSome-more, HasTakenSome-none, HasTakenSome-none_next}
 use Rattle.run_work.proofs.Settled.{have_gone_on_same, have_gone_on_then}

@@ -1,0 +1,11 @@
+pub mod Totals
+pub mod Entering
+pub mod Making
+pub mod Dues
+pub mod LoanActs
+pub mod Journaling
+pub mod Allowing
+pub mod Beginning
+pub mod Rereading
+pub mod Redrawing
+pub mod LastCalls
