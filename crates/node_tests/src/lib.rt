@@ -2,11 +2,15 @@
 #![tactic(auto)]
 
 #[cfg(test)]
+mod headless;
+#[cfg(test)]
 mod limits;
 #[cfg(test)]
 mod lone_client;
 #[cfg(test)]
 mod opened;
+#[cfg(test)]
+mod restarts;
 #[cfg(test)]
 mod spenders;
 #[cfg(test)]

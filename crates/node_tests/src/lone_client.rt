@@ -1,9 +1,9 @@
 //! A node with one client.
 ghost use Rattle.std.specs.Prelude.{◌≡◌, ◌≢◌, ◌<◌, ◌∷◌, []};
 ghost use Rattle.replica_lock.specs.Rosters.{IsRosterOf};
-ghost use Rattle.replica_lock.specs.Sessions.{IsSessionOf};
+ghost use Rattle.replica_lock.specs.Sessions.{IsAtNode};
 
-use crate::opened::{node_of, plain_read, plain_write, session};
+use crate::opened::{ask, is_certain, node_of, plain_read, plain_write, session};
 use replica_lock::{Ended, Node, NodeFault, Parcel, Roster, Session};
 use run_history::{Clerk, Desk};
 use run_model::{Config, Reply};
@@ -18,7 +18,7 @@ pub struct LoneClient<'d> {
     roster: Roster,
     session: Session,
     ghost roster_of: { IsRosterOf node roster },
-    ghost session_of: { IsSessionOf node session },
+    ghost session_at: { IsAtNode node session },
     ghost alone: { roster.clients ≡ session.client ∷ [] },
 }
 
@@ -36,7 +36,7 @@ impl<'d> LoneClient<'d> {
         requires drawn { clerk.pairs ≡ [] }
         ensures node { (result.node.desk ≡ desk.now) × (result.node.replica ≡ clerk.replica) }
     {
-        let (node, mut roster) = node_of(rt, alloc, desk, config, clerk);
+        let (node, mut roster) = node_of(rt, alloc, desk, config, clerk, SureJournal::new(alloc));
         let session = session(rt, &node, &mut roster, 0);
         LoneClient {
             node,
@@ -49,7 +49,7 @@ impl<'d> LoneClient<'d> {
     pub fn write<R: Wait + Abort>(&mut self, rt: &R) -> (u64, u64)
         ensures { self.new.node ≡ self.old.node }
     {
-        match self.node.call(rt, &mut self.session, 3, plain_write(rt)) {
+        match ask(rt, &self.node, &mut self.session, plain_write(rt)) {
             Ok(Reply::Done { index, stamp }) => (index, stamp),
             _ => panic!(rt; "a write is done at once"),
         }
@@ -59,7 +59,7 @@ impl<'d> LoneClient<'d> {
     pub fn read<R: Wait + Abort>(&mut self, rt: &R) -> Result<Reply, NodeFault>
         ensures { self.new.node ≡ self.old.node }
     {
-        self.node.call(rt, &mut self.session, 3, plain_read(rt))
+        ask(rt, &self.node, &mut self.session, plain_read(rt))
     }
 
     /// The value of key 7.
@@ -80,6 +80,7 @@ impl<'d> LoneClient<'d> {
         ensures desk { result.desk ≡ self.old.node.desk.table }
         ensures addressed { result.message.to ≡ to }
     {
+        is_certain(rt, &self.session);
         match self.node.send(rt, &mut self.session, 3, to) {
             Ok(parcel) => parcel,
             Err(_) => panic!(rt; "a message is sent"),
@@ -92,6 +93,7 @@ impl<'d> LoneClient<'d> {
         requires addressed { parcel.message.to ≡ self.old.node.replica }
         ensures node { self.new.node ≡ self.old.node }
     {
+        is_certain(rt, &self.session);
         match self.node.take(rt, &mut self.session, 3, parcel) {
             Ok(()) => {}
             Err(_) => panic!(rt; "a parcel is taken"),

@@ -1,21 +1,22 @@
 //! Desks for two replicas on one conit, their nodes, and requests of clients.
-ghost use Rattle.std.specs.Prelude.{◌≡◌, ◌<◌, ◌∷◌, ◌++◌, [], IfOk};
+ghost use Rattle.std.specs.Prelude.{◌≡◌, ◌<◌, ◌≤◌, ◌∷◌, ◌++◌, [], IsTrue, IfOk, false, unsigned_abs};
 ghost use Rattle.tact_base.specs.Setup.{Setup};
-ghost use Rattle.tact_base.specs.declared.limits.TheConstants.{CLIENTS};
+ghost use Rattle.tact_base.specs.declared.limits.TheConstants.{CLIENTS, WEIGHT_MAX};
 ghost use Rattle.run_model.specs.Ranges.{IsRequestInRange};
 ghost use Rattle.run_history.specs.Seats.{fresh_clerk};
-ghost use Rattle.replica_lock.specs.Locks.{IsWriteOrRead};
+ghost use Rattle.locked_replica.specs.Locks.{IsWriteOrRead};
 ghost use Rattle.replica_lock.specs.Rosters.{IsRosterOf};
-ghost use Rattle.replica_lock.specs.Sessions.{IsSessionOf};
+ghost use Rattle.replica_lock.specs.Sessions.{IsAtNode, IsSessionOf};
 
-use replica_lock::{Node, Roster, Session};
+use replica_lock::{Node, NodeFault, Roster, Session};
 use run_history::{Clerk, Desk};
-use run_model::{Config, Request};
+use run_model::{Config, Reply, Request};
 use std::alloc::{AllocError, Global};
 use std::process::Abort;
+use std::sync::Wait;
 use std::test::Fail;
 use tact_base::{Needs, Op, Weight, Weights};
-use tact_io::{FreeGate, SureJournal};
+use tact_io::{FreeGate, Journal};
 
 /// A desk for two replicas, its setup, and the clerks of both.
 #[derive(Drop)]
@@ -46,38 +47,33 @@ pub fn open_two(alloc: Global) -> Result<Opened, Fail>
     })
 }
 
-/// The node of a clerk that drew nothing, and its roster.
-pub fn node_of<'d>(
+/// The node of a clerk that drew nothing, with a journal without pieces, and its roster.
+pub fn node_of<'d, J: Journal + Drop>(
     rt: &impl Abort,
     alloc: Global,
     desk: &'d Desk,
     config: &Config,
     clerk: Clerk,
-) -> (Node<'d, SureJournal, FreeGate>, Roster)
+    journal: J,
+) -> (Node<'d, J, FreeGate>, Roster)
     requires setup { desk.now.setup ≡ config.now }
     requires clerk { clerk.table ≡ desk.now.table }
     requires drawn { clerk.pairs ≡ [] }
+    requires empty { IsTrue J.tells → J.pieces journal ≡ [] }
     ensures node { (result.0.desk ≡ desk.now) × (result.0.replica ≡ clerk.replica) }
     ensures roster { IsRosterOf result.0 result.1 }
     ensures clients { result.1.clients ≡ [] }
 {
-    match Node::new(
-        alloc,
-        desk,
-        config,
-        clerk,
-        SureJournal::new(alloc),
-        FreeGate::new(),
-    ) {
+    match Node::new(alloc, desk, config, clerk, journal, FreeGate::new()) {
         Ok(made) => made,
         Err(_) => panic!(rt; "no memory"),
     }
 }
 
 /// A session of a client that has none.
-pub fn session(
+pub fn session<J: Journal>(
     rt: &impl Abort,
-    node: &Node<'_, SureJournal, FreeGate>,
+    node: &Node<'_, J, FreeGate>,
     roster: &mut Roster,
     client: u32,
 ) -> Session
@@ -89,6 +85,30 @@ pub fn session(
     ensures clients { roster.new.clients ≡ roster.old.clients ++ client ∷ [] }
 {
     node.session(roster, client).expect(rt, "a session")
+}
+
+/// The session isn't in doubt.
+pub fn is_certain(rt: &impl Abort, session: &Session)
+    ensures { session.now.doubt ≡ false }
+{
+    assert!(rt; !session.in_doubt(), "it is in doubt");
+}
+
+/// What a session that isn't in doubt is answered.
+pub fn ask<J: Journal, R: Wait + Abort>(
+    rt: &R,
+    node: &Node<'_, J, FreeGate>,
+    session: &mut Session,
+    request: Request,
+) -> Result<Reply, NodeFault>
+    requires at { IsAtNode node.now session.old }
+    requires in_range { IsRequestInRange node.now.desk.setup request }
+    requires plain { IsWriteOrRead request }
+    ensures at { IsAtNode node.now session.new }
+    ensures client { session.new.client ≡ session.old.client }
+{
+    is_certain(rt, session);
+    node.call(rt, session, 3, request)
 }
 
 /// Closes a desk for two replicas with their clerks, and gives how many entries its history has.
@@ -117,14 +137,15 @@ pub fn plain_write(rt: &impl Abort) -> Request
     }
 }
 
-/// A write that weighs 1 on conit 0.
-pub fn light_write(rt: &impl Abort) -> Request
+/// A write that weighs so much on conit 0.
+pub fn weighing(rt: &impl Abort, nweight: i64) -> Request
+    requires few { unsigned_abs nweight ≤ WEIGHT_MAX }
     ensures in_range { (setup : Setup) → 0 < setup.conits → IsRequestInRange setup result }
     ensures plain { IsWriteOrRead result }
 {
     let weight = Weight {
         conit: 0,
-        nweight: 1,
+        nweight,
         oweight: 1,
     };
     Request::Write {

@@ -5,7 +5,7 @@ ghost use Rattle.replica_lock.specs.Allowances.{IsAllowanceOf};
 ghost use Rattle.replica_lock.specs.Rosters.{IsRosterOf};
 ghost use Rattle.replica_lock.specs.Sessions.{IsSessionOf};
 
-use crate::opened::{ADDS, Opened, light_write, node_of, open_two, session};
+use crate::opened::{ADDS, Opened, node_of, open_two, session, weighing};
 use replica_lock::{Allowance, Node, Reserving, Roster, Session, SessionFault};
 use run_model::Reply;
 use std::process::Abort;
@@ -75,7 +75,7 @@ impl<'n, 'd> Spender<'n, 'd> {
 
     // What a write that weighs 1 is answered.
     fn write<R: Wait + Abort>(mut self, rt: &R) -> Reply {
-        match self.node.call(rt, &mut self.session, 3, light_write(rt)) {
+        match self.node.call(rt, &mut self.session, 3, weighing(rt, 1)) {
             Ok(reply) => reply,
             Err(_) => panic!(rt; "a write is answered"),
         }
@@ -120,7 +120,14 @@ fn two_threads_spend_what_they_reserved(rt: HostRuntime) -> Result<(), Fail> {
         first,
         second: _,
     } = open_two(rt.alloc())?;
-    let (node, mut roster) = node_of(&rt, rt.alloc(), &desk, &config, first);
+    let (node, mut roster) = node_of(
+        &rt,
+        rt.alloc(),
+        &desk,
+        &config,
+        first,
+        SureJournal::new(rt.alloc()),
+    );
     let one = Spender::new(&rt, &node, &mut roster, 0);
     let other = Spender::new(&rt, &node, &mut roster, 1);
     let ((first, one), (second, _)) = thread::join(&rt, || spent(&rt, one), || spent(&rt, other));

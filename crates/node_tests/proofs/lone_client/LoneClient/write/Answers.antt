@@ -1,4 +1,4 @@
 use Rattle.node_tests.proofs.lone_client.LoneClient.write.Goals as goal
 
-pub call-requires-clause-in_range : goal.call-requires-clause-in_range
-call-requires-clause-in_range g c = c.plain_write.ensures.in_range _
+pub ask-requires-clause-in_range : goal.ask-requires-clause-in_range
+ask-requires-clause-in_range g c = c.plain_write.ensures.in_range _
