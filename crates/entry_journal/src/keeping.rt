@@ -175,6 +175,8 @@ impl<J: Journal> EntryJournal<J> {
         ensures no_memory { IsErrOf result RereadFault.NoMemory → self.new.halted ≡ self.old.halted }
         ensures failed { IsErrOf result RereadFault.JournalReadFault → (self.new.halted ≡ true) × HasRisen self.old.faults self.new.faults }
         ensures foreign { (place : ℕ) → result ≡ Err (fault.Foreign place) → (self.new.halted ≡ true) × (IsTrue self.old.tells → ⊥) }
+        ensures met { IsErrOf result RereadFault.JournalReadFault → IsTrue J.tells → (met : J) × (J.faults met ≢ 0) }
+        ensures told_foreign { (place : ℕ) → result ≡ Err (fault.Foreign place) → IsTrue J.tells → ⊥ }
         ensures tells { self.new.tells ≡ self.old.tells }
         ensures stays { IsTrue self.old.tells → self.new.pieces ≡ self.old.pieces }
         ensures room { self.new.room ≡ self.old.room }

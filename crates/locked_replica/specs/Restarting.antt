@@ -1,5 +1,5 @@
 -- What a journal that is read again leaves of the value behind a node's lock, and why it isn't.
-use Rattle.std.specs.Prelude.{◌≡◌, ℕ, List, [], ◌∷◌, ◌++◌, filter, Option, None, Some, IsTrue, true, false, slice_set}
+use Rattle.std.specs.Prelude.{◌≡◌, ℕ, Bool, List, [], ◌∷◌, ◌++◌, filter, Option, None, Some, IsTrue, true, false, slice_set}
 use Rattle.tact_io.specs.Faults.{HasRisen}
 use Rattle.run_model.specs.Histories.{is_call_of}
 use Rattle.run_model.specs.Missing.{reserved}
@@ -79,10 +79,12 @@ abbrev pub HasRestartDoubt : LockedView → ℕ → JournalView → RestartFault
 HasRestartDoubt state moment journal fault.JournalFault = journal.doubt ≡ Some (entry_in state moment act.Restart)
 HasRestartDoubt state moment journal other = journal.doubt ≡ None
 
--- of the refusals, those of a journal come only where this holds
-abbrev pub OnlyWhereRestarted : Type 0 → RestartFault → Type 0
-OnlyWhereRestarted Met fault.JournalFault = Met
-OnlyWhereRestarted Met other = Unit {0}
+-- of the refusals, those of a journal that tells its pieces come only where this holds, and it never gives a foreign piece
+abbrev pub OnlyWhereRestarted : Bool → Type 0 → RestartFault → Type 0
+OnlyWhereRestarted tells Met fault.JournalFault = IsTrue tells → Met
+OnlyWhereRestarted tells Met fault.JournalReadFault = IsTrue tells → Met
+OnlyWhereRestarted tells Met (fault.Foreign place) = IsTrue tells → ⊥
+OnlyWhereRestarted tells Met other = Unit {0}
 
 -- a call of a client with a request and a reply
 abbrev pub IsCallWith : ℕ → Request → Reply → Act → Type 0

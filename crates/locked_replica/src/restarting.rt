@@ -62,6 +62,7 @@ impl Locked {
         ensures tells { journal.new.tells ≡ journal.old.tells }
         ensures never_falls { journal.old.faults ≤ journal.new.faults }
         ensures fault { IfErr result (IsRereadRefusal journal.old journal.new) }
+        ensures met { IfErr result (OnlyWhereRestarted J.tells ((met : J) × (J.faults met ≢ 0))) }
         ensures doubt { OnErr result (journal.new.doubt ≡ journal.old.doubt) }
         ensures err { OnErr result ((self.new.core ≡ self.old.core) × (self.new.stored ≡ self.old.stored) × (self.new.totals ≡ self.old.totals)) }
         ensures learnt { IsPrefix self.old.clerk.seen note.new.seen × IsPrefix note.old.seen note.new.seen }
@@ -93,6 +94,7 @@ impl Locked {
         ensures tells { journal.new.tells ≡ journal.old.tells }
         ensures never_falls { journal.old.faults ≤ journal.new.faults }
         ensures fault { IfErr result (IsRereadRefusal journal.old journal.new) }
+        ensures met { IfErr result (OnlyWhereRestarted J.tells ((met : J) × (J.faults met ≢ 0))) }
         ensures doubt { OnErr result (journal.new.doubt ≡ journal.old.doubt) }
         ensures err { OnErr result ((self.new.core ≡ self.old.core) × (self.new.stored ≡ self.old.stored) × (self.new.totals ≡ self.old.totals) × (self.new.clerk ≡ self.old.clerk)) }
     {
@@ -124,6 +126,7 @@ impl Locked {
         ensures stays { IsTrue journal.old.tells → journal.new.pieces ≡ journal.old.pieces }
         ensures never_falls { journal.old.faults ≤ journal.new.faults }
         ensures fault { IfErr result (IsRereadRefusal journal.old journal.new) }
+        ensures met { IfErr result (OnlyWhereRestarted J.tells ((met : J) × (J.faults met ≢ 0))) }
         ensures doubt { OnErr result (journal.new.doubt ≡ journal.old.doubt) }
     {
         let number = self.replica_number();
@@ -248,7 +251,7 @@ impl Locked {
         ensures tells { journal.new.tells ≡ journal.old.tells }
         ensures never_falls { journal.old.faults ≤ journal.new.faults }
         ensures fault { IfErr result (IsRestartRefusal self.old.core journal.old journal.new) }
-        ensures met { IfErr result (OnlyWhereRestarted (IsTrue J.tells → (met : J) × (J.faults met ≢ 0))) }
+        ensures met { IfErr result (OnlyWhereRestarted J.tells ((met : J) × (J.faults met ≢ 0))) }
         ensures err { OnErr result ((self.new.core ≡ self.old.core) × (self.new.stored ≡ self.old.stored) × (self.new.totals ≡ self.old.totals)) }
         ensures learnt { IsPrefix self.old.clerk.seen note.new.seen × IsPrefix note.old.seen note.new.seen }
     {
@@ -285,7 +288,7 @@ impl Locked {
         ensures tells { journal.new.tells ≡ journal.old.tells }
         ensures never_falls { journal.old.faults ≤ journal.new.faults }
         ensures fault { IfErr result (IsRestartRefusal self.old.core journal.old journal.new) }
-        ensures met { IfErr result (OnlyWhereRestarted (IsTrue J.tells → (met : J) × (J.faults met ≢ 0))) }
+        ensures met { IfErr result (OnlyWhereRestarted J.tells ((met : J) × (J.faults met ≢ 0))) }
     {
         self.keep_restart(journal, moment)?;
         self.enter_restart(desk, moment, client);
@@ -311,7 +314,7 @@ impl Locked {
         ensures tells { journal.new.tells ≡ journal.old.tells }
         ensures never_falls { journal.old.faults ≤ journal.new.faults }
         ensures fault { IfErr result (IsRestartRefusal self.old.core journal.old journal.new) }
-        ensures met { IfErr result (OnlyWhereRestarted (IsTrue J.tells → (met : J) × (J.faults met ≢ 0))) }
+        ensures met { IfErr result (OnlyWhereRestarted J.tells ((met : J) × (J.faults met ≢ 0))) }
     {
         self.replica.may_enter()?;
         self.store_room()?;

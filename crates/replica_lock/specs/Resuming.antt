@@ -44,6 +44,12 @@ HasResumed setup before after resumed.Nothing = (before.doubt ≡ false) × HasH
 HasResumed setup before after (resumed.Stands asked given allowance) = HasStood setup before after asked given
 HasResumed setup before after (resumed.Dropped allowance) = HasFallen setup before after
 
+-- the allowance that comes with it, if there is one
+abbrev pub allowance_in : Resumed → Option AllowanceView
+allowance_in resumed.Nothing = None
+allowance_in (resumed.Stands asked given allowance) = allowance
+allowance_in (resumed.Dropped allowance) = allowance
+
 -- what is owed, as an allowance, if there is one
 abbrev pub IsPaid : NodeView → Owe → Option AllowanceView → Type 0
 IsPaid node owe None = owe.amount ≡ None

@@ -1,9 +1,10 @@
 //! Nodes that begin anew from their journals.
-ghost use Rattle.std.specs.Prelude.{◌≡◌, ◌+◌, ◌<◌, ◌≤◌, ◌^◌, None, IfErr, IfSome, OnOk, false};
+ghost use Rattle.std.specs.Prelude.{◌≡◌, ◌≢◌, ◌+◌, ◌<◌, ◌≤◌, ◌^◌, None, IfErr, IfSome, OnOk, false};
 ghost use Rattle.tact_base.specs.declared.limits.TheConstants.{CLIENTS, MOMENT_MAX};
 ghost use Rattle.run_model.specs.declared.entry.Act.TheVariants as act;
 ghost use Rattle.locked_replica.specs.Journals.{IsJournaled};
 ghost use Rattle.locked_replica.specs.Locks.{IsLocked};
+ghost use Rattle.locked_replica.specs.Restarting.{OnlyWhereRestarted};
 ghost use Rattle.replica_lock.specs.Restarts.{HasBegun, HasFound, HasNotBegun, HasNotFound, HasNotRestarted, HasRestarted, IsRestartFaultSeen};
 ghost use Rattle.replica_lock.specs.Ledgers.{found_owe, found_owes, owe_of};
 ghost use Rattle.replica_lock.specs.Sessions.{HasHeard, HasMade, IsAtNode, marked_restart};
@@ -33,6 +34,7 @@ impl<'d, J: Journal, G: Gate> Node<'d, J, G> {
         ensures restarted { OnOk result (HasMade self.now.desk.setup session.old session.new moment act.Restart) }
         ensures refused { IfErr result (λ told. HasHeard self.now.desk.setup session.old (marked_restart told session.old) session.new) }
         ensures fault { IfErr result (IsRestartFaultSeen session.new) }
+        ensures met { IfErr result (OnlyWhereRestarted J.tells ((met : J) × (J.faults met ≢ 0))) }
     {
         let mut turn = self.turn(rt);
         let answer = turn.restart(session, moment);
@@ -63,6 +65,7 @@ impl<'n, 'd, J: Journal, G: Gate> Turn<'n, 'd, J, G> {
         ensures restarted { OnOk result (HasMade self.old.node.desk.setup session.old session.new moment act.Restart) }
         ensures refused { IfErr result (λ told. HasHeard self.old.node.desk.setup session.old (marked_restart told session.old) session.new) }
         ensures fault_seen { IfErr result (IsRestartFaultSeen session.new) }
+        ensures met { IfErr result (OnlyWhereRestarted J.tells ((met : J) × (J.faults met ≢ 0))) }
     {
         self.recover(session)?;
         self.begin(session, moment)
@@ -81,6 +84,7 @@ impl<'n, 'd, J: Journal, G: Gate> Turn<'n, 'd, J, G> {
         ensures left { IfErr result (HasNotFound self.old self.new session.old) }
         ensures refused { IfErr result (λ told. HasHeard self.old.node.desk.setup session.old (marked_restart told session.old) session.new) }
         ensures fault_seen { IfErr result (IsRestartFaultSeen session.new) }
+        ensures met { IfErr result (OnlyWhereRestarted J.tells ((met : J) × (J.faults met ≢ 0))) }
     {
         let node = self.node;
         stand(&self.locked);
@@ -115,6 +119,7 @@ impl<'n, 'd, J: Journal, G: Gate> Turn<'n, 'd, J, G> {
         ensures restarted { OnOk result (HasMade self.old.node.desk.setup session.old session.new moment act.Restart) }
         ensures refused { IfErr result (λ told. HasHeard self.old.node.desk.setup session.old (marked_restart told session.old) session.new) }
         ensures fault_seen { IfErr result (IsRestartFaultSeen session.new) }
+        ensures met { IfErr result (OnlyWhereRestarted J.tells ((met : J) × (J.faults met ≢ 0))) }
     {
         let node = self.node;
         stand(&self.locked);

@@ -1,12 +1,13 @@
 //! Sessions that were in doubt.
-ghost use Rattle.std.specs.Prelude.{◌≡◌, ◌≢◌, ◌+◌, ◌*◌, ◌<◌, ◌^◌, None, IfOk, IfErr, OnErr, OnOk, false, true, set, slice_index};
+ghost use Rattle.std.specs.Prelude.{◌≡◌, ◌≢◌, ◌+◌, ◌*◌, ◌<◌, ◌^◌, None, IfOk, IfErr, IfSome, OnErr, OnOk, false, true, set, slice_index};
 ghost use Rattle.tact_base.specs.declared.limits.TheConstants.{CLIENTS};
 ghost use Rattle.run_model.specs.Histories.{calls_in, part_of};
 ghost use Rattle.run_model.specs.Runs.{IsRun};
 ghost use Rattle.locked_replica.specs.Locks.{IsLocked, part_in, turns_place};
 ghost use Rattle.locked_replica.specs.declared.fault.NodeFault.TheVariants as fault;
 ghost use Rattle.replica_lock.specs.Ledgers.{amount_in, doubt_place, less_at, more_at, resumed_owe, standing, told_book};
-ghost use Rattle.replica_lock.specs.Resuming.{HasResumed, IsPaid, IsResumedAs, IsSettledAs};
+ghost use Rattle.replica_lock.specs.Allowances.{IsAllowanceOf};
+ghost use Rattle.replica_lock.specs.Resuming.{HasResumed, IsPaid, IsResumedAs, IsSettledAs, allowance_in};
 ghost use Rattle.replica_lock.specs.Sessions.{HasHeard, IsAtNode, marked_by};
 
 use crate::allowance::Allowance;
@@ -45,6 +46,7 @@ impl<'d, J: Journal, G: Gate> Node<'d, J, G> {
     pub fn resume<R: Wait>(&self, rt: &R, session: &mut Session) -> Result<Resumed, NodeFault>
         requires { IsAtNode self.now session.old }
         ensures resumed { IfOk result (HasResumed self.now.desk.setup session.old session.new) }
+        ensures allowance { IfOk result (λ told. IfSome (allowance_in told) (IsAllowanceOf self.now)) }
         ensures halted { IfErr result (λ told. (told ≡ fault.Halted) × (session.old.doubt ≡ true)) }
         ensures refused { OnErr result (HasHeard self.now.desk.setup session.old (marked_by fault.Halted session.old) session.new) }
     {
@@ -66,6 +68,7 @@ impl<'n, 'd, J: Journal, G: Gate> Turn<'n, 'd, J, G> {
         ensures state { self.new.state ≡ record self.old.state { clerk = record self.old.state.clerk { seen = self.new.state.clerk.seen } } }
         ensures journal { self.new.journal ≡ self.old.journal }
         ensures resumed_as { IfOk result (IsResumedAs self.old self.new session.old) }
+        ensures allowance { IfOk result (λ told. IfSome (allowance_in told) (IsAllowanceOf self.old.node)) }
         ensures seen { session.new.seen ≡ self.new.state.clerk.seen }
         ensures resumed { IfOk result (HasResumed self.old.node.desk.setup session.old session.new) }
         ensures going { OnOk result (session.old.doubt ≡ true → self.old.journal.halted ≡ false) }
@@ -101,6 +104,7 @@ impl<'n, 'd, J: Journal, G: Gate> Turn<'n, 'd, J, G> {
         ensures journal { self.new.journal ≡ self.old.journal }
         ensures resumed_as { IsResumedAs self.old self.new session.old result }
         ensures settled { IsSettledAs (part_in self.old.state) session.old session.new result }
+        ensures allowance { IfSome (allowance_in result) (IsAllowanceOf self.old.node) }
     {
         let owe = self.counts.owe(session.client);
         let allowance = pay(self.node, &mut self.counts, session, owe);
@@ -132,6 +136,7 @@ fn pay<'d, J: Journal, G: Gate>(
     ensures session { session.new ≡ session.old }
     ensures book { counts.new ≡ record counts.old { book = more_at owe.conit (amount_in owe.amount) counts.old.book } }
     ensures paid { IsPaid node.now owe result }
+    ensures of { IfSome result (IsAllowanceOf node.now) }
 {
     let Some(amount) = owe.amount else {
         return None;

@@ -42,7 +42,8 @@ impl Model for Session {
 }
 
 impl Session {
-    ghost use Rattle.std.specs.Prelude.{◌≡◌};
+    ghost use Rattle.std.specs.Prelude.{◌≡◌, false, length};
+    ghost use Rattle.replica_lock.specs.Sessions.{own_calls};
 
     /// The number of its client.
     pub fn client(&self) -> u32
@@ -58,9 +59,10 @@ impl Session {
         self.replica
     }
 
-    /// How many calls its client made.
+    /// How many calls its client made: all that it has seen of the client, while it isn't in doubt.
     pub fn calls(&self) -> u64
-        ensures { result ≡ self.now.calls }
+        ensures count { result ≡ self.now.calls }
+        ensures seen { self.now.doubt ≡ false → result ≡ length (own_calls self.now) }
     {
         self.calls
     }
