@@ -129,7 +129,7 @@ static CLIENT_LISTS: [(&[u8], u64, LoadKind); 12] = [
     (b"[0,0,[]],[0,0,[]]", 2, LoadKind::Twice),
     (b"[0,0,[]],[1,0,[]],[0,0,[0]]", 3, LoadKind::Twice),
     (b"[0,0,[0]],[0,0,[]]", 1, LoadKind::Shape),
-    (b"[0,0,[[\"restart\"],[]]]", 1, LoadKind::NotBuilt),
+    (b"[0,0,[[\"restart\"],[]]]", 1, LoadKind::Shape),
     (b"[0,0,[]],[0,1,[[\"lend\",0,0,1]]]", 2, LoadKind::Same),
     (b"[0,7,[]],[1,7,[[\"lend\",0,0,1],[\"back\",1,0,1]]]", 2, LoadKind::Same),
 ];
@@ -143,7 +143,7 @@ fn clients(rt: HostRuntime) -> Result<(), Fail> {
 }
 
 #[rattlefmt::skip]
-static ITEMS: [(&[u8], LoadKind); 40] = [
+static ITEMS: [(&[u8], LoadKind); 39] = [
     (b"0", LoadKind::Shape),
     (b"[]", LoadKind::Shape),
     (b"[0]", LoadKind::Shape),
@@ -183,7 +183,6 @@ static ITEMS: [(&[u8], LoadKind); 40] = [
     (b"[\"lend\",1,0,1]", LoadKind::Same),
     (b"[\"back\",1,3,1]", LoadKind::Range),
     (b"[\"restart\",0]", LoadKind::Shape),
-    (b"[\"restart\"]", LoadKind::NotBuilt),
 ];
 
 #[test]

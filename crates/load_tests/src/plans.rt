@@ -204,6 +204,15 @@ fn assert_usual_loans(rt: &impl Abort, loans: &[u64]) {
 }
 
 #[test]
+fn a_restart(rt: HostRuntime) -> Result<(), Fail> {
+    let text = b"{\"replicas\":2,\"conits\":1,\"clients\":[[1,3,[[\"restart\"]]]]}";
+    let plan = plan(rt.alloc(), text)?;
+    assert_eq!(rt; plan.clients().len(), 1);
+    assert!(rt; plan.clients()[0].items.items() == [Item::Restart].as_slice());
+    Ok(())
+}
+
+#[test]
 fn what_no_name_says(rt: HostRuntime) -> Result<(), Fail> {
     let text = b"{\"clients\":[[7,7,[]]],\"replicas\":8,\"conits\":16}";
     let plan = plan(rt.alloc(), text)?;

@@ -151,6 +151,4 @@ pub enum LoadKind {
     Same,
     /// The conit of a weight or a need doesn't pass the one before.
     Unordered,
-    /// The form is known, and the program doesn't have it yet.
-    NotBuilt,
 }

@@ -59,7 +59,6 @@ load_name load.Twice = codes "Twice"
 load_name load.LoansOver = codes "LoansOver"
 load_name load.Same = codes "Same"
 load_name load.Unordered = codes "Unordered"
-load_name load.NotBuilt = codes "NotBuilt"
 
 -- the fault of an input, by what was read
 abbrev pub input_name : InputKind → List ℕ

@@ -86,6 +86,5 @@ fn load_name(kind: LoadKind) -> &'static [u8]
         LoadKind::LoansOver => b"LoansOver",
         LoadKind::Same => b"Same",
         LoadKind::Unordered => b"Unordered",
-        LoadKind::NotBuilt => b"NotBuilt",
     }
 }

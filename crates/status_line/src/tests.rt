@@ -67,7 +67,7 @@ fn usages(rt: HostRuntime) {
 
 #[test]
 fn inputs(rt: HostRuntime) {
-    let cases: [(u64, InputKind, &[u8]); 32] = [
+    let cases: [(u64, InputKind, &[u8]); 31] = [
         (
             10_001,
             InputKind::Line(LineKind::TooManyLines),
@@ -222,11 +222,6 @@ fn inputs(rt: HostRuntime) {
             18_446_744_073_709_551_615,
             InputKind::Load(LoadKind::Unordered),
             b"tactcli: BadInput 18446744073709551615 Unordered\n",
-        ),
-        (
-            1,
-            InputKind::Load(LoadKind::NotBuilt),
-            b"tactcli: BadInput 1 NotBuilt\n",
         ),
     ];
     for (place, kind, line) in cases {

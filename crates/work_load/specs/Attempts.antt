@@ -24,8 +24,8 @@ holds calls conit = reserved calls conit
 abbrev pub asked_with : ℕ → Weight → Op → Request
 asked_with held weight op = if nat_le (unsigned_abs weight.nweight) held then request.Held weight op else request.Write (weight ∷ []) op
 
--- What an item asks for after a client's calls. A release asks for all that the client holds; loans and returns are no
--- calls.
+-- What an item asks for after a client's calls. A release asks for all that the client holds; loans, returns and restarts
+-- are no calls.
 abbrev pub asked : List Entry → Item → Option Request
 asked before (item.Write weights op) = Some (request.Write weights op)
 asked before (item.Held weight op) = Some (asked_with (holds before weight.conit) weight op)
@@ -34,6 +34,7 @@ asked before (item.Release conit) = Some (request.Release conit (holds before co
 asked before (item.Read key needs) = Some (request.Read key needs)
 asked before (item.Lend holder conit amount) = None
 asked before (item.Back owner conit amount) = None
+asked before item.Restart = None
 
 -- a call that was asked for, and one whose reply waits
 abbrev pub Asks : Request → Act → Type 0

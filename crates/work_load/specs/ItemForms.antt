@@ -1,7 +1,7 @@
 -- The items of a client: what it asks of its replica, one after the other.
 use Rattle.std.specs.Prelude.{ℕ, bytes_eq, ◌-◌, ◌==◌, List, [], ◌∷◌, codes, Ok, Err, if◌then◌else◌}
 use Rattle.tact_base.specs.declared.limits.TheConstants.{AMOUNT_MAX, KEY_MAX}
-use Rattle.run_model.specs.declared.status.LoadKind.TheVariants.{Shape, Same, NotBuilt}
+use Rattle.run_model.specs.declared.status.LoadKind.TheVariants.{Shape, Same}
 use Rattle.serde_json.specs.Data.{Data}
 use Rattle.work_load.specs.Values.{Reading, ◌>>=◌, both, natural}
 use Rattle.work_load.specs.Forms.{named, op, weight, weights, needs}
@@ -61,7 +61,7 @@ back replicas conits replica fields = do
 
 -- `["restart"]`
 abbrev pub restart : List Data → Reading Item
-restart [] = Err NotBuilt
+restart [] = Ok item.Restart
 restart other = Err Shape
 
 -- an item of a client of this replica

@@ -32,6 +32,7 @@ IsItemOf replicas conits replica (item.Release conit) = conit < conits
 IsItemOf replicas conits replica (item.Read key needs) = (key ≤ KEY_MAX) × AreNeedsOf conits needs
 IsItemOf replicas conits replica (item.Lend holder conit amount) = IsLoanOf replicas conits replica holder conit amount
 IsItemOf replicas conits replica (item.Back owner conit amount) = IsLoanOf replicas conits replica owner conit amount
+IsItemOf replicas conits replica item.Restart = Unit {0}
 
 -- a client, after others
 pub record IsClientAfter (replicas conits : ℕ) (before : List Client) (client : Client) : Type 0 where

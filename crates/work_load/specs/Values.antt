@@ -3,7 +3,7 @@
 use Rattle.std.specs.Prelude.{ℕ, ◌++◌, ℤ, unsigned_abs, ◌&&◌, nat_le, nat_lt, List, [], ◌∷◌, Option, Some, None, option_and_then, Result, Ok, Err, if◌then◌else◌}
 use Rattle.std.specs.List.{fold}
 use Rattle.run_model.specs.declared.status.LoadKind.{LoadKind}
-use Rattle.run_model.specs.declared.status.LoadKind.TheVariants.{NotJson, Shape, Range, Twice, LoansOver, Same, Unordered, NotBuilt}
+use Rattle.run_model.specs.declared.status.LoadKind.TheVariants.{NotJson, Shape, Range, Twice, LoansOver, Same, Unordered}
 use Rattle.serde_json.specs.Data.{Data, Items, no_items, item}
 use Rattle.serde_json.specs.Find.{as_number, as_array, as_u64, as_i64}
 
@@ -25,7 +25,6 @@ rank Twice = 3
 rank LoansOver = 4
 rank Same = 5
 rank Unordered = 6
-rank NotBuilt = 7
 
 -- of two kinds the one that is tried first
 abbrev pub earlier : LoadKind → LoadKind → LoadKind

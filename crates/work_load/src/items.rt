@@ -1,5 +1,5 @@
 //! The items of a client.
-ghost use Rattle.std.specs.Prelude.{◌≡◌, ◌<◌, IfOk, map, Err};
+ghost use Rattle.std.specs.Prelude.{◌≡◌, ◌<◌, IfOk, map};
 ghost use Rattle.serde_json.specs.View.{view};
 ghost use Rattle.work_load.specs.Entries.{Tells};
 ghost use Rattle.work_load.specs.Ranges.{IsItemOf, IsLoanOf};
@@ -63,7 +63,7 @@ fn item_named(name: &str, fields: &[Value], counts: Counts) -> Result<Item, Load
     } else if name == "back" {
         back(fields, counts)
     } else if name == "restart" {
-        Err(restart_fault(fields))
+        restart(fields)
     } else {
         Err(LoadKind::Shape)
     }
@@ -183,13 +183,12 @@ fn back(fields: &[Value], counts: Counts) -> Result<Item, LoadKind>
     })
 }
 
-// A restart is known, and not built yet.
-fn restart_fault(fields: &[Value]) -> LoadKind
-    ensures { Err result ≡ restart (map view fields.now) }
+fn restart(fields: &[Value]) -> Result<Item, LoadKind>
+    ensures { result ≡ restart (map view fields.now) }
 {
     if fields.is_empty() {
-        LoadKind::NotBuilt
+        Ok(Item::Restart)
     } else {
-        LoadKind::Shape
+        Err(LoadKind::Shape)
     }
 }

@@ -55,6 +55,8 @@ pub enum Item {
         conit: u32,
         amount: u64,
     },
+    /// To begin anew from its journal.
+    Restart,
 }
 
 /// The items of a client, in order.

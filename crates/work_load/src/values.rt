@@ -19,7 +19,6 @@ fn rank(kind: LoadKind) -> u8
         LoadKind::LoansOver => 4,
         LoadKind::Same => 5,
         LoadKind::Unordered => 6,
-        LoadKind::NotBuilt => 7,
     }
 }
 
