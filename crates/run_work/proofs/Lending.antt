@@ -58,7 +58,7 @@ loans_made-append seen more replica =
     ∙ filter_map-append (λ (entry : Entry). loan_in entry.act) (part_of seen replica) (part_of more replica)
 
 -- no fewer are made as more is seen
-pub times-seen : (one : Loan) (replica : ℕ) (seen more : List Entry)
+times-seen : (one : Loan) (replica : ℕ) (seen more : List Entry)
     → IsPrefix seen more
     → times one (loans_made seen replica) ≤ times one (loans_made more replica)
 times-seen one replica seen more (rest, is) =
@@ -70,7 +70,7 @@ times-seen one replica seen more (rest, is) =
     )
 
 -- and what passed once did
-pub HasPassed-seen : (setup : Setup) (replica : ℕ) (seen more : List Entry) (one : Loan)
+HasPassed-seen : (setup : Setup) (replica : ℕ) (seen more : List Entry) (one : Loan)
     → IsPrefix seen more
     → HasPassed setup replica seen one
     → HasPassed setup replica more one
@@ -194,6 +194,16 @@ pub AreLent-all : (setup : Setup) (replica : ℕ) (items : List Item) (place : �
     → AreLent setup replica items seen
 AreLent-all setup replica items place seen past lent = subst (λ (xs : List Item). AreLent setup replica xs seen) (take_all place items past) lent
 
+-- what is lent as far as was seen is lent in the whole
+pub AreLent-on : (setup : Setup) (replica : ℕ) (items : List Item) (seen history : List Entry)
+    → IsPrefix seen history
+    → AreLent setup replica items seen
+    → AreLent setup replica items history
+AreLent-on setup replica items seen history told lent one = ⊎_elim
+    (λ (few : times one (loans_asked items) ≤ times one (loans_made seen replica)). inl (omega (arith, few, times-seen one replica seen history told)))
+    (λ (passed : HasPassed setup replica seen one). inr (HasPassed-seen setup replica seen history one told passed))
+    (lent one)
+
 -- what is lent between two moments is lent around them
 pub HasLent-around : (setup : Setup) (item : Item) (before now tried after : SessionView)
     → IsPrefix before.seen now.seen
@@ -225,6 +235,7 @@ no_loan tries (item.Held weight op) before after waited some = refl
 no_loan tries (item.Reserve conit amount) before after waited some = refl
 no_loan tries (item.Release conit) before after waited some = refl
 no_loan tries (item.Read key needs) before after waited some = refl
+no_loan tries item.Restart before after waited some = refl
 
 -- an item that asks for no loan lends none
 pub HasLent-none : (setup : Setup) (item : Item) (before after : SessionView) → loan_of item ≡ None → HasLent setup item before after

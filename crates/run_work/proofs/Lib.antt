@@ -16,6 +16,7 @@ pub mod Staying
 pub mod Wishes
 pub mod Heeding
 pub mod Lending
+pub mod Obeying
 pub mod WorkingLemmas
 pub mod TryingLoop
 pub mod WorkingLoop

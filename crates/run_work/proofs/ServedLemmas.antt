@@ -17,22 +17,12 @@ use Rattle.work_load.specs.Clients.{is_of}
 use Rattle.work_load.specs.Workloads.{Workload}
 use Rattle.work_load.specs.declared.plan.Client.{Client}
 use Rattle.work_load.specs.declared.plan.Item.{Item}
-use Rattle.run_work.specs.Served.{AreLent, HasPassed, IsHeeded, IsSending, IsServed, IsSettled, loans_asked, loans_made, times, wish_in}
+use Rattle.run_work.specs.Served.{AreObeyed, IsHeeded, IsSending, IsServed, IsSettled, wish_in}
 use Rattle.run_work.specs.Serving.{IsClientServed}
 use Rattle.run_work.specs.Settling.{HasMet}
 use Rattle.run_work.proofs.Heeding.{AreHeeded-on, IsSending-on, calls_of-append, has_call, none_behind}
-use Rattle.run_work.proofs.Lending.{HasPassed-seen, times-seen}
+use Rattle.run_work.proofs.Obeying.{AreObeyed-on}
 use Rattle.run_work.proofs.Zips.{AllZip-at}
-
--- what is lent as far as was seen is lent in the whole
-AreLent-on : (setup : Setup) (replica : ℕ) (items : List Item) (seen history : List Entry)
-    → IsPrefix seen history
-    → AreLent setup replica items seen
-    → AreLent setup replica items history
-AreLent-on setup replica items seen history told lent one = ⊎_elim
-    (λ (few : times one (loans_asked items) ≤ times one (loans_made seen replica)). inl (omega (arith, few, times-seen one replica seen history told)))
-    (λ (passed : HasPassed setup replica seen one). inr (HasPassed-seen setup replica seen history one told passed))
-    (lent one)
 
 -- the client of an act whose reply names another replica
 caller : (done : Act) (wish : ℕ) → wish_in done ≡ Some wish → (client : ℕ) × (is_call_of client done ≡ true)
@@ -126,12 +116,12 @@ module _ (plan : Workload) (history : List Entry) (notes : List NoteView) (no_no
           (AreHeeded-on None client.replica client.client note.seen told.0 none zip.1.heeded front rest call wish (sym told.1 ∙ is) (at ∙ sym same.0)
           (subst (λ (k : ℕ). is_call_of k call.act ≡ true) (sym same.1) own) names)
 
-  -- the loans of each client's items are made
-  lent_all : All (λ (client : Client). AreLent plan.setup client.replica client.items history) plan.clients
-  lent_all at no_client within =
+  -- the loans and restarts of each client's items are made
+  obeyed_all : All (λ (client : Client). AreObeyed plan.setup client.replica client.items history) plan.clients
+  obeyed_all at no_client within =
       let zip = AllZip-at Served plan.clients notes at no_client no_note served within in
       let client : Client = get_or plan.clients at no_client in
-      AreLent-on plan.setup client.replica client.items (get_or notes at no_note).seen history (heard at no_note zip.0) zip.1.lent
+      AreObeyed-on plan.setup client.replica client.items (get_or notes at no_note).seen history (heard at no_note zip.0) zip.1.obeyed
 
   -- behind what all notes have seen there is no call
   module _ (front : List Entry) (noted_front : All (λ (note : NoteView). IsPrefix note.seen front) notes) where
@@ -184,7 +174,7 @@ module _ (plan : Workload) (history : List Entry) (notes : List NoteView) (no_no
       → IsServed plan history
   IsServed-noted met = record {
     heeded = heeded_all;
-    lent = lent_all;
+    obeyed = obeyed_all;
     settled = λ some from to from_is to_is apart.
         let (front, seen, noted_front, told, each) = met some in
         IsSettled-met front noted_front (get_or plan.links to no_faults).lose seen from to told (each from to from_is to_is apart);

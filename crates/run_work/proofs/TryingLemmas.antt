@@ -148,6 +148,7 @@ asked-waiting calls call (item.Release conit) waiting = ap (λ amount. Some (req
 asked-waiting calls call (item.Read key needs) waiting = refl
 asked-waiting calls call (item.Lend holder conit amount) waiting = refl
 asked-waiting calls call (item.Back owner conit amount) waiting = refl
+asked-waiting calls call item.Restart waiting = refl
 
 -- So many tries of an item, each of which waits; it then asks for what it did.
 pub record HaveWaited (tries : ℕ) (item : Item) (before after : List Entry) : Type 0 where

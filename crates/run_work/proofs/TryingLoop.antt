@@ -5,18 +5,16 @@ use Rattle.std.proofs.lemmas.List.{length-append}
 use Rattle.run_model.specs.declared.entry.Entry.{Entry}
 use Rattle.work_load.specs.declared.plan.Item.{Item}
 use Rattle.tact_base.specs.Setup.{Setup}
-use Rattle.locked_replica.specs.declared.loan.Loan.{Loan}
 use Rattle.replica_lock.specs.Allowances.{AllowanceView}
 use Rattle.replica_lock.specs.Sessions.{SessionView, own_calls}
 use Rattle.run_work.specs.Holding.{IsLater, IsQuiet}
-use Rattle.run_work.specs.Served.{HasPassed, loans_made, times}
-use Rattle.run_work.specs.Serving.{HasLent, HasSentTo, IsHeededBut, Owes}
+use Rattle.run_work.specs.Serving.{HasSentTo, IsHeededBut, IsObeyed, Owes}
 use Rattle.run_work.specs.Trying.{HasBegun, HasDone, HasTried}
 use Rattle.run_work.specs.Working.{IsBusyFor, WorkerView}
 use Rattle.run_work.specs.declared.trying.Tried.TheVariants.{Final, Waiting}
 use Rattle.run_work.proofs.GoingOn.{IsLater-same, IsLater-trans, IsLater-weaker, replica-later}
 use Rattle.run_work.proofs.Heeding.{IsHeeded-quiet, IsHeeded-sent}
-use Rattle.run_work.proofs.Lending.{HasLent-around, no_loan}
+use Rattle.run_work.proofs.Obeying.{IsObeyed-around, IsObeyed-waited}
 use Rattle.run_work.proofs.TryingLemmas.{HasDone-final, HasDone-tries, HasWaited-tries, HaveWaited, HaveWaited-more, HaveWaited-none}
 use Rattle.run_work.proofs.WorkingLemmas.{IsBusyFor-tried}
 
@@ -91,11 +89,11 @@ module _ (item : Item) (before : WorkerView) (tries : ℕ) (now : WorkerView) (t
         → IsHeededBut None after.session
     IsHeeded-try setup owes heeded = IsHeeded-quiet None 23 tried.session after.session quiet (owes.heeded heeded)
 
-    -- what the try lent is lent since the first
-    pub HasLent-try : (setup : Setup) → HasLent setup item now.session tried.session → HasLent setup item before.session after.session
-    HasLent-try setup lent =
-        HasLent-around setup item before.session now.session tried.session after.session trying.later.told later.told quiet.later.told
-        (replica-later (24 * tries) before.session now.session trying.later) lent
+    -- what the try lent is lent since the first, and its restart is made
+    pub IsObeyed-try : (setup : Setup) → IsObeyed setup item now.session tried.session → IsObeyed setup item before.session after.session
+    IsObeyed-try setup obeyed =
+        IsObeyed-around before.session now.session tried.session after.session trying.later.told quiet.later.told
+        (replica-later (24 * tries) before.session now.session trying.later) setup item later.told obeyed
 
     pub IsTrying-more : (wish : Option ℕ)
         → HasTried item (Waiting wish) (own_calls now.session) (own_calls tried.session)
@@ -116,11 +114,10 @@ module _ (item : Item) (before : WorkerView) (tries : ℕ) (now : WorkerView) (t
         subst (HasDone most item (own_calls before.session)) (sym quiet.calls)
         (HasDone-final tries item (own_calls before.session) (own_calls now.session) (own_calls tried.session) most few trying.waited has)
 
-  -- an item whose tries wait asks for no loan
-  pub HasLent-waited : (setup : Setup) → 0 < tries → HasLent setup item before.session now.session
-  HasLent-waited setup some =
-      subst (λ (asked : Option Loan). IfSome asked (λ (one : Loan). (times one (loans_made before.session.seen before.session.replica) < times one (loans_made now.session.seen before.session.replica)) ⊎ HasPassed setup before.session.replica now.session.seen one))
-      (sym (no_loan tries item (own_calls before.session) (own_calls now.session) trying.waited some)) tt
+  -- an item whose tries wait asks for a call alone
+  pub IsObeyed-tries : (setup : Setup) → 0 < tries → IsObeyed setup item before.session now.session
+  IsObeyed-tries setup some =
+      IsObeyed-waited setup tries item (own_calls before.session) (own_calls now.session) before.session now.session trying.waited some
 
   -- where the tries end, at the last or with a try that was refused
   pub HasDone-now : (most : ℕ)

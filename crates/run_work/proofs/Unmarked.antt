@@ -5,17 +5,26 @@ use Rattle.tact_base.specs.Setup.{Setup}
 use Rattle.tact_io.specs.Journals.{Pieces}
 use Rattle.locked_replica.specs.Journals.{OnlyWhere}
 use Rattle.locked_replica.specs.Loans.{OnlyWhereLent}
+use Rattle.locked_replica.specs.Restarting.{OnlyWhereRestarted}
 use Rattle.locked_replica.specs.declared.fault.NodeFault.{NodeFault}
 use Rattle.locked_replica.specs.declared.fault.NodeFault.TheVariants as fault
 use Rattle.locked_replica.specs.declared.fault.NodeLoanFault.{NodeLoanFault}
 use Rattle.locked_replica.specs.declared.fault.NodeLoanFault.TheVariants as loan_fault
+use Rattle.locked_replica.specs.declared.fault.RestartFault.{RestartFault}
+use Rattle.locked_replica.specs.declared.fault.RestartFault.TheVariants as restart_fault
 use Rattle.locked_replica.specs.declared.fault.TakeFault.{TakeFault}
 use Rattle.replica_lock.specs.Allowances.{AllowanceView, lost_with}
-use Rattle.replica_lock.specs.Sessions.{HasHeard, SessionView, failed_by, marked_by, marked_lent}
+use Rattle.replica_lock.specs.Restarts.{IsRestartFaultSeen}
+use Rattle.replica_lock.specs.Sessions.{HasHeard, SessionView, failed_by, marked_by, marked_lent, marked_restart}
+use Rattle.run_work.specs.Stops.{IsStopSeen}
+use Rattle.run_work.specs.Trying.{restarted_by}
 
 -- a journal in memory counted a fault, which none ever does
+abbrev pub FaultMet : Type 0
+FaultMet = (met : Pieces) × ◌≢◌ {A = ℕ} 0 0
+
 abbrev pub HasFailed : Type 0
-HasFailed = IsTrue true → (met : Pieces) × ◌≢◌ {A = ℕ} 0 0
+HasFailed = IsTrue true → FaultMet
 
 never : HasFailed → ⊥
 never met = (met refl).1 refl
@@ -37,6 +46,13 @@ pub marked_lent-sure : (told : NodeLoanFault) (session : SessionView) → OnlyWh
 marked_lent-sure (loan_fault.Node told) session only = marked_by-sure told session only
 marked_lent-sure (loan_fault.Home conit most) session only = refl
 marked_lent-sure (loan_fault.Free conit most) session only = refl
+
+pub marked_restart-sure : (told : RestartFault) (session : SessionView) → OnlyWhereRestarted true FaultMet told → marked_restart told session ≡ session
+marked_restart-sure restart_fault.JournalFault session only = absurd (never only)
+marked_restart-sure restart_fault.JournalReadFault session only = absurd (never only)
+marked_restart-sure (restart_fault.Foreign place) session only = absurd (only refl)
+marked_restart-sure (restart_fault.Full count stamp) session only = refl
+marked_restart-sure restart_fault.NoMemory session only = refl
 
 -- and leaves an allowance
 pub lost_with-sure : (lost : Option ℕ) (told : NodeFault) (allowance : AllowanceView) → OnlyWhere HasFailed told → lost_with lost told allowance ≡ allowance
@@ -78,3 +94,22 @@ module _ (setup : Setup) (before after : SessionView) where
   heard_taken answer only heard =
       heard_if answer (λ (told : TakeFault). OnlyWhere HasFailed told.fault) (λ (told : TakeFault). marked_by told.fault before)
       (λ told some. marked_by-sure told.fault before some) only heard
+
+  pub heard_restarted : {A : Type 0} (answer : Result A RestartFault)
+      → IfErr answer (OnlyWhereRestarted true FaultMet)
+      → IfErr answer (λ told. HasHeard setup before (marked_restart told before) after)
+      → OnErr answer (HasHeard setup before before after)
+  heard_restarted answer only heard =
+      heard_if answer (OnlyWhereRestarted true FaultMet) (λ told. marked_restart told before) (λ told some. marked_restart-sure told before some) only heard
+
+-- a restart that is refused stops a worker
+pub stops_restarted : (answer : Result (Unit {0}) RestartFault) (session : SessionView)
+    → IfErr answer (OnlyWhereRestarted true FaultMet)
+    → IfErr answer (IsRestartFaultSeen session)
+    → IfErr (restarted_by answer) (IsStopSeen session)
+stops_restarted (Ok done) session only seen = tt
+stops_restarted (Err restart_fault.NoMemory) session only seen = tt
+stops_restarted (Err (restart_fault.Full count stamp)) session only seen = seen
+stops_restarted (Err restart_fault.JournalFault) session only seen = absurd (never only)
+stops_restarted (Err restart_fault.JournalReadFault) session only seen = absurd (never only)
+stops_restarted (Err (restart_fault.Foreign place)) session only seen = absurd (only refl)

@@ -7,15 +7,15 @@ use Rattle.work_load.specs.declared.plan.Item.{Item}
 use Rattle.replica_lock.specs.Sessions.{IsSessionOf, NodeView, SessionView, own_calls}
 use Rattle.locked_replica.specs.declared.fault.NodeFault.{NodeFault}
 use Rattle.run_work.specs.Holding.{IsLater}
-use Rattle.run_work.specs.Served.{AreLent}
-use Rattle.run_work.specs.Serving.{AreHeededBut, HasLent, IsClientServed, IsHeededBut}
+use Rattle.run_work.specs.Served.{AreObeyed}
+use Rattle.run_work.specs.Serving.{AreHeededBut, IsClientServed, IsHeededBut, IsObeyed}
 use Rattle.run_work.specs.Sites.{SitesView}
 use Rattle.run_work.specs.Stops.{IsStopSeen}
 use Rattle.run_work.specs.Trying.{HasBegun, HasDone}
 use Rattle.run_work.specs.Working.{HasEnded, HasWorked, IsBusyFor, IsFresh, IsWorker, WorkerView}
 use Rattle.run_work.proofs.GoingOn.{IsSessionOf-later, client-later, replica-later}
 use Rattle.run_work.proofs.Heeding.{AreHeeded-none}
-use Rattle.run_work.proofs.Lending.{AreLent-all, AreLent-item, AreLent-none}
+use Rattle.run_work.proofs.Obeying.{AreObeyed-all, AreObeyed-item, AreObeyed-none}
 use Rattle.run_work.proofs.TryingLoop.{IsSameBut, IsSameBut-trans}
 use Rattle.run_work.proofs.WorkingLemmas.{Attempts-all, Attempts-item, Begun-item}
 
@@ -28,7 +28,7 @@ pub record IsWorking (tries : ℕ) (before : WorkerView) (place : ℕ) (now : Wo
   pub busy : IsBusyFor place now.session
   pub replica : now.session.replica ≡ before.client.replica
   pub heeded : IsHeededBut None now.session
-  pub lent : AreLent before.node.desk.setup now.session.replica (take place before.client.items) now.session.seen
+  pub obeyed : AreObeyed before.node.desk.setup now.session.replica (take place before.client.items) now.session.seen
 
 pub IsWorking-start : (tries : ℕ) (desk : DeskView) (before : WorkerView)
     → IsWorker desk before
@@ -43,7 +43,7 @@ IsWorking-start tries desk before kept none made = record {
   busy = omega (arith, made);
   replica = kept.session.at.replica ∙ kept.replica;
   heeded = AreHeeded-none None before.session.replica before.session.client before.session.seen none;
-  lent = AreLent-none before.node.desk.setup before.session.replica before.session.seen;
+  obeyed = AreObeyed-none before.node.desk.setup before.session.replica before.session.seen;
 }
 
 -- as busy for more items
@@ -59,8 +59,8 @@ module _ (tries : ℕ) (before : WorkerView) (place : ℕ) (now : WorkerView) (w
   all_served past = record {
     heeded = subst (λ (r : ℕ). AreHeededBut None r before.client.client now.session.seen) working.replica
         (subst (λ (k : ℕ). AreHeededBut None now.session.replica k now.session.seen) working.number working.heeded);
-    lent = subst (λ (r : ℕ). AreLent before.node.desk.setup r before.client.items now.session.seen) working.replica
-        (AreLent-all before.node.desk.setup now.session.replica before.client.items place now.session.seen past working.lent);
+    obeyed = subst (λ (r : ℕ). AreObeyed before.node.desk.setup r before.client.items now.session.seen) working.replica
+        (AreObeyed-all before.node.desk.setup now.session.replica before.client.items place now.session.seen past working.obeyed);
   }
 
   -- all are done
@@ -97,9 +97,9 @@ module _ (tries : ℕ) (before : WorkerView) (place : ℕ) (now : WorkerView) (w
 
     pub IsWorking-more : HasDone tries here (own_calls now.session) (own_calls after.session)
         → (IsHeededBut None now.session → IsHeededBut None after.session)
-        → HasLent before.node.desk.setup here now.session after.session
+        → IsObeyed before.node.desk.setup here now.session after.session
         → IsWorking tries before (place + 1) after
-    IsWorking-more done heeds lent = record {
+    IsWorking-more done heeds obeyed = record {
       same = IsSameBut-trans before now after working.same tried;
       session = IsSessionOf-later before.node most now.session after.session later working.session;
       number = client-later most now.session after.session later ∙ working.number;
@@ -107,8 +107,8 @@ module _ (tries : ℕ) (before : WorkerView) (place : ℕ) (now : WorkerView) (w
       busy = busier place working.busy;
       replica = replica-later most now.session after.session later ∙ working.replica;
       heeded = heeds working.heeded;
-      lent = subst (λ (r : ℕ). AreLent before.node.desk.setup r (take (place + 1) before.client.items) after.session.seen) (sym (replica-later most now.session after.session later))
-          (AreLent-item before.node.desk.setup before.client.items place none within now.session after.session later.told working.lent lent);
+      obeyed = subst (λ (r : ℕ). AreObeyed before.node.desk.setup r (take (place + 1) before.client.items) after.session.seen) (sym (replica-later most now.session after.session later))
+          (AreObeyed-item before.node.desk.setup before.client.items place none within now.session after.session later.told working.obeyed obeyed);
     }
 
     -- and ends with a fault

@@ -1,6 +1,6 @@
--- What a plan asks of a run beside its clients' calls: that waiting calls are followed by messages, that loans are made, and
--- that rounds settle the replicas (this project's own rule).
-use Rattle.std.specs.Prelude.{◌≡◌, ◌≢◌, ◌⊎◌, ℕ, ◌<◌, ◌≤◌, ◌==◌, ◌&&◌, Bool, false, List, ◌∷◌, ◌++◌, All, Contains, filter, get_or, length, Option, Some, None}
+-- What a plan asks of a run beside its clients' calls: that waiting calls are followed by messages, that loans and restarts
+-- are made, and that rounds settle the replicas (this project's own rule).
+use Rattle.std.specs.Prelude.{◌≡◌, ◌≢◌, ◌⊎◌, ℕ, ◌<◌, ◌≤◌, ◌==◌, ◌&&◌, Bool, true, false, List, ◌∷◌, ◌++◌, All, Contains, filter, get_or, length, Option, Some, None}
 use Rattle.std.specs.List.{filter_map}
 use Rattle.tact_base.specs.Setup.{Setup}
 use Rattle.link_faults.specs.Plans.{no_faults}
@@ -82,16 +82,36 @@ abbrev pub AreLent : Setup → ℕ → List Item → List Entry → Type 0
 AreLent setup replica items history =
     (loan : Loan) → (times loan (loans_asked items) ≤ times loan (loans_made history replica)) ⊎ HasPassed setup replica history loan
 
+-- the restarts that items ask for, and those that a replica made
+abbrev pub asks_restart : Item → Bool
+asks_restart item.Restart = true
+asks_restart other = false
+
+abbrev pub is_restart : Act → Bool
+is_restart act.Restart = true
+is_restart other = false
+
+abbrev pub restarts_asked : List Item → ℕ
+restarts_asked items = length (filter asks_restart items)
+
+abbrev pub restarts_made : List Entry → ℕ → ℕ
+restarts_made history replica = length (filter (λ entry. is_restart entry.act) (part_of history replica))
+
+-- What items ask for beside calls: their loans are made, and at least as many restarts as they ask for.
+pub record AreObeyed (setup : Setup) (replica : ℕ) (items : List Item) (history : List Entry) : Type 0 where
+  pub lent : AreLent setup replica items history
+  pub restarted : restarts_asked items ≤ restarts_made history replica
+
 -- After all calls a replica sends to another, which takes the message where its link loses none.
 pub record IsSettled (lose : ℕ) (history : List Entry) (from to : ℕ) : Type 0 where
   pub sending : IsSending history from to
   pub last : All (λ entry. is_call entry.act ≡ false) sending.after
   pub taken : lose ≡ 0 → IsTakenIn sending.after to sending.message
 
--- All calls that wait are heeded, each client's loans are made, and where there are rounds, they settle each replica with
--- each other.
+-- All calls that wait are heeded, each client's loans and restarts are made, and where there are rounds, they settle each
+-- replica with each other.
 pub record IsServed (plan : Workload) (history : List Entry) : Type 0 where
   pub heeded : (replica : ℕ) → IsHeeded history replica
-  pub lent : All (λ (client : Client). AreLent plan.setup client.replica client.items history) plan.clients
+  pub obeyed : All (λ (client : Client). AreObeyed plan.setup client.replica client.items history) plan.clients
   pub settled : plan.settle ≢ 0 → (from to : ℕ) → from < plan.setup.replicas → to < plan.setup.replicas → from ≢ to
       → IsSettled (get_or plan.links to no_faults).lose history from to

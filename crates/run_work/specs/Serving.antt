@@ -1,4 +1,4 @@
--- How a worker's session is served on the way: to whom a message is still owed, and which loans are made.
+-- How a worker's session is served on the way: to whom a message is still owed, and which loans and restarts are made.
 use Rattle.std.specs.Prelude.{◌≡◌, ◌≢◌, ◌⊎◌, ℕ, ◌<◌, true, List, ◌∷◌, ◌++◌, IfSome, Option, Some, None}
 use Rattle.tact_base.specs.Setup.{Setup}
 use Rattle.run_model.specs.Histories.{IsPrefix, is_call_of}
@@ -6,7 +6,8 @@ use Rattle.run_model.specs.declared.entry.Entry.{Entry}
 use Rattle.replica_lock.specs.Sessions.{SessionView}
 use Rattle.work_load.specs.declared.plan.Client.{Client}
 use Rattle.work_load.specs.declared.plan.Item.{Item}
-use Rattle.run_work.specs.Served.{AreLent, HasPassed, IsSending, loan_of, loans_made, times, wish_in}
+use Rattle.work_load.specs.declared.plan.Item.TheVariants as item
+use Rattle.run_work.specs.Served.{AreObeyed, HasPassed, IsSending, loan_of, loans_made, restarts_made, times, wish_in}
 use Rattle.run_work.specs.declared.trying.Tried.{Tried}
 use Rattle.run_work.specs.declared.trying.Tried.TheVariants.{Final, Waiting}
 
@@ -45,7 +46,15 @@ HasLent setup item before after =
     IfSome (loan_of item) (λ loan.
     (times loan (loans_made before.seen before.replica) < times loan (loans_made after.seen before.replica)) ⊎ HasPassed setup before.replica after.seen loan)
 
--- by what was seen a client's calls are heeded, and the loans of its items are made
+-- and so is its restart
+abbrev pub HasRestarted : Item → SessionView → SessionView → Type 0
+HasRestarted item.Restart before after = restarts_made before.seen before.replica < restarts_made after.seen before.replica
+HasRestarted other before after = Unit {0}
+
+abbrev pub IsObeyed : Setup → Item → SessionView → SessionView → Type 0
+IsObeyed setup item before after = HasLent setup item before after × HasRestarted item before after
+
+-- by what was seen a client's calls are heeded, and the loans and restarts of its items are made
 pub record IsClientServed (setup : Setup) (client : Client) (seen : List Entry) : Type 0 where
   pub heeded : AreHeededBut None client.replica client.client seen
-  pub lent : AreLent setup client.replica client.items seen
+  pub obeyed : AreObeyed setup client.replica client.items seen

@@ -5,7 +5,10 @@ use Rattle.run_model.specs.Call.{is_waiting}
 use Rattle.run_model.specs.declared.call.Reply.{Reply}
 use Rattle.locked_replica.specs.declared.fault.NodeFault.{NodeFault}
 use Rattle.locked_replica.specs.declared.fault.NodeLoanFault.{NodeLoanFault}
+use Rattle.locked_replica.specs.declared.fault.NodeFault.TheVariants as node_fault
 use Rattle.locked_replica.specs.declared.fault.NodeLoanFault.TheVariants.{Node}
+use Rattle.locked_replica.specs.declared.fault.RestartFault.{RestartFault}
+use Rattle.locked_replica.specs.declared.fault.RestartFault.TheVariants as restart_fault
 use Rattle.run_model.specs.declared.call.Request.{Request}
 use Rattle.run_model.specs.declared.entry.Entry.{Entry}
 use Rattle.work_load.specs.Attempts.{AreCallsFor, AreWaitingFor, Asks, IsWaitingFor, asked, waits}
@@ -27,6 +30,13 @@ tried_by reply = if is_waiting reply then Waiting (wish_of reply) else Final
 abbrev pub loaned_by : Result (Unit {0}) NodeLoanFault → Result Tried NodeFault
 loaned_by (Err (Node fault)) = Err fault
 loaned_by _ = Ok Final
+
+-- and the answer to a restart: a journal that gives no piece back, or another one, has failed
+abbrev pub restarted_by : Result (Unit {0}) RestartFault → Result Tried NodeFault
+restarted_by (Ok done) = Ok Final
+restarted_by (Err (restart_fault.Full count clock)) = Err (node_fault.Full count clock)
+restarted_by (Err restart_fault.NoMemory) = Err node_fault.NoMemory
+restarted_by (Err other) = Err node_fault.JournalFault
 
 -- such calls follow those of before
 abbrev pub HasAsked : Request → Tried → List Entry → List Entry → Type 0

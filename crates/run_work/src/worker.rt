@@ -7,14 +7,14 @@ ghost use Rattle.locked_replica.specs.Locks.{IsWriteOrRead};
 ghost use Rattle.work_load.specs.Ranges.{IsAmountOf, IsItemOf, IsWeightOf};
 ghost use Rattle.work_load.specs.declared.plan.Item.TheVariants as item;
 ghost use Rattle.run_work.specs.Holding.{IsLater};
-ghost use Rattle.run_work.specs.Serving.{HasLent, Owes};
+ghost use Rattle.run_work.specs.Serving.{IsObeyed, Owes};
 ghost use Rattle.run_work.specs.Stops.{IsStopSeen};
-ghost use Rattle.run_work.specs.Trying.{HasAsked, HasTried, loaned_by, tried_by};
+ghost use Rattle.run_work.specs.Trying.{HasAsked, HasTried, loaned_by, restarted_by, tried_by};
 
 use crate::site::Sites;
 use crate::trying::Tried;
 use anti_entropy::wish;
-use replica_lock::{Allowance, Node, NodeFault, NodeLoanFault, Reserving, Session};
+use replica_lock::{Allowance, Node, NodeFault, NodeLoanFault, Reserving, RestartFault, Session};
 use run_model::{Reply, Request};
 use std::marker::Model;
 use std::sync::Wait;
@@ -86,6 +86,18 @@ fn loaned(answer: Result<(), NodeLoanFault>) -> Result<Tried, NodeFault>
     }
 }
 
+// A restart is done once it was made. A journal that gives no piece back, or another one, has failed.
+fn restarted(answer: Result<(), RestartFault>) -> Result<Tried, NodeFault>
+    ensures { result ≡ restarted_by answer }
+{
+    match answer {
+        Ok(()) => Ok(Tried::Final),
+        Err(RestartFault::Full { count, clock }) => Err(NodeFault::Full { count, clock }),
+        Err(RestartFault::NoMemory) => Err(NodeFault::NoMemory),
+        Err(_) => Err(NodeFault::JournalFault),
+    }
+}
+
 impl<'s, 'd, 'g, G: Gate> Worker<'s, 'd, 'g, G> {
     // Tries an item once.
     pub(crate) fn attempt<R: Wait, C: Clock>(
@@ -99,7 +111,7 @@ impl<'s, 'd, 'g, G: Gate> Worker<'s, 'd, 'g, G> {
         ensures later { IsLater 1 self.old.session self.new.session }
         ensures tried { IfOk result (λ tried. HasTried item.now tried (own_calls self.old.session) (own_calls self.new.session)) }
         ensures owes { IfOk result (λ tried. Owes self.old.node.desk.setup tried self.old.session self.new.session) }
-        ensures lent { OnOk result (HasLent self.old.node.desk.setup item.now self.old.session self.new.session) }
+        ensures obeyed { OnOk result (IsObeyed self.old.node.desk.setup item.now self.old.session self.new.session) }
         ensures refused { OnErr result (own_calls self.new.session ≡ own_calls self.old.session) }
         ensures fault { IfErr result (IsStopSeen self.new.session) }
     {
@@ -126,6 +138,7 @@ impl<'s, 'd, 'g, G: Gate> Worker<'s, 'd, 'g, G> {
                 self.node
                     .give_back(rt, &mut self.session, moment, owner, conit, amount),
             ),
+            Item::Restart => restarted(self.node.restart(rt, &mut self.session, moment)),
         }
     }
 

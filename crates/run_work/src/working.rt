@@ -3,7 +3,7 @@ ghost use Rattle.std.specs.Prelude.{◌≡◌, ℕ, ◌+◌, ◌*◌, ◌<◌, [
 ghost use Rattle.replica_lock.specs.Sessions.{own_calls};
 ghost use Rattle.work_load.specs.Ranges.{IsItemOf};
 ghost use Rattle.run_work.specs.Holding.{IsLater};
-ghost use Rattle.run_work.specs.Serving.{HasLent, IsHeededBut};
+ghost use Rattle.run_work.specs.Serving.{IsHeededBut, IsObeyed};
 ghost use Rattle.run_work.specs.Trying.{HasBegun, HasDone};
 ghost use Rattle.run_work.specs.Sites.{SitesView};
 ghost use Rattle.run_work.specs.Stops.{IsStopSeen};
@@ -47,7 +47,7 @@ impl<'s, 'd, 'g, G: Gate> Worker<'s, 'd, 'g, G> {
         ensures later { IsLater (24 * tries) self.old.session self.new.session }
         ensures done { OnOk result (HasDone tries item.now (own_calls self.old.session) (own_calls self.new.session)) }
         ensures heeded { OnOk result (IsHeededBut None self.old.session → IsHeededBut None self.new.session) }
-        ensures lent { OnOk result (HasLent self.old.node.desk.setup item.now self.old.session self.new.session) }
+        ensures obeyed { OnOk result (IsObeyed self.old.node.desk.setup item.now self.old.session self.new.session) }
         ensures begun { OnErr result (HasBegun tries item.now (own_calls self.old.session) (own_calls self.new.session)) }
         ensures busy { (count : ℕ) → IsBusyFor count self.old.session → IsBusyFor (count + 1) self.new.session }
         ensures fault { IfErr result (IsStopSeen self.new.session) }

@@ -74,7 +74,7 @@ fn a_replica_becomes_full_at_the_moments_of_the_clock(rt: HostRuntime) -> Result
 #[test]
 fn sessions_of_replicas_without_clients_settle_a_run(rt: HostRuntime) -> Result<(), Fail> {
     let text =
-        br#"{"replicas":3,"conits":1,"settle":2,"clients":[[1,4,[["write",["put",1,7],[]]]]]}"#;
+        br#"{"replicas":3,"conits":1,"settle":2,"clients":[[1,4,[["write",["put",1,7],[]],["restart"]]]]}"#;
     let plan = parse_plan(rt.alloc(), text)?;
     let clock = StepClock::new(1, 1);
     let Ok(run) = run_plan(&rt, rt.alloc(), &plan, 1, &clock, &FreeGate::new()) else {
@@ -89,8 +89,8 @@ fn sessions_of_replicas_without_clients_settle_a_run(rt: HostRuntime) -> Result<
     }
     let kinds = kinds_of(run.entries());
     assert_eq!(rt;
-        (calls, kinds.calls, kinds.sends, kinds.takes),
-        (1, 1, 14, 14)
+        (calls, kinds.calls, kinds.sends, kinds.takes, kinds.restarts),
+        (1, 1, 16, 16, 1)
     );
     Ok(())
 }

@@ -4,8 +4,8 @@ use Rattle.run_model.specs.declared.entry.Entry.{Entry}
 use Rattle.replica_lock.specs.Sessions.{own_calls}
 use Rattle.run_work.specs.Trying.{HasBegun, HasDone, HasTried}
 use Rattle.run_work.specs.Working.{WorkerView}
-use Rattle.run_work.specs.Serving.{HasLent, Owes}
-use Rattle.run_work.proofs.TryingLoop.{HasBegun-most, HasBegun-now, HasDone-now, HasDone-try, HasLent-try, HasLent-waited, IsHeeded-more, IsHeeded-try, IsSameBut-session, IsTrying-more}
+use Rattle.run_work.specs.Serving.{IsObeyed, Owes}
+use Rattle.run_work.proofs.TryingLoop.{HasBegun-most, HasBegun-now, HasDone-now, HasDone-try, IsHeeded-more, IsHeeded-try, IsObeyed-tries, IsObeyed-try, IsSameBut-session, IsTrying-more}
 use Rattle.run_work.proofs.worker.Worker.do_item.Goals as goal
 use Rattle.run_work.proofs.worker.Worker.do_item.Goals.{After-tend}
 
@@ -78,18 +78,18 @@ returns-in-Final-clause-heeded g c =
     (subst (λ tried. Owes c.loop-tried.self.node.desk.setup tried c.loop-tried.self.session c.attempt.new.self.session) c.in-Final.is c.in_ok-attempt.ensures.owes)
     (c.loop-tried.invariant.1 heeded))
 
-pub returns-in-Final-clause-lent : goal.returns-in-Final-clause-lent
-returns-in-Final-clause-lent g c =
+pub returns-in-Final-clause-obeyed : goal.returns-in-Final-clause-obeyed
+returns-in-Final-clause-obeyed g c =
     on_ok c.tend.result
-    (subst (λ (w : WorkerView). HasLent w.node.desk.setup c.args.item.now c.args.self.now.session c.tend.new.self.session) c.loop-tried.invariant.0.same.is
-    (HasLent-try c.args.item.now c.args.self.now c.loop-tried._tried c.loop-tried.self c.loop-tried.invariant.0 c.attempt.new.self c.tend.new.self
+    (subst (λ (w : WorkerView). IsObeyed w.node.desk.setup c.args.item.now c.args.self.now.session c.tend.new.self.session) c.loop-tried.invariant.0.same.is
+    (IsObeyed-try c.args.item.now c.args.self.now c.loop-tried._tried c.loop-tried.self c.loop-tried.invariant.0 c.attempt.new.self c.tend.new.self
     (record { is = c.attempt.ensures.same }) (IsSameBut-session _ _ c.tend.ensures.same) c.attempt.ensures.later c.tend.ensures.quiet
-    c.loop-tried.self.node.desk.setup c.in_ok-attempt.ensures.lent))
+    c.loop-tried.self.node.desk.setup c.in_ok-attempt.ensures.obeyed))
 
 pub returns-clause-heeded : goal.returns-clause-heeded
 returns-clause-heeded g c = c.loop-tried.invariant.1
 
-pub returns-clause-lent : goal.returns-clause-lent
-returns-clause-lent g c =
-    HasLent-waited c.args.item.now c.args.self.now c.loop-tried._tried c.loop-tried.self c.loop-tried.invariant.0 c.args.self.now.node.desk.setup
+pub returns-clause-obeyed : goal.returns-clause-obeyed
+returns-clause-obeyed g c =
+    IsObeyed-tries c.args.item.now c.args.self.now c.loop-tried._tried c.loop-tried.self c.loop-tried.invariant.0 c.args.self.now.node.desk.setup
     (omega (arith, c.loop-tried-test.false, c.loop-tried.auto._tried-end, c.requires.tries))

@@ -1,7 +1,7 @@
 use Rattle.std.proofs.Common.{◌≡◌, ◌<◌, List, Some, length, get_or, sym, ap, ◌∙◌, subst, arith}
 use Rattle.work_load.specs.declared.plan.Item.{Item}
 use Rattle.replica_lock.specs.Sessions.{own_calls}
-use Rattle.run_work.specs.Serving.{HasLent}
+use Rattle.run_work.specs.Serving.{IsObeyed}
 use Rattle.run_work.specs.Trying.{HasBegun, HasDone}
 use Rattle.run_work.specs.Working.{HasWorked, IsWorker, WorkerView}
 use Rattle.run_work.proofs.WorkingLoop.{HasWorked-all, HasWorked-fault, IsWorking-more, IsWorking-start}
@@ -29,9 +29,9 @@ loop-item-preserved g c =
     let done = subst (λ (i : Item). HasDone c.args.tries i (own_calls c.loop-item.self.session) (own_calls c.do_item.new.self.session)) is c.in_default.ensures.done in
     IsWorking-more c.args.tries c.args.self.now c.loop-item.item-index c.loop-item.self c.loop-item.invariant c.item-item.result among c.do_item.new.self
     (record { is = c.do_item.ensures.same }) _ c.do_item.ensures.later c.do_item.ensures.busy done c.in_default.ensures.heeded
-    (subst (λ (w : WorkerView). HasLent w.node.desk.setup (get_or c.args.self.now.client.items c.loop-item.item-index c.item-item.result) c.loop-item.self.session c.do_item.new.self.session)
+    (subst (λ (w : WorkerView). IsObeyed w.node.desk.setup (get_or c.args.self.now.client.items c.loop-item.item-index c.item-item.result) c.loop-item.self.session c.do_item.new.self.session)
     c.loop-item.invariant.same.is
-    (subst (λ (i : Item). HasLent c.loop-item.self.node.desk.setup i c.loop-item.self.session c.do_item.new.self.session) is c.in_default.ensures.lent))
+    (subst (λ (i : Item). IsObeyed c.loop-item.self.node.desk.setup i c.loop-item.self.session c.do_item.new.self.session) is c.in_default.ensures.obeyed))
 
 pub loop-item-init : goal.loop-item-init
 loop-item-init g c =
