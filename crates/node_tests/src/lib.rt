@@ -14,4 +14,6 @@ mod restarts;
 #[cfg(test)]
 mod spenders;
 #[cfg(test)]
+mod steady;
+#[cfg(test)]
 mod twins;

@@ -1,0 +1,4 @@
+pub mod Goings
+pub mod Sames
+pub mod Mends
+pub mod Tries

@@ -1,0 +1,5 @@
+pub mod Going
+pub mod Endings
+pub mod Settled
+pub mod Answered
+pub mod Taken
