@@ -16,6 +16,17 @@ const EMPTY_BYTES: &[u8] = b"TACT\x01\x02\x01\
 \0\0\0\0\0\0\0\0\0\0\0\0\0\0\0\0\0\0\0\0\0\0\0\0\
 \xff\0\0\0\0\0\0\0\0";
 
+// These, where the count of entries is 1, and with one byte more.
+const MISCOUNTED: &[u8] = b"TACT\x01\x02\x01\
+\0\0\0\0\0\0\0\0\0\0\0\0\0\0\0\0\0\0\0\0\0\0\0\0\
+\0\0\0\0\0\0\0\0\0\0\0\0\0\0\0\0\0\0\0\0\0\0\0\0\
+\xff\0\0\0\0\0\0\0\x01";
+
+const LONGER: &[u8] = b"TACT\x01\x02\x01\
+\0\0\0\0\0\0\0\0\0\0\0\0\0\0\0\0\0\0\0\0\0\0\0\0\
+\0\0\0\0\0\0\0\0\0\0\0\0\0\0\0\0\0\0\0\0\0\0\0\0\
+\xff\0\0\0\0\0\0\0\0\0";
+
 const EMPTY_LINE: &str =
     "run 0 calls 0 writes 0 waits 0 sends 0 takes 0 lends 0 backs 0 restarts 0\n";
 
@@ -105,6 +116,18 @@ fn inputs_that_are_no_records(rt: HostRuntime) -> Result<(), Fail> {
             &EMPTY_BYTES[..63],
             63,
             InputKind::Bytes(ByteKind::Short),
+        ),
+        (
+            "tactcli unpack",
+            MISCOUNTED,
+            56,
+            InputKind::Bytes(ByteKind::WrongCount),
+        ),
+        (
+            "tactcli check",
+            LONGER,
+            64,
+            InputKind::Bytes(ByteKind::AfterEnd),
         ),
         (
             "tactcli check",
