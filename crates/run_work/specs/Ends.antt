@@ -1,5 +1,5 @@
 -- What ends the nodes of a run, and what the sessions of its clients had seen when these came back.
-use Rattle.std.specs.Prelude.{◌≡◌, ◌≢◌, ◌⊎◌, ℕ, ◌+◌, ◌*◌, ◌<◌, ◌≤◌, ◌==◌, ◌&&◌, ◌||◌, Bool, nat_lt, List, [], ◌∷◌, ◌++◌, All, AllPairs, Contains, filter, fold, length, map, sum_by, get_or, if◌then◌else◌, Option, Some, None}
+use Rattle.std.specs.Prelude.{◌≡◌, ◌≢◌, ◌⊎◌, ℕ, ◌+◌, ◌*◌, ◌<◌, ◌≤◌, ◌==◌, ◌&&◌, ◌||◌, Bool, true, false, not, nat_lt, List, [], ◌∷◌, ◌++◌, All, AllPairs, Contains, filter, fold, length, map, sum_by, get_or, if◌then◌else◌, IfSome, Option, Some, None}
 use Rattle.std.specs.List.{AllZip}
 use Rattle.tact_base.specs.Setup.{Setup}
 use Rattle.tact_base.specs.declared.limits.TheConstants.{CLIENTS}
@@ -8,8 +8,9 @@ use Rattle.run_model.specs.declared.entry.Entry.{Entry}
 use Rattle.run_history.specs.Seats.{ClerkView, DeskView, NoteView}
 use Rattle.run_history.specs.Ticks.{entries_of}
 use Rattle.replica_lock.specs.Rosters.{IsRosterOf}
-use Rattle.replica_lock.specs.Sessions.{IsSessionOf, NodeView, SessionView, own_calls}
-use Rattle.locked_replica.specs.declared.fault.NodeFault.{NodeFault}
+use Rattle.replica_lock.specs.Sessions.{IsAtNode, NodeView, SessionView, own_calls}
+use Rattle.steady_node.specs.Going.{IsUnmarked}
+use Rattle.steady_node.specs.declared.ending.Ending.{Ending}
 use Rattle.work_load.specs.Attempts.{Attempts, Begun, is_call}
 use Rattle.work_load.specs.Clients.{is_of}
 use Rattle.work_load.specs.declared.plan.Client.{Client}
@@ -17,7 +18,7 @@ use Rattle.postbox.specs.Posts.{PostboxView}
 use Rattle.atomic_table.specs.Seated.{TableId}
 use Rattle.run_work.specs.Serving.{IsClientServed}
 use Rattle.run_work.specs.Sites.{SitesView}
-use Rattle.run_work.specs.Stops.{IsStopBy}
+use Rattle.run_work.specs.Stops.{IsStopBy, is_failure}
 use Rattle.run_work.specs.Working.{WorkerView}
 use Rattle.run_work.specs.declared.closing.Drawn.{Drawn}
 use Rattle.run_work.specs.declared.leaving.Stop.{Stop}
@@ -40,7 +41,7 @@ noted_calls (client ∷ clients) [] replica number = []
 pub record IsEnd (seated back : List Client) (notes : List NoteView) (replica : ℕ) (node : NodeView) (end : End) : Type 0 where
   pub roster : IsRosterOf node end.roster
   pub seated_are : end.roster.clients ≡ clients_at seated replica
-  pub sessions : All (IsSessionOf node) end.sessions.items
+  pub sessions : All (IsAtNode node) end.sessions.items
   pub back_are : map (λ (session : SessionView). session.client) end.sessions.items ≡ clients_at back replica
   pub calls : All (λ (session : SessionView). own_calls session ≡ noted_calls back notes replica session.client) end.sessions.items
 
@@ -61,7 +62,7 @@ pub record HasCome (session : SessionView) (at : ℕ) (before after : List End) 
 -- replica. They have seen the calls that the clients' notes have.
 pub record IsWhole (clients : List Client) (notes : List NoteView) (replica : ℕ) (node : NodeView) (end : End) : Type 0 where
   pub roster : IsRosterOf node end.roster
-  pub sessions : All (IsSessionOf node) end.sessions.items
+  pub sessions : All (IsAtNode node) end.sessions.items
   pub whole : map (λ (session : SessionView). session.client) end.sessions.items ≡ end.roster.clients
   pub among : (number : ℕ) → Contains (clients_at clients replica) number → Contains end.roster.clients number
   pub calls : All (λ (session : SessionView). own_calls session ≡ noted_calls clients notes replica session.client) end.sessions.items
@@ -75,65 +76,96 @@ pub record AreWhole (clients : List Client) (notes : List NoteView) (nodes : Lis
 abbrev pub AreKeys : List PostboxView → List TableId → Type 0
 AreKeys inboxes keys = keys ≡ map (λ (inbox : PostboxView). inbox.cell) inboxes
 
--- a stop that its note has seen
-abbrev pub IsStop : DeskView → Stop → Type 0
-IsStop desk stop = (stop.note.table ≡ desk.table) × IsStopBy stop.fault (part_of stop.note.seen stop.replica)
+-- the sessions of ends are unmarked; none has marked that its journal failed; none is in doubt
+abbrev pub IsUnmarkedEnd : End → Type 0
+IsUnmarkedEnd end = All IsUnmarked end.sessions.items
+
+abbrev pub AreUnmarked : List End → Type 0
+AreUnmarked ends = All IsUnmarkedEnd ends
+
+abbrev pub IsFaultlessEnd : End → Type 0
+IsFaultlessEnd end = All (λ (session : SessionView). session.faults ≡ 0) end.sessions.items
+
+abbrev pub AreFaultless : List End → Type 0
+AreFaultless ends = All IsFaultlessEnd ends
+
+abbrev pub AreCertain : List End → Type 0
+AreCertain ends = All (λ (end : End). All (λ (session : SessionView). session.doubt ≡ false) end.sessions.items) ends
+
+-- A stop, by what its note has seen: where a journal failed, a session has marked that.
+pub record IsStop (tells : Bool) (desk : DeskView) (Faultless : Type 0) (stop : Stop) : Type 0 where
+  pub table : stop.note.table ≡ desk.table
+  pub cause : IsStopBy tells stop.ending.fault (part_of stop.note.seen stop.replica)
+  pub failed : is_failure stop.ending.fault ≡ true → Faultless → ⊥
+
+abbrev pub IsKeptStop : Bool → DeskView → Type 0 → Stop → Type 0
+IsKeptStop tells desk Faultless stop = IsStop tells desk Faultless stop × (stop.ending.lost ≡ false)
+
+-- no call is lost where a run stopped, if it did
+abbrev pub IsKept : Option Stop → Type 0
+IsKept stop = IfSome stop (λ stop. stop.ending.lost ≡ false)
 
 -- what a worker's session has seen, and where its worker stopped
 abbrev pub note_of : WorkerView → NoteView
 note_of worker = record { table = worker.node.desk.table; seen = worker.session.seen }
 
-abbrev pub stop_of : WorkerView → NodeFault → Stop
-stop_of worker fault = record { replica = worker.client.replica; client = worker.client.client; fault = fault; note = note_of worker }
+abbrev pub stop_of : WorkerView → Ending → Stop
+stop_of worker ending = record { replica = worker.client.replica; client = worker.client.client; ending = ending; note = note_of worker }
 
 -- of a stop that there was and another it is one
 abbrev pub IsOneOf : Option Stop → Stop → Option Stop → Type 0
 IsOneOf before other after = (stop : Stop) × (after ≡ Some stop) × ((before ≡ Some stop) ⊎ (stop ≡ other))
 
--- which of two stops comes first, by replica and then by client: the other, where they are of one client
+-- Which of two stops comes first: one whose call is lost, and of two such, or of two others, the first by replica and then
+-- by client; the other, where they are of one client.
+abbrev pub is_lower : Stop → Stop → Bool
+is_lower one other = nat_lt one.replica other.replica || (one.replica == other.replica && nat_lt one.client other.client)
+
 abbrev pub is_before : Stop → Stop → Bool
-is_before one other = nat_lt one.replica other.replica || (one.replica == other.replica && nat_lt one.client other.client)
+is_before one other =
+    (one.ending.lost && not other.ending.lost) || ((one.ending.lost || not other.ending.lost) && is_lower one other)
 
 abbrev pub first_of : Option Stop → Stop → Stop
 first_of None other = other
 first_of (Some one) other = if is_before one other then one else other
 
 -- where a run stops first once one more worker has ended, and once all have
-abbrev pub stop_with : WorkerView → Option NodeFault → Option Stop → Option Stop
+abbrev pub stop_with : WorkerView → Option Ending → Option Stop → Option Stop
 stop_with worker None before = before
-stop_with worker (Some fault) before = Some (first_of before (stop_of worker fault))
+stop_with worker (Some ending) before = Some (first_of before (stop_of worker ending))
 
 abbrev pub first_stop : List WorkerView → Option Stop
 first_stop workers = fold (λ before (worker : WorkerView). stop_with worker worker.end before) None workers
 
--- a worker that ended with a fault stopped, and no other
-abbrev pub HasStopped : WorkerView → Option NodeFault → Option Stop → Option Stop → Type 0
+-- a worker that ended before its last item stopped, and no other
+abbrev pub HasStopped : WorkerView → Option Ending → Option Stop → Option Stop → Type 0
 HasStopped worker None before after = after ≡ before
-HasStopped worker (Some fault) before after = IsOneOf before (stop_of worker fault) after
+HasStopped worker (Some ending) before after = IsOneOf before (stop_of worker ending) after
 
--- what clients' notes have seen of their calls, if no worker stopped and if one did: all items done, or begun
+-- what clients' notes have seen of their calls, if no worker stopped and if one did: all items done, or begun, if no call is
+-- lost
 abbrev pub HasNoted : (List Entry → Type 0) → Client → NoteView → Type 0
 HasNoted Made client note = Made (calls_of note.seen client.replica client.client)
 
 abbrev pub HaveEnded : ℕ → List Client → List NoteView → Option Stop → Type 0
 HaveEnded tries clients notes None = AllZip (λ (client : Client). HasNoted (Attempts tries client.items) client) clients notes
-HaveEnded tries clients notes (Some stop) = AllZip (λ (client : Client). HasNoted (Begun tries client.items) client) clients notes
+HaveEnded tries clients notes (Some stop) = stop.ending.lost ≡ false → AllZip (λ (client : Client). HasNoted (Begun tries client.items) client) clients notes
 
 -- and of each client, by what its note has seen, that it was served, if no worker stopped
 abbrev pub HaveServed : Setup → List Client → List NoteView → Option Stop → Type 0
 HaveServed setup clients notes stop = stop ≡ None → AllZip (λ (client : Client) (note : NoteView). IsClientServed setup client note.seen) clients notes
 
--- What a node leaves: its clerk, and what this drew. Of each client that has the calls that the client's note has seen.
-pub record IsDrawn (clients : List Client) (notes : List NoteView) (desk : DeskView) (replica : ℕ) (clerk : ClerkView) : Type 0 where
-  pub table : clerk.table ≡ desk.table
-  pub replica_is : clerk.replica ≡ replica
-  pub calls : (number : ℕ) → number < CLIENTS
-      → calls_in (entries_of clerk.pairs) number ≡ length (noted_calls clients notes replica number)
-
-pub record AreDrawn (clients : List Client) (notes : List NoteView) (desk : DeskView) (drawn : Drawn) : Type 0 where
+-- What the nodes leave: their clerks, and what these drew.
+pub record AreDrawn (desk : DeskView) (drawn : Drawn) : Type 0 where
   pub count : length drawn.clerks.items ≡ desk.setup.replicas
-  pub each : (replica : ℕ) (none : ClerkView) → replica < length drawn.clerks.items → IsDrawn clients notes desk replica (get_or drawn.clerks.items replica none)
+  pub table : (replica : ℕ) (none : ClerkView) → replica < length drawn.clerks.items → (get_or drawn.clerks.items replica none).table ≡ desk.table
+  pub replica_is : (replica : ℕ) (none : ClerkView) → replica < length drawn.clerks.items → (get_or drawn.clerks.items replica none).replica ≡ replica
   pub parts : map (λ part. part.items) drawn.parts.items ≡ map (λ (clerk : ClerkView). clerk.pairs) drawn.clerks.items
+
+-- of each client that has the calls that the client's note has seen
+abbrev pub HaveDrawn : List Client → List NoteView → Drawn → Type 0
+HaveDrawn clients notes drawn = (replica number : ℕ) (none : ClerkView) → replica < length drawn.clerks.items → number < CLIENTS
+    → calls_in (entries_of (get_or drawn.clerks.items replica none).pairs) number ≡ length (noted_calls clients notes replica number)
 
 -- the clients of an end's sessions, the entries that were made for these, and the calls of theirs that they have seen
 abbrev pub clients_by : End → List ℕ
@@ -149,10 +181,10 @@ calls_by end = sum_by (λ (session : SessionView). length (own_calls session)) e
 abbrev pub items_of : List Client → ℕ → ℕ
 items_of clients replica = sum_by (λ (client : Client). length client.items) (filter (λ (client : Client). client.replica == replica) clients)
 
--- for an end's sessions at most 24 entries were made of each item of the replica's clients and of each call, and so many
+-- while an end's sessions are unmarked, at most 24 entries were made for them of each item of the replica's clients and of each call, and so many
 -- more; and so at each replica
 abbrev pub IsBusy : ℕ → ℕ → End → Type 0
-IsBusy items extra end = made_by end ≤ 24 * (items + calls_by end) + extra
+IsBusy items extra end = IsUnmarkedEnd end → made_by end ≤ 24 * (items + calls_by end) + extra
 
 abbrev pub AreBusy : List Client → ℕ → List End → Type 0
 AreBusy clients extra ends = (replica : ℕ) (none : End) → replica < length ends → IsBusy (items_of clients replica) extra (get_or ends replica none)

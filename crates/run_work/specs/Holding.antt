@@ -1,10 +1,10 @@
 -- What a client of a node holds, and what its session has seen further on.
-use Rattle.std.specs.Prelude.{◌≡◌, ℕ, ◌+◌, ◌<◌, ◌≤◌, List, length, get_or, sum_by}
-use Rattle.run_model.specs.Histories.{IsPrefix}
+use Rattle.std.specs.Prelude.{◌≡◌, ℕ, ◌<◌, ◌≤◌, List, length, get_or, sum_by}
 use Rattle.run_model.specs.Missing.{granted_by, used_by, reserved}
 use Rattle.run_model.specs.declared.entry.Entry.{Entry}
 use Rattle.replica_lock.specs.Allowances.{AllowanceView, allowance_of}
 use Rattle.replica_lock.specs.Sessions.{NodeView, SessionView, own_calls}
+use Rattle.steady_node.specs.Going.{GoesOn}
 
 -- what calls were granted on a conit, and what they used of it
 abbrev pub granted : List Entry → ℕ → ℕ
@@ -21,13 +21,8 @@ pub record Holds (node : NodeView) (calls : List Entry) (allowances : List Allow
       → get_or allowances conit none ≡ allowance_of node conit (reserved calls conit)
   pub covered : (conit : ℕ) → used calls conit ≤ granted calls conit
 
--- a session has gone on, with at most so many more entries made for its client
-pub record IsLater (most : ℕ) (before after : SessionView) : Type 0 where
-  pub value : after ≡ record before { calls = after.calls; made = after.made; seen = after.seen }
-  pub told : IsPrefix before.seen after.seen
-  pub few : after.made ≤ before.made + most
-
--- and none of these is a call
+-- a session has gone on without a call
 pub record IsQuiet (most : ℕ) (before after : SessionView) : Type 0 where
-  pub later : IsLater most before after
+  pub later : GoesOn most before after
   pub calls : own_calls after ≡ own_calls before
+  pub doubt : after.doubt ≡ before.doubt

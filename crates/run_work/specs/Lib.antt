@@ -3,6 +3,7 @@ pub mod Stops
 pub mod Trying
 pub mod Sites
 pub mod Working
+pub mod Tending
 pub mod Placing
 pub mod Ends
 pub mod Served

@@ -8,7 +8,7 @@ use Rattle.link_faults.specs.Inboxes.{InboxState}
 use Rattle.link_faults.specs.Plans.{no_faults}
 use Rattle.locked_replica.specs.Parcels.{ParcelView}
 use Rattle.replica_lock.specs.Sessions.{SessionView}
-use Rattle.run_work.specs.Ends.{made_by}
+use Rattle.run_work.specs.Ends.{AreUnmarked, made_by}
 use Rattle.run_work.specs.Settling.{SettlingView}
 use Rattle.run_work.specs.declared.seat.End.{End}
 
@@ -72,11 +72,11 @@ pub record AreStill (before after : SettlingView) : Type 0 where
   pub inboxes : after.inboxes ≡ before.inboxes
   pub made : (replica : ℕ) → made_at after replica ≤ made_at before replica
 
--- at most one entry was made, for this replica, and what waits is what it was
+-- While the sessions are unmarked, at most one entry was made, for this replica; and what waits is what it was.
 pub record HasMadeOne (replica : ℕ) (before after : SettlingView) : Type 0 where
   pub inboxes : after.inboxes ≡ before.inboxes
-  pub mine : made_at after replica ≤ made_at before replica + 1
-  pub others : (other : ℕ) → other ≢ replica → made_at after other ≤ made_at before other
+  pub mine : AreUnmarked after.ends → made_at after replica ≤ made_at before replica + 1
+  pub others : AreUnmarked after.ends → (other : ℕ) → other ≢ replica → made_at after other ≤ made_at before other
 
 -- at most two messages more wait for a replica, and for the others what waited
 pub record HaveCome (to : ℕ) (before after : SettlingView) : Type 0 where
@@ -86,27 +86,27 @@ pub record HaveCome (to : ℕ) (before after : SettlingView) : Type 0 where
 
 -- a replica sent to another
 pub record HasSentTo (from to : ℕ) (before after : SettlingView) : Type 0 where
-  pub mine : made_at after from ≤ made_at before from + 1
-  pub others : (other : ℕ) → other ≢ from → made_at after other ≤ made_at before other
+  pub mine : AreUnmarked after.ends → made_at after from ≤ made_at before from + 1
+  pub others : AreUnmarked after.ends → (other : ℕ) → other ≢ from → made_at after other ≤ made_at before other
   pub come : HaveCome to before after
 
 -- a replica sent to each other
 pub record HasSentAll (from : ℕ) (before after : SettlingView) : Type 0 where
-  pub mine : made_at after from + 1 ≤ made_at before from + length before.nodes
-  pub others : (other : ℕ) → other ≢ from → made_at after other ≤ made_at before other
+  pub mine : AreUnmarked after.ends → made_at after from + 1 ≤ made_at before from + length before.nodes
+  pub others : AreUnmarked after.ends → (other : ℕ) → other ≢ from → made_at after other ≤ made_at before other
   pub none : waiting_at after from ≡ waiting_at before from
   pub count : (to : ℕ) → length (waiting_at after to) ≤ length (waiting_at before to) + 2
   pub kept : (to : ℕ) (message : Message) → Contains (waiting_at before to) message → Contains (waiting_at after to) message
 
 -- each replica sent to each other, of which there are seven at most
 pub record HaveSentAll (before after : SettlingView) : Type 0 where
-  pub made : (replica : ℕ) → replica < length before.nodes → made_at after replica ≤ made_at before replica + 7
+  pub made : AreUnmarked after.ends → (replica : ℕ) → replica < length before.nodes → made_at after replica ≤ made_at before replica + 7
   pub count : (to : ℕ) → to < length before.nodes → length (waiting_at after to) ≤ length (waiting_at before to) + 14
 
 -- a replica took no more than waited for it, and for the others there waits what waited
 pub record HasTaken (replica : ℕ) (before after : SettlingView) : Type 0 where
-  pub mine : made_at after replica ≤ made_at before replica + length (waiting_at before replica)
-  pub others : (other : ℕ) → other ≢ replica → made_at after other ≤ made_at before other
+  pub mine : AreUnmarked after.ends → made_at after replica ≤ made_at before replica + length (waiting_at before replica)
+  pub others : AreUnmarked after.ends → (other : ℕ) → other ≢ replica → made_at after other ≤ made_at before other
   pub stayed : (other : ℕ) → other ≢ replica → waiting_at after other ≡ waiting_at before other
 
 -- a replica has seen its sending to another after a front, and the message waits there, where the link loses none

@@ -4,6 +4,7 @@ use Rattle.tact_base.specs.Setup.{Setup}
 use Rattle.run_model.specs.Histories.{IsPrefix, is_call_of}
 use Rattle.run_model.specs.declared.entry.Entry.{Entry}
 use Rattle.replica_lock.specs.Sessions.{SessionView}
+use Rattle.steady_node.specs.Going.{IsUnmarked}
 use Rattle.work_load.specs.declared.plan.Client.{Client}
 use Rattle.work_load.specs.declared.plan.Item.{Item}
 use Rattle.work_load.specs.declared.plan.Item.TheVariants as item
@@ -31,10 +32,15 @@ abbrev pub owed_by : Tried → Option ℕ
 owed_by Final = None
 owed_by (Waiting wish) = wish
 
--- after a try a message is owed to the other replica that the reply names, and to no more
+-- After a try a message is owed to the other replica that the reply names, and to no more; that is known while the session
+-- is unmarked.
 pub record Owes (setup : Setup) (tried : Tried) (before after : SessionView) : Type 0 where
   pub other : IfSome (owed_by tried) (IsOther setup before.replica)
-  pub heeded : IsHeededBut None before → IsHeededBut (owed_by tried) after
+  pub heeded : IsUnmarked after → IsHeededBut None before → IsHeededBut (owed_by tried) after
+
+-- no message is owed after an item, if none was before
+abbrev pub IsHeededAfter : SessionView → SessionView → Type 0
+IsHeededAfter before after = IsUnmarked after → IsHeededBut None before → IsHeededBut None after
 
 -- a session's replica has sent to another, after all that the session had seen
 abbrev pub HasSentTo : ℕ → SessionView → SessionView → Type 0
@@ -52,7 +58,7 @@ HasRestarted item.Restart before after = restarts_made before.seen before.replic
 HasRestarted other before after = Unit {0}
 
 abbrev pub IsObeyed : Setup → Item → SessionView → SessionView → Type 0
-IsObeyed setup item before after = HasLent setup item before after × HasRestarted item before after
+IsObeyed setup item before after = IsUnmarked after → HasLent setup item before after × HasRestarted item before after
 
 -- by what was seen a client's calls are heeded, and the loans and restarts of its items are made
 pub record IsClientServed (setup : Setup) (client : Client) (seen : List Entry) : Type 0 where

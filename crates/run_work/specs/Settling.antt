@@ -9,8 +9,9 @@ use Rattle.link_faults.specs.Inboxes.{InboxState}
 use Rattle.locked_replica.specs.Parcels.{ParcelView}
 use Rattle.replica_lock.specs.Rosters.{IsRosterOf}
 use Rattle.replica_lock.specs.Sessions.{IsSessionOf, NodeView, SessionView, own_calls}
+use Rattle.steady_node.specs.Going.{IsUnmarked}
 use Rattle.work_load.specs.declared.plan.Client.{Client}
-use Rattle.run_work.specs.Ends.{AreWhole, clients_by, made_by}
+use Rattle.run_work.specs.Ends.{AreCertain, AreFaultless, AreUnmarked, AreWhole, clients_by, made_by}
 use Rattle.run_work.specs.Served.{IsSending, IsTakenIn}
 use Rattle.run_work.specs.Sites.{AreInboxes, IsNodeAt}
 use Rattle.run_work.specs.declared.seat.End.{End}
@@ -35,6 +36,7 @@ pub record HasOneNew (node : NodeView) (before after : End) : Type 0 where
   pub of : IsSessionOf node session
   pub client : session.client ≡ 0
   pub made : session.made ≡ 0
+  pub unmarked : IsUnmarked session
   pub calls : own_calls session ≡ []
   pub roster : after.roster ≡ record before.roster { clients = before.roster.clients ++ 0 ∷ [] }
 
@@ -65,11 +67,13 @@ pub record IsSeatedAt (replica : ℕ) (before after : SettlingView) : Type 0 whe
   pub others : (other : ℕ) (none : End) → other ≢ replica → get_or after.ends other none ≡ get_or before.ends other none
   pub seated : (no_node : NodeView) (none : End) → HasSeated (get_or before.nodes replica no_node) (get_or before.ends replica none) (get_or after.ends replica none)
 
--- a session has gone on without a call
+-- a session has gone on without a call, and its marks didn't fall
 pub record HasStayed (before after : SessionView) : Type 0 where
-  pub value : after ≡ record before { made = after.made; seen = after.seen }
+  pub value : after ≡ record before { made = after.made; faults = after.faults; halts = after.halts; seen = after.seen }
   pub told : IsPrefix before.seen after.seen
   pub calls : own_calls after ≡ own_calls before
+  pub faults : before.faults ≤ after.faults
+  pub halts : before.halts ≤ after.halts
 
 -- so have all sessions of a replica
 pub record HasGoneOn (before after : End) : Type 0 where
@@ -87,12 +91,16 @@ pub record HaveGoneOn (before after : SettlingView) : Type 0 where
 abbrev pub HasSameClients : End → End → Type 0
 HasSameClients before after = (clients_by after ≡ clients_by before) ⊎ ((clients_by before ≡ []) × (clients_by after ≡ 0 ∷ []))
 
--- the replicas are settled: what their sessions have seen of their clients' calls is what it was
+-- The replicas are settled: what their sessions have seen of their clients' calls is what it was, and their marks didn't
+-- fall.
 pub record AreSettled (before after : SettlingView) : Type 0 where
   pub desk : after.desk ≡ before.desk
   pub nodes : after.nodes ≡ before.nodes
   pub ends : (clients : List Client) (notes : List NoteView) → AreWhole clients notes before.nodes before.ends → AreWhole clients notes after.nodes after.ends
   pub count : length after.ends ≡ length before.ends
+  pub unmarked : AreUnmarked after.ends → AreUnmarked before.ends
+  pub faultless : AreFaultless after.ends → AreFaultless before.ends
+  pub certain : AreCertain before.ends → AreCertain after.ends
   pub clients : (replica : ℕ) (none : End) → replica < length before.ends → HasSameClients (get_or before.ends replica none) (get_or after.ends replica none)
 
 -- For each replica few more were made: at most 1,024 parcels waited for it, and in each round it sends to seven others at

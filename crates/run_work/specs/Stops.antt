@@ -1,20 +1,26 @@
--- Why no entry is made for a client of a run.
-use Rattle.std.specs.Prelude.{◌≡◌, List, length}
+-- Why no more is done for a client of a run.
+use Rattle.std.specs.Prelude.{◌≡◌, Bool, true, false, IsTrue, List, length}
 use Rattle.tact_base.specs.declared.limits.TheConstants.{HISTORY_MAX}
-use Rattle.run_model.specs.Histories.{part_of}
 use Rattle.run_model.specs.Taking.{clock}
 use Rattle.run_model.specs.declared.entry.Entry.{Entry}
-use Rattle.replica_lock.specs.Sessions.{SessionView}
-use Rattle.locked_replica.specs.declared.fault.NodeFault.{NodeFault}
-use Rattle.locked_replica.specs.declared.fault.NodeFault.TheVariants as fault
+use Rattle.locked_replica.specs.declared.fault.RestartFault.{RestartFault}
+use Rattle.locked_replica.specs.declared.fault.RestartFault.TheVariants as fault
 
--- what a stop tells of what the session had seen: full, where the replica made as many entries as it may, with both numbers,
--- or want of memory; the journals of a run never fail
-abbrev pub IsStopBy : NodeFault → List Entry → Type 0
-IsStopBy (fault.Full count stamp) part = (length part ≡ HISTORY_MAX) × (count ≡ HISTORY_MAX) × (stamp ≡ clock part)
-IsStopBy fault.NoMemory part = Unit {0}
-IsStopBy other part = ⊥
+-- what a stop tells of what the session had seen: full, where the replica made as many entries as it may, with both numbers;
+-- another piece than was appended, which no journal gives that tells its pieces
+abbrev pub IsStopBy : Bool → RestartFault → List Entry → Type 0
+IsStopBy tells (fault.Full count stamp) part = (length part ≡ HISTORY_MAX) × (count ≡ HISTORY_MAX) × (stamp ≡ clock part)
+IsStopBy tells (fault.Foreign place) part = IsTrue tells → ⊥
+IsStopBy tells other part = Unit {0}
 
--- so of a session, by what it has seen
-abbrev pub IsStopSeen : SessionView → NodeFault → Type 0
-IsStopSeen session told = IsStopBy told (part_of session.seen session.replica)
+-- a stop tells that a journal failed
+abbrev pub is_failure : RestartFault → Bool
+is_failure fault.JournalFault = true
+is_failure fault.JournalReadFault = true
+is_failure other = false
+
+-- over journals that tell their pieces, none of which counted a fault, a run stops for these alone
+abbrev pub IsSureStop : RestartFault → List Entry → Type 0
+IsSureStop (fault.Full count stamp) part = (length part ≡ HISTORY_MAX) × (count ≡ HISTORY_MAX) × (stamp ≡ clock part)
+IsSureStop fault.NoMemory part = Unit {0}
+IsSureStop other part = ⊥

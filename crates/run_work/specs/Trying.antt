@@ -1,16 +1,14 @@
 -- What the tries of an item leave of a client's calls.
-use Rattle.std.specs.Prelude.{◌≡◌, ◌⊎◌, ℕ, false, if◌then◌else◌, List, [], ◌∷◌, ◌++◌, Option, Some, None, Result, Ok, Err}
+use Rattle.std.specs.Prelude.{◌≡◌, ◌⊎◌, ℕ, Bool, true, false, if◌then◌else◌, List, [], ◌∷◌, ◌++◌, Option, Some, None, Result, Err}
 use Rattle.anti_entropy.specs.Wishes.{wish_of}
 use Rattle.run_model.specs.Call.{is_waiting}
 use Rattle.run_model.specs.declared.call.Reply.{Reply}
-use Rattle.locked_replica.specs.declared.fault.NodeFault.{NodeFault}
 use Rattle.locked_replica.specs.declared.fault.NodeLoanFault.{NodeLoanFault}
-use Rattle.locked_replica.specs.declared.fault.NodeFault.TheVariants as node_fault
 use Rattle.locked_replica.specs.declared.fault.NodeLoanFault.TheVariants.{Node}
-use Rattle.locked_replica.specs.declared.fault.RestartFault.{RestartFault}
-use Rattle.locked_replica.specs.declared.fault.RestartFault.TheVariants as restart_fault
 use Rattle.run_model.specs.declared.call.Request.{Request}
 use Rattle.run_model.specs.declared.entry.Entry.{Entry}
+use Rattle.replica_lock.specs.Sessions.{SessionView}
+use Rattle.steady_node.specs.Endings.{IsTold}
 use Rattle.work_load.specs.Attempts.{AreCallsFor, AreWaitingFor, Asks, IsWaitingFor, asked, waits}
 use Rattle.work_load.specs.declared.plan.Item.{Item}
 use Rattle.run_work.specs.declared.trying.Tried.{Tried}
@@ -23,20 +21,18 @@ IsTry (Some wanted) (Waiting wish) calls = (call : Entry) × (calls ≡ call ∷
 IsTry None Final calls = calls ≡ []
 IsTry None (Waiting wish) calls = ⊥
 
--- how a reply ends a try, and how the answer to a loan or a return does: it is done where it is refused for its amount, too
+-- how a reply ends a try
 abbrev pub tried_by : Reply → Tried
 tried_by reply = if is_waiting reply then Waiting (wish_of reply) else Final
 
-abbrev pub loaned_by : Result (Unit {0}) NodeLoanFault → Result Tried NodeFault
-loaned_by (Err (Node fault)) = Err fault
-loaned_by _ = Ok Final
+-- a loan or a return was refused by its node, and not for its amount; and what the session was told then
+abbrev pub is_refused : Result (Unit {0}) NodeLoanFault → Bool
+is_refused (Err (Node told)) = true
+is_refused other = false
 
--- and the answer to a restart: a journal that gives no piece back, or another one, has failed
-abbrev pub restarted_by : Result (Unit {0}) RestartFault → Result Tried NodeFault
-restarted_by (Ok done) = Ok Final
-restarted_by (Err (restart_fault.Full count clock)) = Err (node_fault.Full count clock)
-restarted_by (Err restart_fault.NoMemory) = Err node_fault.NoMemory
-restarted_by (Err other) = Err node_fault.JournalFault
+abbrev pub IsLoanTold : Result (Unit {0}) NodeLoanFault → SessionView → Type 0
+IsLoanTold (Err (Node told)) session = IsTold told session
+IsLoanTold other session = Unit {0}
 
 -- such calls follow those of before
 abbrev pub HasAsked : Request → Tried → List Entry → List Entry → Type 0

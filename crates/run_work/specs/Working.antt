@@ -1,47 +1,61 @@
 -- What a worker keeps, and what it has done.
-use Rattle.std.specs.Prelude.{◌≡◌, ℕ, ◌+◌, ◌*◌, ◌≤◌, List, All, length, get_or, [], ◌<◌, Option, Some, None}
+use Rattle.std.specs.Prelude.{◌≡◌, ℕ, ◌+◌, ◌*◌, ◌≤◌, Bool, false, List, All, length, get_or, [], ◌<◌, Option, Some, None}
 use Rattle.tact_base.specs.Setup.{IsSetup}
 use Rattle.run_history.specs.Seats.{DeskView}
 use Rattle.replica_lock.specs.Allowances.{AllowanceView}
-use Rattle.replica_lock.specs.Sessions.{IsSessionOf, NodeView, SessionView, own_calls}
-use Rattle.locked_replica.specs.declared.fault.NodeFault.{NodeFault}
+use Rattle.replica_lock.specs.Sessions.{IsAtNode, IsSessionOf, NodeView, SessionView, own_calls}
+use Rattle.steady_node.specs.Endings.{IsCause}
+use Rattle.steady_node.specs.Going.{IsUnmarked}
+use Rattle.steady_node.specs.declared.ending.Ending.{Ending}
 use Rattle.work_load.specs.Attempts.{Attempts, Begun}
 use Rattle.work_load.specs.Ranges.{IsItemOf}
 use Rattle.work_load.specs.declared.plan.Client.{Client}
 use Rattle.run_work.specs.Holding.{Holds}
 use Rattle.run_work.specs.Serving.{IsClientServed}
 use Rattle.run_work.specs.Sites.{SitesView}
-use Rattle.run_work.specs.Stops.{IsStopSeen}
 
--- its node, its client, the session of the client and what this holds by conit, and the fault that it ended with, if any
+-- its node, its client, the session of the client and what this holds by conit, and why it ended, if it did before its last
+-- item
 pub record WorkerView : Type 0 where
   pub node : NodeView
   pub client : Client
   pub session : SessionView
   pub allowances : List AllowanceView
-  pub end : Option NodeFault
+  pub end : Option Ending
 
 -- A worker's node is one of the desk's replicas, and that of its client, whose items are in range there. The session is of
--- the node and the client, and the allowances are what the client holds after its calls.
+-- the client, and at the node.
 pub record IsWorker (desk : DeskView) (worker : WorkerView) : Type 0 where
   pub sound : IsSetup desk.setup
   pub desk_is : worker.node.desk ≡ desk
   pub among : worker.node.replica < desk.setup.replicas
   pub replica : worker.node.replica ≡ worker.client.replica
   pub items : All (IsItemOf desk.setup.replicas desk.setup.conits worker.client.replica) worker.client.items
-  pub session : IsSessionOf worker.node worker.session
+  pub at : IsAtNode worker.node worker.session
   pub number : worker.session.client ≡ worker.client.client
+
+-- a worker may do its next item: its session isn't in doubt, and the allowances are what the client holds after its calls
+pub record IsReady (worker : WorkerView) : Type 0 where
+  pub session : IsSessionOf worker.node worker.session
   pub held : Holds worker.node (own_calls worker.session) worker.allowances
 
--- what a client's session has seen where all items were done, or where its worker ended with a fault, at most in the midst
--- of an item
-abbrev pub HasEnded : ℕ → Client → SessionView → Option NodeFault → Type 0
-HasEnded tries client session None = Attempts tries client.items (own_calls session)
-HasEnded tries client session (Some fault) = Begun tries client.items (own_calls session) × IsStopSeen session fault
+-- why a worker ends; and why it does where no call is lost
+abbrev pub IsEnding : Bool → SessionView → Ending → Type 0
+IsEnding tells session ending = IsCause tells session ending.fault × (ending.lost ≡ false → session.doubt ≡ false)
 
--- of so many items and each call at most 24 entries were made
+abbrev pub IsKeptEnd : Bool → SessionView → Ending → Type 0
+IsKeptEnd tells session ending = IsCause tells session ending.fault × (ending.lost ≡ false)
+
+-- what a client's session has seen where all items were done, or where its worker ended before, at most in the midst of an
+-- item, if no call is lost
+abbrev pub HasLeftOff : Bool → ℕ → Client → SessionView → Option Ending → Type 0
+HasLeftOff tells tries client session None = (session.doubt ≡ false) × Attempts tries client.items (own_calls session)
+HasLeftOff tells tries client session (Some ending) =
+    IsEnding tells session ending × (ending.lost ≡ false → Begun tries client.items (own_calls session))
+
+-- of so many items and each call at most 24 entries were made, while the session is unmarked
 abbrev pub IsBusyFor : ℕ → SessionView → Type 0
-IsBusyFor items session = session.made ≤ 24 * (items + length (own_calls session))
+IsBusyFor items session = IsUnmarked session → session.made ≤ 24 * (items + length (own_calls session))
 
 -- a worker at its node among sites, before its first item
 pub record IsFresh (sites : SitesView) (worker : WorkerView) : Type 0 where
@@ -52,11 +66,11 @@ pub record IsFresh (sites : SitesView) (worker : WorkerView) : Type 0 where
   pub end : worker.end ≡ None
 
 -- and after its last
-pub record HasWorked (sites : SitesView) (tries : ℕ) (worker : WorkerView) : Type 0 where
+pub record HasWorked (tells : Bool) (sites : SitesView) (tries : ℕ) (worker : WorkerView) : Type 0 where
   pub node : (none : NodeView) → worker.node ≡ get_or sites.nodes worker.client.replica none
   pub replica : worker.client.replica < length sites.nodes
-  pub session : IsSessionOf worker.node worker.session
+  pub at : IsAtNode worker.node worker.session
   pub number : worker.session.client ≡ worker.client.client
-  pub ended : HasEnded tries worker.client worker.session worker.end
+  pub ended : HasLeftOff tells tries worker.client worker.session worker.end
   pub busy : IsBusyFor (length worker.client.items) worker.session
-  pub served : worker.end ≡ None → IsClientServed worker.node.desk.setup worker.client worker.session.seen
+  pub served : worker.end ≡ None → IsUnmarked worker.session → IsClientServed worker.node.desk.setup worker.client worker.session.seen

@@ -1,10 +1,10 @@
 //! How a run ends: its inboxes, its nodes, and the history of all that was drawn.
-ghost use Rattle.std.specs.Prelude.{◌≡◌, ◌<◌, IfOk, List, ℕ, get_or, length, map};
+ghost use Rattle.std.specs.Prelude.{◌≡◌, ◌<◌, IfOk, IsTrue, List, OnOk, ℕ, get_or, length, map};
 ghost use Rattle.run_history.specs.Seats.{DeskView, NoteView};
 ghost use Rattle.replica_lock.specs.Sessions.{NodeView};
 ghost use Rattle.postbox.specs.Posts.{PostboxView};
 ghost use Rattle.work_load.specs.declared.plan.Client.{Client};
-ghost use Rattle.run_work.specs.Ends.{AreApart, AreBusy, AreDrawn, AreFew, AreKeys, AreWhole};
+ghost use Rattle.run_work.specs.Ends.{AreApart, AreBusy, AreCertain, AreDrawn, AreFaultless, AreFew, AreKeys, AreUnmarked, AreWhole, HaveDrawn};
 ghost use Rattle.run_work.specs.Sites.{AreInboxes, IsInboxAt, IsNodeAt};
 
 use crate::seat::End;
@@ -16,7 +16,7 @@ use run_model::Entry;
 use std::alloc::Global;
 use std::sync::Wait;
 use tact_base::{NoMemory, RoomyList};
-use tact_io::{Gate, SureJournal};
+use tact_io::{Gate, Journal};
 
 /// By replica, the clerks of a run and the entries that they drew, with their ticks.
 #[derive(Drop)]
@@ -49,10 +49,10 @@ pub(crate) fn end_inboxes<R: Wait>(
 }
 
 /// Ends the nodes, each with its roster and the sessions of its clients. `NoMemory` is the only error.
-pub(crate) fn finish_all<R: Wait, G: Gate>(
+pub(crate) fn finish_all<R: Wait, J: Journal + Drop, G: Gate>(
     rt: &R,
     alloc: Global,
-    nodes: Vec<Node<'_, SureJournal, G>>,
+    nodes: Vec<Node<'_, J, G>>,
     ends: Vec<End>,
 ) -> Result<Drawn, NoMemory>
     requires ends { (clients : List Client) × (notes : List NoteView) × AreWhole clients notes nodes.items ends.items }
@@ -60,8 +60,10 @@ pub(crate) fn finish_all<R: Wait, G: Gate>(
         → (length nodes.entry.items ≡ desk.setup.replicas)
         → ((replica : ℕ) (none : NodeView) → replica < length nodes.entry.items → IsNodeAt desk replica (get_or nodes.entry.items replica none))
         → AreWhole clients notes nodes.entry.items ends.items
-        → IfOk result (AreDrawn clients notes desk) }
-    ensures few { (clients : List Client) (extra : ℕ) → AreBusy clients extra ends.items → AreApart ends.items
+        → IfOk result (λ drawn. AreDrawn desk drawn × (AreCertain ends.items → HaveDrawn clients notes drawn)) }
+    ensures unmarked { ((journal : J) → J.faults journal ≡ 0) → IsTrue J.tells → OnOk result (AreUnmarked ends.items) }
+    ensures marked { ((journal : J) → J.faults journal ≡ 0) → OnOk result (AreFaultless ends.items) }
+    ensures few { (clients : List Client) (extra : ℕ) → AreUnmarked ends.items → AreCertain ends.items → AreBusy clients extra ends.items → AreApart ends.items
         → IfOk result (λ drawn. AreFew clients extra drawn.clerks.items) }
 {
     let mut drawn = Drawn {

@@ -1,26 +1,26 @@
 //! What a replica does on behalf of its least client, when its workers have ended.
-ghost use Rattle.std.specs.Prelude.{◌≡◌, ◌≢◌, ◌<◌, ◌≤◌, ◌+◌, IfErr, IfOk, List, OnOk, length, map};
+ghost use Rattle.std.specs.Prelude.{◌≡◌, ◌≢◌, ◌<◌, ◌≤◌, ◌+◌, Bool, IfErr, IfOk, IfSome, List, None, OnOk, length, map};
 ghost use Rattle.run_model.specs.Histories.{IsPrefix};
 ghost use Rattle.run_model.specs.declared.entry.Entry.{Entry};
 ghost use Rattle.replica_lock.specs.Sessions.{IsSessionOf};
 ghost use Rattle.postbox.specs.Posts.{IsFor};
-ghost use Rattle.run_work.specs.Ends.{IsStop, made_by};
+ghost use Rattle.run_work.specs.Ends.{IsFaultlessEnd, IsKeptStop, IsUnmarkedEnd, made_by};
 ghost use Rattle.run_work.specs.Rounds.{HasSeen, HasSeenSending, HasSeenTaking, IsLead};
 ghost use Rattle.run_work.specs.Settling.{HasGoneOn, HasSeated, IsEndOf};
-ghost use Rattle.run_work.specs.Stops.{IsStopSeen};
+ghost use Rattle.run_work.specs.Working.{IsKeptEnd};
 
 use crate::leaving::Stop;
 use crate::seat::{End, session_of};
-use crate::worker::moment;
-use replica_lock::{Node, NodeFault, Parcel, Session, TakeFault};
+use replica_lock::{Node, Parcel, Session};
 use run_history::Note;
 use std::sync::Wait;
+use steady_node::{Ending, mend, moment, no_memory, take};
 use tact_base::NoMemory;
-use tact_io::{Clock, Gate, SureJournal};
+use tact_io::{Clock, Gate, Journal};
 
 impl End {
     /// A session of client 0 where there is none. `NoMemory` is the only error.
-    pub(crate) fn seat<G: Gate>(&mut self, node: &Node<'_, SureJournal, G>) -> Result<(), NoMemory>
+    pub(crate) fn seat<J: Journal, G: Gate>(&mut self, node: &Node<'_, J, G>) -> Result<(), NoMemory>
         requires end { IsEndOf node.now self.old }
         requires whole { map (λ session. session.client) self.old.sessions.items ≡ self.old.roster.clients }
         ensures end { IsEndOf node.now self.new }
@@ -47,63 +47,67 @@ impl End {
         least
     }
 
-    /// Sends to another replica.
-    pub(crate) fn send<R: Wait, C: Clock, G: Gate>(
+    /// Sends to another replica; nothing is sent where the journal failed or the node was halted, and it is begun anew.
+    pub(crate) fn send<R: Wait, C: Clock, J: Journal, G: Gate>(
         &mut self,
         rt: &R,
         clock: &C,
-        node: &Node<'_, SureJournal, G>,
+        node: &Node<'_, J, G>,
         to: u32,
-    ) -> Result<Parcel, Stop>
+    ) -> Result<Option<Parcel>, Stop>
         requires end { IsEndOf node.now self.old }
         requires ready { 0 < length self.old.sessions.items }
         requires to { to < node.now.desk.setup.replicas }
         requires other { to ≢ node.now.replica }
         ensures on { HasGoneOn self.old self.new }
-        ensures made { made_by self.new ≤ made_by self.old + 1 }
-        ensures parcel { IfOk result (IsFor node.now.desk.table to) }
-        ensures sent { IfOk result (λ parcel. (front : List Entry) → HasSeen self.old front
-            → HasSeenSending (HasSeen self.new) front node.now.replica to parcel.message) }
-        ensures stop { IfErr result (IsStop node.now.desk) }
+        ensures made { IsUnmarkedEnd self.new → made_by self.new ≤ made_by self.old + 1 }
+        ensures parcel { IfOk result (λ sent. IfSome sent (IsFor node.now.desk.table to)) }
+        ensures none { IfOk result (λ sent. sent ≡ None → IsUnmarkedEnd self.new → ⊥) }
+        ensures sent { IfOk result (λ sent. IfSome sent (λ parcel. (front : List Entry) → HasSeen self.old front
+            → HasSeenSending (HasSeen self.new) front node.now.replica to parcel.message)) }
+        ensures stop { IfErr result (IsKeptStop J.tells node.now.desk (IsFaultlessEnd self.new)) }
     {
         let lead = self.lead();
         let session = &mut self.sessions[lead];
-        match node.send(rt, session, moment(clock), to) {
-            Ok(parcel) => Ok(parcel),
-            Err(fault) => Err(stop(node, session, fault)),
+        let answer = match node.send(rt, session, moment(clock), to) {
+            Ok(parcel) => return Ok(Some(parcel)),
+            Err(fault) => mend(rt, clock, node, session, fault),
+        };
+        match answer {
+            Ok(()) => Ok(None),
+            Err(ending) => Err(stop(node, session, ending)),
         }
     }
 
-    /// Takes a parcel.
-    pub(crate) fn take<R: Wait, C: Clock, G: Gate>(
+    /// Takes a parcel, again where the journal failed or the node was halted, which is begun anew.
+    pub(crate) fn take<R: Wait, C: Clock, J: Journal, G: Gate>(
         &mut self,
         rt: &R,
         clock: &C,
-        node: &Node<'_, SureJournal, G>,
+        node: &Node<'_, J, G>,
         parcel: Parcel,
     ) -> Result<(), Stop>
         requires end { IsEndOf node.now self.old }
         requires ready { 0 < length self.old.sessions.items }
         requires parcel { IsFor node.now.desk.table node.now.replica parcel }
         ensures on { HasGoneOn self.old self.new }
-        ensures made { made_by self.new ≤ made_by self.old + 1 }
+        ensures made { IsUnmarkedEnd self.new → made_by self.new ≤ made_by self.old + 1 }
         ensures taken { OnOk result (HasSeenTaking (HasSeen self.new) node.now.replica parcel.message) }
-        ensures stop { IfErr result (IsStop node.now.desk) }
+        ensures stop { IfErr result (IsKeptStop J.tells node.now.desk (IsFaultlessEnd self.new)) }
     {
         let lead = self.lead();
         let session = &mut self.sessions[lead];
-        let Err(refused) = node.take(rt, session, moment(clock), parcel) else {
-            return Ok(());
-        };
-        let TakeFault { fault, parcel: _ } = refused;
-        Err(stop(node, session, fault))
+        match take(rt, clock, node, session, parcel) {
+            Ok(()) => Ok(()),
+            Err(ending) => Err(stop(node, session, ending)),
+        }
     }
 
     /// Hears what a note has seen.
-    pub(crate) fn hear<R: Wait, G: Gate>(
+    pub(crate) fn hear<R: Wait, J: Journal, G: Gate>(
         &mut self,
         rt: &R,
-        node: &Node<'_, SureJournal, G>,
+        node: &Node<'_, J, G>,
         note: Note,
     )
         requires end { IsEndOf node.now self.old }
@@ -118,7 +122,7 @@ impl End {
     }
 
     /// A note of what the session has seen.
-    pub(crate) fn note<G: Gate>(&mut self, node: &Node<'_, SureJournal, G>) -> Note
+    pub(crate) fn note<J: Journal, G: Gate>(&mut self, node: &Node<'_, J, G>) -> Note
         requires end { IsEndOf node.now self.old }
         requires ready { 0 < length self.old.sessions.items }
         ensures on { HasGoneOn self.old self.new }
@@ -131,29 +135,32 @@ impl End {
     }
 
     /// That there was no memory for the replica.
-    pub(crate) fn no_memory<G: Gate>(&mut self, node: &Node<'_, SureJournal, G>) -> Stop
+    pub(crate) fn no_memory<J: Journal, G: Gate>(&mut self, node: &Node<'_, J, G>) -> Stop
         requires end { IsEndOf node.now self.old }
         requires ready { 0 < length self.old.sessions.items }
         ensures on { HasGoneOn self.old self.new }
         ensures made { made_by self.new ≤ made_by self.old }
-        ensures stop { IsStop node.now.desk result }
+        ensures stop { (tells : Bool) → IsKeptStop tells node.now.desk (IsFaultlessEnd self.new) result }
     {
         let lead = self.lead();
-        stop(node, &mut self.sessions[lead], NodeFault::NoMemory)
+        stop(node, &mut self.sessions[lead], no_memory())
     }
 }
 
 // Where a session's replica stopped, and what the session has seen.
-fn stop<G: Gate>(node: &Node<'_, SureJournal, G>, session: &mut Session, fault: NodeFault) -> Stop
+fn stop<J: Journal, G: Gate>(
+    node: &Node<'_, J, G>,
+    session: &mut Session,
+    ending: Ending,
+) -> Stop
     requires session { IsSessionOf node.now session.old }
-    requires fault { IsStopSeen session.old fault }
     ensures session { session.new ≡ session.old }
-    ensures stop { IsStop node.now.desk result }
+    ensures stop { (tells : Bool) → IsKeptEnd tells session.old ending → IsKeptStop tells node.now.desk (session.old.faults ≡ 0) result }
 {
     Stop {
         replica: session.replica(),
         client: session.client(),
-        fault,
+        ending,
         note: node.note(session),
     }
 }

@@ -6,11 +6,11 @@ ghost use Rattle.run_history.specs.Seats.{fresh_clerks, NoteView};
 ghost use Rattle.work_load.specs.Attempts.{settling as settled_most};
 ghost use Rattle.work_load.specs.Workloads.{IsWorkload};
 ghost use Rattle.work_load.specs.declared.plan.Client.{Client};
-ghost use Rattle.run_work.specs.Ends.{AreEnds, AreWhole, HaveEnded, HaveServed, IsStop, AreBusy};
+ghost use Rattle.run_work.specs.Ends.{AreBusy, AreCertain, AreEnds, AreFaultless, AreUnmarked, AreWhole, HaveEnded, HaveServed, IsKept, IsStop};
 ghost use Rattle.run_work.specs.Finished.{HasFinished, IsFaultOf};
 ghost use Rattle.run_work.specs.Runs.{IsDoneRun, IsStoppedRun};
-ghost use Rattle.run_work.specs.Settling.{AreSettled, HaveMet};
-ghost use Rattle.run_work.specs.Stops.{IsStopBy};
+ghost use Rattle.run_work.specs.Settling.{AreSettled, HaveMet, IsSettling};
+ghost use Rattle.run_work.specs.Stops.{IsSureStop};
 ghost use Rattle.run_work.specs.Working.{HasWorked, IsFresh};
 
 use crate::closing::{Drawn, end_inboxes, finish_all};
@@ -20,7 +20,8 @@ use crate::seat::{End, Opened, open, seat_all, stand};
 use crate::settling::Settling;
 use crate::site::Sites;
 use crate::worker::Worker;
-use replica_lock::NodeFault;
+use link_faults::Inbox;
+use replica_lock::{Node, Parcel, RestartFault};
 use run_history::{Clerk, Desk, History, Note};
 use run_model::Entry;
 use std::alloc::Global;
@@ -29,7 +30,7 @@ use std::sync::Wait;
 use std::thread;
 use std::thread::Threads;
 use tact_base::NoMemory;
-use tact_io::{Clock, Gate};
+use tact_io::{Clock, Gate, Journal, SureJournal};
 use work_load::Plan;
 
 /// A run that has ended: its history, and the entries of this in order of ticks.
@@ -86,6 +87,24 @@ impl From<NoMemory> for RunFault {
     }
 }
 
+// The replicas of a run when its workers have ended, with where one stopped.
+#[derive(Drop)]
+struct Unsettled<'d, 'g, J: Journal, G: Gate> {
+    desk: &'d Desk,
+    nodes: Vec<Node<'d, J, &'g G>>,
+    ends: Vec<End>,
+    inboxes: Vec<Inbox<Parcel>>,
+    stop: Option<Stop>,
+}
+
+// And after the rounds that settle them.
+#[derive(Drop)]
+struct Settled<'d, 'g, J: Journal, G: Gate> {
+    nodes: Vec<Node<'d, J, &'g G>>,
+    ends: Vec<End>,
+    stop: Option<Stop>,
+}
+
 // What is left of a run when its nodes have ended.
 #[derive(Drop)]
 struct Finished {
@@ -117,21 +136,23 @@ pub fn run_plan<R: Threads + Wait + Sync, C: Clock + Sync, G: Gate + Sync>(
 
 // A run, or why it stopped.
 fn end_run(run: Run, stop: Option<Stop>) -> Result<Run, RunFault>
-    requires stop { IfSome stop (λ stop. (part : List Entry) × IsStopBy stop.fault part) }
+    requires stop { IfSome stop (λ stop. (part : List Entry) × IsSureStop stop.ending.fault part) }
     ensures done { IfOk result (λ ended. (ended ≡ run) × (stop ≡ None)) }
     ensures stopped { IfErr result (IsFaultOf run stop) }
 {
     match stop {
         None => Ok(run),
-        Some(Stop { replica, fault, .. }) => match fault {
-            NodeFault::Full { count, clock } => Err(RunFault::Full {
+        Some(Stop {
+            replica, ending, ..
+        }) => match ending.fault {
+            RestartFault::Full { count, clock } => Err(RunFault::Full {
                 replica,
                 count,
                 clock,
                 run,
             }),
-            NodeFault::NoMemory => Err(RunFault::NoMemory),
-            NodeFault::Halted | NodeFault::JournalFault => unreachable!(),
+            RestartFault::NoMemory => Err(RunFault::NoMemory),
+            _ => unreachable!(),
         },
     }
 }
@@ -153,11 +174,12 @@ fn run_on<R: Threads + Wait + Sync, C: Clock + Sync, G: Gate + Sync>(
     requires clerks { clerks.items ≡ fresh_clerks desk.now }
     ensures { IfOk result (HasFinished plan.now tries desk.now) }
 {
+    let journals = sure_journals(alloc, plan.config().replicas())?;
     let Opened {
         sites,
         mut ends,
         keys,
-    } = open(alloc, desk, plan, clerks, gate)?;
+    } = open(alloc, desk, plan, clerks, journals, gate)?;
     let Left { notes, stop } = work_all(
         rt,
         alloc,
@@ -171,48 +193,77 @@ fn run_on<R: Threads + Wait + Sync, C: Clock + Sync, G: Gate + Sync>(
     stand(&sites);
     let Sites { nodes, inboxes, .. } = sites;
     let inboxes = end_inboxes(rt, alloc, inboxes, keys)?;
+    let settling = Unsettled {
+        desk,
+        nodes,
+        ends,
+        inboxes,
+        stop,
+    };
+    let Settled {
+        nodes,
+        ends,
+        mut stop,
+    } = settle_after(rt, clock, settling, plan.settle(), &mut note)?;
+    let mut drawn = finish_all(rt, alloc, nodes, ends)?;
+    learn_first(&mut drawn.clerks[0], desk, note, &mut stop);
+    Ok(Finished { drawn, stop })
+}
+
+// Journals that never fail, one for each replica.
+fn sure_journals(alloc: Global, count: u32) -> Result<Vec<SureJournal>, NoMemory>
+    ensures count { IfOk result (λ journals. length journals.items ≡ count) }
+    ensures empty { IfOk result (λ journals. All (λ journal. journal.pieces ≡ []) journals.items) }
+{
+    let mut journals = Vec::new(alloc);
+    for _replica in 0..count {
+        journals.push(SureJournal::new(alloc))?;
+    }
+    Ok(journals)
+}
+
+// Settles the replicas by so many rounds, where the workers did not stop.
+fn settle_after<'d, 'g, R: Wait, C: Clock, J: Journal + Drop, G: Gate>(
+    rt: &R,
+    clock: &C,
+    unsettled: Unsettled<'d, 'g, J, G>,
+    rounds: u64,
+    note: &mut Note,
+) -> Result<Settled<'d, 'g, J, G>, NoMemory>
+    requires whole { (clients : List Client) × (noted : List NoteView) × AreWhole clients noted unsettled.nodes.items unsettled.ends.items }
+    requires settling { IsSettling (record { desk = unsettled.desk.now; nodes = unsettled.nodes.items; ends = unsettled.ends.items; inboxes = unsettled.inboxes.items }) }
+    requires certain { IsKept unsettled.stop → AreCertain unsettled.ends.items }
+    requires note { note.old.table ≡ unsettled.desk.now.table }
+    requires stop { IfSome unsettled.stop (IsStop J.tells unsettled.desk.now (AreFaultless unsettled.ends.items)) }
+    ensures note { (note.new.table ≡ note.old.table) × IsPrefix note.old.seen note.new.seen }
+    ensures met { IfOk result (λ settled. settled.stop ≡ None → rounds ≢ 0 → AreUnmarked settled.ends.items → HaveMet (record { desk = unsettled.entry.desk.now; nodes = unsettled.entry.nodes.items; ends = unsettled.entry.ends.items; inboxes = unsettled.entry.inboxes.items }) note.old.seen note.new.seen) }
+    ensures settled { IfOk result (λ settled. AreSettled (record { desk = unsettled.entry.desk.now; nodes = unsettled.entry.nodes.items; ends = unsettled.entry.ends.items; inboxes = unsettled.entry.inboxes.items }) (record { desk = unsettled.entry.desk.now; nodes = settled.nodes.items; ends = settled.ends.items; inboxes = unsettled.entry.inboxes.items })) }
+    ensures stop { IfOk result (λ settled. IfSome settled.stop (IsStop J.tells unsettled.entry.desk.now (AreFaultless settled.ends.items))) }
+    ensures kept { IfOk result (λ settled. IsKept settled.stop → AreCertain settled.ends.items) }
+    ensures first { IfOk result (λ settled. settled.stop ≡ None → unsettled.entry.stop ≡ None) }
+    ensures ended { (tries : ℕ) (clients : List Client) (noted : List NoteView)
+        → HaveEnded tries clients noted unsettled.entry.stop → IfOk result (λ settled. HaveEnded tries clients noted settled.stop) }
+    ensures busy { (clients : List Client) → AreBusy clients 0 unsettled.entry.ends.items → IfOk result (λ settled. AreBusy clients (settled_most rounds) settled.ends.items) }
+{
+    let Unsettled {
+        desk,
+        nodes,
+        ends,
+        inboxes,
+        stop,
+    } = unsettled;
+    if stop.is_some() || rounds == 0 {
+        return Ok(Settled { nodes, ends, stop });
+    }
     let mut settling = Settling {
         desk,
         nodes,
         ends,
         inboxes,
     };
-    let mut stop = settle_after(rt, clock, &mut settling, plan.settle(), &mut note, stop)?;
+    let stop = settling.settle(rt, clock, rounds, note)?;
     let Settling { nodes, ends, .. } = settling;
-    let mut drawn = finish_all(rt, alloc, nodes, ends)?;
-    learn_first(&mut drawn.clerks[0], desk, note, &mut stop);
-    Ok(Finished { drawn, stop })
-}
-
-// Settles the replicas by so many rounds, where the workers did not stop.
-#[tactic(auto, using(crate::proofs::Settled::are_settled_same))]
-fn settle_after<R: Wait, C: Clock, G: Gate>(
-    rt: &R,
-    clock: &C,
-    settling: &mut Settling<'_, '_, G>,
-    rounds: u64,
-    note: &mut Note,
-    stop: Option<Stop>,
-) -> Result<Option<Stop>, NoMemory>
-    requires whole { (clients : List Client) × (noted : List NoteView) × AreWhole clients noted settling.old.nodes settling.old.ends }
-    requires note { note.old.table ≡ settling.old.desk.table }
-    requires stop { IfSome stop (IsStop settling.old.desk) }
-    ensures note { (note.new.table ≡ note.old.table) × IsPrefix note.old.seen note.new.seen }
-    ensures met { IfOk result (λ after. after ≡ None → rounds ≢ 0 → HaveMet settling.old note.old.seen note.new.seen) }
-    ensures settled { OnOk result (AreSettled settling.old settling.new) }
-    ensures stop { IfOk result (λ after. IfSome after (IsStop settling.old.desk)) }
-    ensures first { IfOk result (λ after. after ≡ None → stop ≡ None) }
-    ensures ended { (tries : ℕ) (clients : List Client) (noted : List NoteView)
-        → HaveEnded tries clients noted stop → IfOk result (HaveEnded tries clients noted) }
-    ensures busy { (clients : List Client) → AreBusy clients 0 settling.old.ends → OnOk result (AreBusy clients (settled_most rounds) settling.new.ends) }
-{
-    if let Some(stop) = stop {
-        return Ok(Some(stop));
-    }
-    if rounds == 0 {
-        return Ok(None);
-    }
-    settling.settle(rt, clock, rounds, note)
+    Ok(Settled { nodes, ends, stop })
 }
 
 // A note of what all notes have seen, of which there is one at least.
@@ -246,7 +297,7 @@ fn meet_all(note: &mut Note, desk: &Desk, others: Vec<Note>)
 fn learn_first(clerk: &mut Clerk, desk: &Desk, note: Note, stop: &mut Option<Stop>)
     requires clerk { clerk.old.table ≡ desk.now.table }
     requires note { note.table ≡ desk.now.table }
-    requires stop { IfSome stop.old (IsStop desk.now) }
+    requires stop { IfSome stop.old (λ stop. stop.note.table ≡ desk.now.table) }
     ensures clerk { clerk.new ≡ record clerk.old { seen = clerk.new.seen } }
     ensures note { IsPrefix note.seen clerk.new.seen }
     ensures stop { stop.new ≡ stop.old }
@@ -259,10 +310,10 @@ fn learn_first(clerk: &mut Clerk, desk: &Desk, note: Note, stop: &mut Option<Sto
 }
 
 // Each client's worker does its items, in a thread of its own, and gives its session back.
-fn work_all<R: Threads + Wait + Sync, C: Clock + Sync, G: Gate + Sync>(
+fn work_all<R: Threads + Wait + Sync, C: Clock + Sync, J: Journal + Drop + Send, G: Gate + Sync>(
     rt: &R,
     alloc: Global,
-    sites: &Sites<'_, '_, G>,
+    sites: &Sites<'_, '_, J, G>,
     ends: &mut [End],
     plan: &Plan,
     tries: u64,
@@ -273,9 +324,10 @@ fn work_all<R: Threads + Wait + Sync, C: Clock + Sync, G: Gate + Sync>(
     requires ends { AreEnds [] [] [] sites.now ends.old }
     ensures ends { IfOk result (λ left. AreEnds plan.now.clients plan.now.clients left.notes.items sites.now ends.new) }
     ensures ended { IfOk result (λ left. HaveEnded tries plan.now.clients left.notes.items left.stop) }
-    ensures served { IfOk result (λ left. HaveServed sites.now.desk.setup plan.now.clients left.notes.items left.stop) }
+    ensures served { IfOk result (λ left. AreUnmarked ends.new → HaveServed sites.now.desk.setup plan.now.clients left.notes.items left.stop) }
+    ensures certain { IfOk result (λ left. IsKept left.stop → AreCertain ends.new) }
     ensures notes { IfOk result (λ left. All (λ note. note.table ≡ sites.now.desk.table) left.notes.items) }
-    ensures stop { IfOk result (λ left. IfSome left.stop (IsStop sites.now.desk)) }
+    ensures stop { IfOk result (λ left. IfSome left.stop (IsStop J.tells sites.now.desk (AreFaultless ends.new))) }
     ensures busy { OnOk result (AreBusy plan.now.clients 0 ends.new) }
 {
     let mut workers = seat_all(alloc, sites, ends, plan.clients())?;
@@ -284,17 +336,17 @@ fn work_all<R: Threads + Wait + Sync, C: Clock + Sync, G: Gate + Sync>(
 }
 
 // Each worker does its items, in a thread of its own.
-fn work_each<R: Threads + Wait + Sync, C: Clock + Sync, G: Gate + Sync>(
+fn work_each<R: Threads + Wait + Sync, C: Clock + Sync, J: Journal + Drop + Send, G: Gate + Sync>(
     rt: &R,
-    sites: &Sites<'_, '_, G>,
+    sites: &Sites<'_, '_, J, G>,
     tries: u64,
     clock: &C,
-    workers: &mut [Worker<'_, '_, '_, G>],
+    workers: &mut [Worker<'_, '_, '_, J, G>],
 )
     requires tries { 0 < tries }
     requires some { 0 < length workers.old }
     requires fresh { All (IsFresh sites.now) workers.old }
-    ensures worked { All (HasWorked sites.now tries) workers.new }
+    ensures worked { All (HasWorked J.tells sites.now tries) workers.new }
     ensures clients { map (λ worker. worker.client) workers.new ≡ map (λ worker. worker.client) workers.old }
 {
     let threads = workers.len();

@@ -1,5 +1,5 @@
 //! How a run begins: its nodes and inboxes, and a worker for each client.
-ghost use Rattle.std.specs.Prelude.{◌≡◌, ◌<◌, ◌++◌, ◌∷◌, [], map, All, Contains, IfOk, OnErr, OnOk, get_or};
+ghost use Rattle.std.specs.Prelude.{◌≡◌, ◌<◌, ◌++◌, ◌∷◌, [], map, All, Contains, IfOk, IsTrue, OnErr, OnOk, get_or, length};
 ghost use Rattle.tact_base.specs.declared.limits.TheConstants.{CLIENTS};
 ghost use Rattle.run_history.specs.Seats.{fresh_clerks};
 ghost use Rattle.replica_lock.specs.Rosters.{IsRosterOf};
@@ -18,7 +18,7 @@ use replica_lock::{Allowance, Node, Roster, Session, SessionFault};
 use run_history::{Clerk, Desk};
 use std::alloc::Global;
 use tact_base::NoMemory;
-use tact_io::{Gate, SureJournal};
+use tact_io::{Gate, Journal};
 use work_load::{Client, Plan};
 
 /// What ends a node: its roster, and the sessions of its clients when they come back.
@@ -30,22 +30,26 @@ pub(crate) struct End {
 
 /// What a run begins with: the sites of its replicas, and by replica what ends the node and what ends the inbox.
 #[derive(Drop)]
-pub(crate) struct Opened<'d, 'g, G: Gate> {
-    pub(crate) sites: Sites<'d, 'g, G>,
+pub(crate) struct Opened<'d, 'g, J: Journal, G: Gate> {
+    pub(crate) sites: Sites<'d, 'g, J, G>,
     pub(crate) ends: Vec<End>,
     pub(crate) keys: Vec<Key>,
 }
 
-/// The sites of a plan, whose setup the desk is made for, with the desk's clerks. `NoMemory` is the only error.
-pub(crate) fn open<'d, 'g, G: Gate>(
+/// The sites of a plan, whose setup the desk is made for, with the desk's clerks and a journal for each, which has no
+/// piece. `NoMemory` is the only error.
+pub(crate) fn open<'d, 'g, J: Journal + Drop, G: Gate>(
     alloc: Global,
     desk: &'d Desk,
     plan: &Plan,
     clerks: Vec<Clerk>,
+    journals: Vec<J>,
     gate: &'g G,
-) -> Result<Opened<'d, 'g, G>, NoMemory>
+) -> Result<Opened<'d, 'g, J, G>, NoMemory>
     requires setup { desk.now.setup ≡ plan.now.setup }
     requires clerks { clerks.items ≡ fresh_clerks desk.now }
+    requires journals { length journals.items ≡ length clerks.items }
+    requires empty { All (λ journal. IsTrue J.tells → J.pieces journal ≡ []) journals.items }
     ensures desk { IfOk result (λ opened. opened.sites.desk ≡ desk.now) }
     ensures ends { IfOk result (λ opened. AreEnds [] [] [] opened.sites opened.ends.items) }
     ensures plans { IfOk result (λ opened. HavePlans plan.now opened.sites.inboxes) }
@@ -55,11 +59,14 @@ pub(crate) fn open<'d, 'g, G: Gate>(
     let mut inboxes = Vec::new(alloc);
     let mut ends = Vec::new(alloc);
     let mut keys = Vec::new(alloc);
+    let mut journals = journals.into_iter();
     for mut clerk in clerks {
         let replica = clerk.replica();
         let note = clerk.note(desk);
         let (inbox, key) = Postbox::new(alloc, plan.link(replica), note, replica)?;
-        let journal = SureJournal::new(alloc);
+        let Some(journal) = journals.next() else {
+            unreachable!()
+        };
         let Ok((node, roster)) = Node::new(alloc, desk, plan.config(), clerk, journal, gate) else {
             return Err(NoMemory);
         };
@@ -84,12 +91,12 @@ pub(crate) fn open<'d, 'g, G: Gate>(
 }
 
 /// A worker for each client, at its node. `NoMemory` is the only error.
-pub(crate) fn seat_all<'s, 'd, 'g, G: Gate>(
+pub(crate) fn seat_all<'s, 'd, 'g, J: Journal, G: Gate>(
     alloc: Global,
-    sites: &'s Sites<'d, 'g, G>,
+    sites: &'s Sites<'d, 'g, J, G>,
     ends: &mut [End],
     clients: &'s [Client],
-) -> Result<Vec<Worker<'s, 'd, 'g, G>>, NoMemory>
+) -> Result<Vec<Worker<'s, 'd, 'g, J, G>>, NoMemory>
     requires ends { AreEnds [] [] [] sites.now ends.old }
     requires clients { EachAfter (IsClientAfter sites.now.desk.setup.replicas sites.now.desk.setup.conits) [] clients.now }
     ensures ends { OnOk result (AreEnds clients.now [] [] sites.now ends.new) }
@@ -111,19 +118,19 @@ pub(crate) fn seat_all<'s, 'd, 'g, G: Gate>(
 }
 
 // Tells what sites keep, and changes nothing.
-pub(crate) fn stand<G: Gate>(sites: &Sites<'_, '_, G>)
+pub(crate) fn stand<J: Journal, G: Gate>(sites: &Sites<'_, '_, J, G>)
     ensures { AreSites sites.now }
 {
     let _nodes = &sites.nodes;
 }
 
 // The worker of a client that has no session yet.
-fn seat<'s, 'd, 'g, G: Gate>(
+fn seat<'s, 'd, 'g, J: Journal, G: Gate>(
     alloc: Global,
-    sites: &'s Sites<'d, 'g, G>,
+    sites: &'s Sites<'d, 'g, J, G>,
     roster: &mut Roster,
     client: &'s Client,
-) -> Result<Worker<'s, 'd, 'g, G>, NoMemory>
+) -> Result<Worker<'s, 'd, 'g, J, G>, NoMemory>
     requires replica { client.now.replica < sites.now.desk.setup.replicas }
     requires number { client.now.client < CLIENTS }
     requires items { All (IsItemOf sites.now.desk.setup.replicas sites.now.desk.setup.conits client.now.replica) client.now.items }
@@ -147,8 +154,8 @@ fn seat<'s, 'd, 'g, G: Gate>(
 }
 
 // The session of a client that has none yet.
-pub(crate) fn session_of<G: Gate>(
-    node: &Node<'_, SureJournal, G>,
+pub(crate) fn session_of<J: Journal, G: Gate>(
+    node: &Node<'_, J, G>,
     roster: &mut Roster,
     client: u32,
 ) -> Result<Session, NoMemory>
@@ -168,9 +175,9 @@ pub(crate) fn session_of<G: Gate>(
 }
 
 // An allowance of nothing for each conit.
-fn nothing<G: Gate>(
+fn nothing<J: Journal, G: Gate>(
     alloc: Global,
-    node: &Node<'_, SureJournal, G>,
+    node: &Node<'_, J, G>,
     session: &mut Session,
     conits: u32,
 ) -> Result<Vec<Allowance>, NoMemory>

@@ -9,7 +9,7 @@ ghost use Rattle.run_model.specs.declared.entry.Entry.{Entry};
 ghost use Rattle.run_model.specs.declared.entry.Message.{Message};
 ghost use Rattle.run_history.specs.Seats.{NoteView};
 ghost use Rattle.work_load.specs.declared.plan.Client.{Client};
-ghost use Rattle.run_work.specs.Ends.{AreWhole, IsStop};
+ghost use Rattle.run_work.specs.Ends.{AreFaultless, AreUnmarked, AreWhole, IsKeptStop};
 ghost use Rattle.run_work.specs.declared.seat.End.{End};
 ghost use Rattle.run_work.specs.Rounds.{AreEmpty, AreStill, HasMadeOne, HasReached, HasSeenAt, HasSeenSending, HasSeenTaking, HasSentAll, HasSentTo, HasTaken, HaveArrived, HaveCome, HaveSeen, HaveSentAll, lose_at, made_at, waiting_at};
 ghost use Rattle.run_work.specs.Settling.{AreReady, AreSettled, HaveGoneOn, HaveMadeFew, HaveMet, IsSeatedAt};
@@ -22,18 +22,18 @@ use run_history::{Desk, Note};
 use std::marker::Model;
 use std::sync::Wait;
 use tact_base::NoMemory;
-use tact_io::{Clock, Gate, SureJournal};
+use tact_io::{Clock, Gate, Journal};
 
 /// The replicas of a run, by number, when its workers have ended: their nodes, what ends these, and their inboxes.
 #[derive(Drop)]
-pub(crate) struct Settling<'d, 'g, G: Gate> {
+pub(crate) struct Settling<'d, 'g, J: Journal, G: Gate> {
     pub(crate) desk: &'d Desk,
-    pub(crate) nodes: Vec<Node<'d, SureJournal, &'g G>>,
+    pub(crate) nodes: Vec<Node<'d, J, &'g G>>,
     pub(crate) ends: Vec<End>,
     pub(crate) inboxes: Vec<Inbox<Parcel>>,
 }
 
-impl<'d, 'g, G: Gate> Model for Settling<'d, 'g, G> {
+impl<'d, 'g, J: Journal, G: Gate> Model for Settling<'d, 'g, J, G> {
     ghost use Rattle.run_work.specs.Settling.{IsSettling, SettlingView};
 
     ghost Value = { SettlingView };
@@ -43,7 +43,7 @@ impl<'d, 'g, G: Gate> Model for Settling<'d, 'g, G> {
     ghost invariant = { λ s. IsSettling (record { desk = s.desk.now; nodes = s.nodes.items; ends = s.ends.items; inboxes = s.inboxes.items }) };
 }
 
-impl<'d, 'g, G: Gate> Settling<'d, 'g, G> {
+impl<'d, 'g, J: Journal, G: Gate> Settling<'d, 'g, J, G> {
     /// Lets each replica hear what a note has seen, empties the inboxes, and then goes through so many rounds, at least
     /// one. It ends at the first refusal, and tells where. The note then sees what the replicas have seen. Want of memory
     /// for a session is its only error.
@@ -58,10 +58,10 @@ impl<'d, 'g, G: Gate> Settling<'d, 'g, G> {
         requires note { note.old.table ≡ self.old.desk.table }
         requires rounds { 0 < rounds }
         ensures note { (note.new.table ≡ note.old.table) × IsPrefix note.old.seen note.new.seen }
-        ensures met { IfOk result (λ stop. stop ≡ None → HaveMet self.old note.old.seen note.new.seen) }
-        ensures few { OnOk result (HaveMadeFew rounds self.old self.new) }
+        ensures met { IfOk result (λ stop. stop ≡ None → AreUnmarked self.new.ends → HaveMet self.old note.old.seen note.new.seen) }
+        ensures few { OnOk result (AreUnmarked self.new.ends → HaveMadeFew rounds self.old self.new) }
         ensures settled { OnOk result (AreSettled self.old self.new) }
-        ensures stop { IfOk result (λ stop. IfSome stop (IsStop self.old.desk)) }
+        ensures stop { IfOk result (λ stop. IfSome stop (IsKeptStop J.tells self.old.desk (AreFaultless self.new.ends))) }
     {
         self.seat_rest()?;
         self.hear(rt, note);
@@ -159,9 +159,9 @@ impl<'d, 'g, G: Gate> Settling<'d, 'g, G> {
         requires ready { AreReady self.old }
         ensures on { HaveGoneOn self.old self.new }
         ensures ready { AreReady self.new }
-        ensures made { (replica : ℕ) → replica < length self.old.nodes → made_at self.new replica ≤ made_at self.old replica + (1024 + 21 * rounds) }
-        ensures arrived { OnOk result ((front : List Entry) → 0 < rounds → HaveSeen self.old front → HaveArrived front self.new) }
-        ensures stop { IfErr result (IsStop self.old.desk) }
+        ensures made { AreUnmarked self.new.ends → (replica : ℕ) → replica < length self.old.nodes → made_at self.new replica ≤ made_at self.old replica + (1024 + 21 * rounds) }
+        ensures arrived { OnOk result (AreUnmarked self.new.ends → (front : List Entry) → 0 < rounds → HaveSeen self.old front → HaveArrived front self.new) }
+        ensures stop { IfErr result (IsKeptStop J.tells self.old.desk (AreFaultless self.new.ends)) }
     {
         self.take_all(rt, clock)?;
         for _round in 0..rounds {
@@ -176,10 +176,10 @@ impl<'d, 'g, G: Gate> Settling<'d, 'g, G> {
         requires empty { AreEmpty self.old }
         ensures on { HaveGoneOn self.old self.new }
         ensures ready { AreReady self.new }
-        ensures made { (replica : ℕ) → replica < length self.old.nodes → made_at self.new replica ≤ made_at self.old replica + 21 }
+        ensures made { AreUnmarked self.new.ends → (replica : ℕ) → replica < length self.old.nodes → made_at self.new replica ≤ made_at self.old replica + 21 }
         ensures empty { OnOk result (AreEmpty self.new) }
-        ensures arrived { OnOk result ((front : List Entry) → HaveSeen self.old front → HaveArrived front self.new) }
-        ensures stop { IfErr result (IsStop self.old.desk) }
+        ensures arrived { OnOk result (AreUnmarked self.new.ends → (front : List Entry) → HaveSeen self.old front → HaveArrived front self.new) }
+        ensures stop { IfErr result (IsKeptStop J.tells self.old.desk (AreFaultless self.new.ends)) }
     {
         self.send_all(rt, clock)?;
         self.take_all(rt, clock)
@@ -193,9 +193,9 @@ impl<'d, 'g, G: Gate> Settling<'d, 'g, G> {
         ensures on { HaveGoneOn self.old self.new }
         ensures ready { AreReady self.new }
         ensures all { HaveSentAll self.old self.new }
-        ensures reached { OnOk result ((front : List Entry) (from to : ℕ) → HaveSeen self.old front
+        ensures reached { OnOk result (AreUnmarked self.new.ends → (front : List Entry) (from to : ℕ) → HaveSeen self.old front
             → from < length self.old.nodes → to < length self.old.nodes → to ≢ from → HasReached front from to self.new) }
-        ensures stop { IfErr result (IsStop self.old.desk) }
+        ensures stop { IfErr result (IsKeptStop J.tells self.old.desk (AreFaultless self.new.ends)) }
     {
         for from in 0..self.nodes.len() {
             self.send_from(rt, clock, from)?;
@@ -212,9 +212,9 @@ impl<'d, 'g, G: Gate> Settling<'d, 'g, G> {
         ensures on { HaveGoneOn self.old self.new }
         ensures ready { AreReady self.new }
         ensures all { HasSentAll from self.old self.new }
-        ensures reached { OnOk result ((front : List Entry) (to : ℕ) → HasSeenAt self.old from front
+        ensures reached { OnOk result (AreUnmarked self.new.ends → (front : List Entry) (to : ℕ) → HasSeenAt self.old from front
             → to < length self.old.nodes → to ≢ from → HasReached front from to self.new) }
-        ensures stop { IfErr result (IsStop self.old.desk) }
+        ensures stop { IfErr result (IsKeptStop J.tells self.old.desk (AreFaultless self.new.ends)) }
     {
         for to in 0..self.nodes.len() {
             if to != from {
@@ -241,24 +241,26 @@ impl<'d, 'g, G: Gate> Settling<'d, 'g, G> {
         ensures on { HaveGoneOn self.old self.new }
         ensures ready { AreReady self.new }
         ensures sent { HasSentTo from to self.old self.new }
-        ensures reached { OnOk result ((front : List Entry) → HasSeenAt self.old from front → HasReached front from to self.new) }
-        ensures stop { IfErr result (IsStop self.old.desk) }
+        ensures reached { OnOk result (AreUnmarked self.new.ends → (front : List Entry) → HasSeenAt self.old from front → HasReached front from to self.new) }
+        ensures stop { IfErr result (IsKeptStop J.tells self.old.desk (AreFaultless self.new.ends)) }
     {
-        let parcel = self.parcel(rt, clock, from, to)?;
+        let Some(parcel) = self.parcel(rt, clock, from, to)? else {
+            return Ok(());
+        };
         let Ok(()) = self.put(to, parcel) else {
             return Err(self.no_memory(from));
         };
         Ok(())
     }
 
-    // What a replica sends to another.
+    // What a replica sends to another; nothing where its journal failed.
     fn parcel<R: Wait, C: Clock>(
         &mut self,
         rt: &R,
         clock: &C,
         from: usize,
         to: usize,
-    ) -> Result<Parcel, Stop>
+    ) -> Result<Option<Parcel>, Stop>
         requires from { from < length self.old.nodes }
         requires to { to < length self.old.nodes }
         requires other { to ≢ from }
@@ -266,10 +268,11 @@ impl<'d, 'g, G: Gate> Settling<'d, 'g, G> {
         ensures on { HaveGoneOn self.old self.new }
         ensures ready { AreReady self.new }
         ensures made { HasMadeOne from self.old self.new }
-        ensures parcel { IfOk result (IsFor self.old.desk.table to) }
-        ensures sent { IfOk result (λ parcel. (front : List Entry) → HasSeenAt self.old from front
-            → HasSeenSending (HasSeenAt self.new from) front from to parcel.message) }
-        ensures stop { IfErr result (IsStop self.old.desk) }
+        ensures parcel { IfOk result (λ sent. IfSome sent (IsFor self.old.desk.table to)) }
+        ensures none { IfOk result (λ sent. sent ≡ None → AreUnmarked self.new.ends → ⊥) }
+        ensures sent { IfOk result (λ sent. IfSome sent (λ parcel. (front : List Entry) → HasSeenAt self.old from front
+            → HasSeenSending (HasSeenAt self.new from) front from to parcel.message)) }
+        ensures stop { IfErr result (IsKeptStop J.tells self.old.desk (AreFaultless self.new.ends)) }
     {
         self.ends[from].send(rt, clock, &self.nodes[from], to as u32)
     }
@@ -298,7 +301,7 @@ impl<'d, 'g, G: Gate> Settling<'d, 'g, G> {
         ensures on { HaveGoneOn self.old self.new }
         ensures ready { AreReady self.new }
         ensures still { AreStill self.old self.new }
-        ensures stop { IsStop self.old.desk result }
+        ensures stop { IsKeptStop J.tells self.old.desk (AreFaultless self.new.ends) result }
     {
         self.ends[replica].no_memory(&self.nodes[replica])
     }
@@ -309,12 +312,12 @@ impl<'d, 'g, G: Gate> Settling<'d, 'g, G> {
         requires ready { AreReady self.old }
         ensures on { HaveGoneOn self.old self.new }
         ensures ready { AreReady self.new }
-        ensures made { (replica : ℕ) → made_at self.new replica ≤ made_at self.old replica + length (waiting_at self.old replica) }
+        ensures made { AreUnmarked self.new.ends → (replica : ℕ) → made_at self.new replica ≤ made_at self.old replica + length (waiting_at self.old replica) }
         ensures few { (replica : ℕ) → made_at self.new replica ≤ made_at self.old replica + INBOX_MAX }
         ensures empty { OnOk result (AreEmpty self.new) }
         ensures taken { OnOk result ((replica : ℕ) (message : Message) → replica < length self.old.nodes → Contains (waiting_at self.old replica) message
             → HasSeenTaking (HasSeenAt self.new replica) replica message) }
-        ensures stop { IfErr result (IsStop self.old.desk) }
+        ensures stop { IfErr result (IsKeptStop J.tells self.old.desk (AreFaultless self.new.ends)) }
     {
         for replica in 0..self.nodes.len() {
             self.take_waiting(rt, clock, replica)?;
@@ -339,7 +342,7 @@ impl<'d, 'g, G: Gate> Settling<'d, 'g, G> {
         ensures empty { OnOk result (waiting_at self.new replica ≡ []) }
         ensures taken { OnOk result ((message : Message) → Contains (waiting_at self.old replica) message
             → HasSeenTaking (HasSeenAt self.new replica) replica message) }
-        ensures stop { IfErr result (IsStop self.old.desk) }
+        ensures stop { IfErr result (IsKeptStop J.tells self.old.desk (AreFaultless self.new.ends)) }
     {
         for _taken in 0..self.waiting(replica) {
             let Some(parcel) = self.next(replica) else {
@@ -388,7 +391,7 @@ impl<'d, 'g, G: Gate> Settling<'d, 'g, G> {
         ensures ready { AreReady self.new }
         ensures made { HasMadeOne replica self.old self.new }
         ensures taken { OnOk result (HasSeenTaking (HasSeenAt self.new replica) replica parcel.message) }
-        ensures stop { IfErr result (IsStop self.old.desk) }
+        ensures stop { IfErr result (IsKeptStop J.tells self.old.desk (AreFaultless self.new.ends)) }
     {
         self.ends[replica].take(rt, clock, &self.nodes[replica], parcel)
     }

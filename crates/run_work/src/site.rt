@@ -8,18 +8,18 @@ use postbox::Postbox;
 use replica_lock::Node;
 use run_history::Desk;
 use std::marker::Model;
-use tact_io::{Gate, SureJournal};
+use tact_io::{Gate, Journal};
 
 /// The node and the inbox of each replica of a desk, by number.
 #[derive(Drop)]
-pub(crate) struct Sites<'d, 'g, G: Gate> {
+pub(crate) struct Sites<'d, 'g, J: Journal, G: Gate> {
     pub(crate) desk: &'d Desk,
     pub(crate) conits: u32,
-    pub(crate) nodes: Vec<Node<'d, SureJournal, &'g G>>,
+    pub(crate) nodes: Vec<Node<'d, J, &'g G>>,
     pub(crate) inboxes: Vec<Postbox>,
 }
 
-impl<'d, 'g, G: Gate> Model for Sites<'d, 'g, G> {
+impl<'d, 'g, J: Journal, G: Gate> Model for Sites<'d, 'g, J, G> {
     ghost use Rattle.std.specs.Prelude.{◌≡◌};
     ghost use Rattle.run_work.specs.Sites.{AreSites, SitesView};
 
@@ -30,7 +30,7 @@ impl<'d, 'g, G: Gate> Model for Sites<'d, 'g, G> {
     ghost invariant = { λ s. (s.conits ≡ s.desk.now.setup.conits) × AreSites (record { desk = s.desk.now; nodes = s.nodes.items; inboxes = s.inboxes.items }) };
 }
 
-impl<'d, 'g, G: Gate> Sites<'d, 'g, G> {
+impl<'d, 'g, J: Journal, G: Gate> Sites<'d, 'g, J, G> {
     /// The desk of the run.
     pub(crate) fn desk(&self) -> &'d Desk
         ensures { result.now ≡ self.now.desk }
@@ -55,7 +55,7 @@ impl<'d, 'g, G: Gate> Sites<'d, 'g, G> {
     }
 
     /// The node of a replica.
-    pub(crate) fn node(&self, replica: u32) -> &Node<'d, SureJournal, &'g G>
+    pub(crate) fn node(&self, replica: u32) -> &Node<'d, J, &'g G>
         requires { replica < self.now.desk.setup.replicas }
         ensures node { slice_get self.now.nodes replica ≡ Some result.now }
         ensures at { IsNodeAt self.now.desk replica result.now }
