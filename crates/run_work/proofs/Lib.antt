@@ -1,5 +1,6 @@
 pub mod PlacingLemmas
 pub mod Closed
+pub mod Stopped
 pub mod Settled
 pub mod Leads
 pub mod RoundSteps

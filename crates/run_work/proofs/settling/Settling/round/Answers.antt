@@ -1,6 +1,6 @@
 use Rattle.std.proofs.lemmas.Result.{on_ok_weaker}
 use Rattle.run_work.proofs.RoundLoops.{HaveArrived-taken}
-use Rattle.run_work.proofs.Settled.{have_gone_on_then}
+use Rattle.run_work.proofs.Settled.{AreUnmarked-on, have_gone_on_then}
 use Rattle.run_work.proofs.settling.Settling.round.Goals as goal
 
 pub returns-clause-on : goal.returns-clause-on
@@ -10,6 +10,6 @@ returns-clause-on g c =
 pub returns-clause-arrived : goal.returns-clause-arrived
 returns-clause-arrived g c =
     on_ok_weaker c.take_all.result
-    (λ taken front seen. HaveArrived-taken front c.args.self.now c.send_all.new.self c.take_all.new.self c.in_ok-send_all.ensures.on c.take_all.ensures.on
-    (λ from to. c.in_ok-send_all.ensures.reached front from to seen) taken)
+    (λ taken unmarked front seen. HaveArrived-taken front c.args.self.now c.send_all.new.self c.take_all.new.self c.in_ok-send_all.ensures.on c.take_all.ensures.on
+    (λ from to. c.in_ok-send_all.ensures.reached (AreUnmarked-on c.send_all.new.self c.take_all.new.self c.take_all.ensures.on unmarked) front from to seen) taken)
     c.take_all.ensures.taken

@@ -1,6 +1,6 @@
 use Rattle.std.proofs.Common.{ap, arith, length}
 use Rattle.run_work.proofs.RoundSteps.{HaveSeen-on}
-use Rattle.run_work.proofs.Settled.{have_gone_on_then}
+use Rattle.run_work.proofs.Settled.{AreUnmarked-on, have_gone_on_then}
 use Rattle.run_work.proofs.settling.Settling.rounds.Goals as goal
 
 pub loop-round-preserved : goal.loop-round-preserved
@@ -14,6 +14,11 @@ loop-round-preserved g c =
       on = have_gone_on_then begun now after invariant.on round.on;
       ready = round.ready;
       empty = round.empty;
-      made = λ replica within. omega (arith, invariant.made replica within, round.made replica (omega (arith, within, ap length invariant.on.nodes)));
-      arrived = λ front some seen. round.arrived front (HaveSeen-on begun now front invariant.on seen);
+      made = λ unmarked replica within.
+          omega (
+            arith,
+            invariant.made (AreUnmarked-on now after round.on unmarked) replica within,
+            round.made unmarked replica (omega (arith, within, ap length invariant.on.nodes)),
+          );
+      arrived = λ unmarked front some seen. round.arrived unmarked front (HaveSeen-on begun now front invariant.on seen);
     }

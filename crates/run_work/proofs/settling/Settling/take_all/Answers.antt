@@ -26,7 +26,7 @@ loop-replica-preserved g c =
     record {
       on = have_gone_on_then begun now after invariant.on took.on;
       ready = took.ready;
-      taking = HaveTakenSome-more at begun now after invariant.taking took.made took.few;
+      taking = HaveTakenSome-more at begun now after invariant.taking took.on took.made took.few;
       empty = λ replica below.
           ⊎_elim (λ (same : replica ≡ at). subst (λ r. waiting_at after r ≡ []) (sym same) took.empty)
           (λ (other : replica ≢ at). took.made.stayed replica other ∙ invariant.empty replica (omega (arith, below, other)))

@@ -35,5 +35,5 @@ loop-taken-preserved g c =
       on = have_gone_on_then begun now after invariant.on (have_gone_on_then now next after c.next.ensures.on taken.on);
       ready = taken.ready;
       taking = HasTakenSome-more c.args.replica c.loop-taken._taken begun now next c.in-Some.parcel.message invariant.taking c.next.ensures.ends
-          c.in-Some.ensures.first c.next.ensures.others after taken.made c.next.ensures.on taken.on taken.taken;
+          c.in-Some.ensures.first c.next.ensures.others after taken.on taken.made c.next.ensures.on taken.taken;
     }
