@@ -9,7 +9,6 @@ pub mod Puts
 pub mod RoundLoops
 pub mod LeadLoop
 pub mod Arriving
-pub mod Unmarked
 pub mod GoingOn
 pub mod HoldingLemmas
 pub mod TryingLemmas
