@@ -169,14 +169,14 @@ module _ {settling now : SettlingView} {replica : ℕ} {before : End} (is : sett
       ∙ get_or-set_other (map made_by settling.ends) replica other (made_by after) 0 apart
 
   -- its marks are those of one of the replicas
-  mine-all : {P : End → Type 0} → All P other_end.ends → P after
-  mine-all {P = P} all =
+  mine-all : (P : End → Type 0) → All P other_end.ends → P after
+  mine-all P all =
       subst P (get_or-set_same settling.ends replica after after at_ends) (all replica after (omega (arith, at_ends, length-set settling.ends replica after)))
 
   pub HasMadeOne-set : (IsUnmarkedEnd after → made_by after ≤ made_by before + 1) → HasMadeOne replica now other_end
   HasMadeOne-set most = subst (λ s. HasMadeOne replica s other_end) is (record {
     inboxes = refl;
-    mine = λ unmarked. omega (arith, most (mine-all unmarked), made-there, made-mine);
+    mine = λ unmarked. omega (arith, most (mine-all IsUnmarkedEnd unmarked), made-there, made-mine);
     others = λ unmarked other apart. omega (arith, made-others other apart);
   })
 
@@ -184,14 +184,14 @@ module _ {settling now : SettlingView} {replica : ℕ} {before : End} (is : sett
       → IfOk sent (λ one. one ≡ None → IsUnmarkedEnd after → ⊥)
       → IfOk sent (λ one. one ≡ None → AreUnmarked other_end.ends → ⊥)
   marked-set (Err stop) marked = tt
-  marked-set (Ok one) marked = λ none unmarked. marked none (mine-all unmarked)
+  marked-set (Ok one) marked = λ none unmarked. marked none (mine-all IsUnmarkedEnd unmarked)
 
   pub IsKeptStop-set : {node : NodeView} (at : node ≡ get_or settling.nodes replica node) (tells : Bool) (stop : Stop)
       → IsKeptStop tells node.desk (IsFaultlessEnd after) stop
       → IsKeptStop tells now.desk (AreFaultless other_end.ends) stop
   IsKeptStop-set at tells stop told =
       subst (λ (desk : DeskView). IsKeptStop tells desk (AreFaultless other_end.ends) stop) (desk_at is sound within at)
-      (IsKeptStop-less tells _ (IsFaultlessEnd after) (AreFaultless other_end.ends) stop (λ faultless. mine-all faultless) told)
+      (IsKeptStop-less tells _ (IsFaultlessEnd after) (AreFaultless other_end.ends) stop (mine-all IsFaultlessEnd) told)
 
   pub stops-set : {node : NodeView} (at : node ≡ get_or settling.nodes replica node) (tells : Bool) {X : Type 0} (answer : Result X Stop)
       → IfErr answer (IsKeptStop tells node.desk (IsFaultlessEnd after))

@@ -208,7 +208,7 @@ fn stop<J: Journal, G: Gate>(
 ) -> Stop
     requires session { IsSessionOf node.now session.old }
     ensures session { session.new ≡ session.old }
-    ensures stop { (tells : Bool) → IsKeptEnd tells session.old ending → IsKeptStop tells node.now.desk (session.old.faults ≡ 0) result }
+    ensures stop { (tells : Bool) → IsKeptEnd tells session.old ending → IsKeptStop tells node.now.desk (session.new.faults ≡ 0) result }
 {
     Stop {
         replica: session.replica(),

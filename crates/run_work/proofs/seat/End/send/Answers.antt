@@ -3,7 +3,8 @@ use Rattle.replica_lock.specs.Sessions.{SessionView}
 use Rattle.run_model.specs.declared.entry.Message.{Message}
 use Rattle.run_work.proofs.Leads.{HasGoneOn-lead, HasSeenSending-made, IsKeptStop-lead, lead-of, made_by-lead, made_by-unmarked, unmarked-lead}
 use Rattle.run_work.proofs.Settled.{HasStayed-made, HasStayed-told, HasStayed-trans, IsSessionOf-stayed}
-use Rattle.run_work.proofs.Stopped.{IsTold-marked, made-marked}
+use Rattle.run_work.proofs.GoingOn.{IsTold-heard}
+use Rattle.run_work.proofs.Stopped.{made-marked}
 use Rattle.run_work.proofs.seat.End.send.Goals as goal
 
 pub returns-in-Ok-clause-on : goal.returns-in-Ok-clause-on
@@ -28,3 +29,44 @@ returns-in-Ok-clause-sent g c front seen =
     (HasStayed-made _ _ _ of.certain _ _ made) of.at.replica
     (ap (λ (m : Message). m.to) c.in-Ok.ensures.sent.message_is)
     seen
+
+pub mend_for-requires-clause-session : goal.mend_for-requires-clause-session
+mend_for-requires-clause-session g c =
+    let node = c.args.node.now in
+    let of = lead-of c.args.self.now c.lead-lead.result c.index_mut-session.result.now c.lead-lead.ensures c.index_mut-session.ensures.value node c.requires.end in
+    IsSessionOf-stayed _ _ (HasStayed-told _ _ _ of.certain c.in-Err.fault c.in-Err.ensures.refused) node of
+
+pub mend_for-requires-clause-told : goal.mend_for-requires-clause-told
+mend_for-requires-clause-told g c = IsTold-heard _ _ _ c.in-Err.fault c.in-Err.ensures.refused c.in-Err.ensures.fault
+
+pub returns-in_err-mend_for-clause-on : goal.returns-in_err-mend_for-clause-on
+returns-in_err-mend_for-clause-on g c =
+    let end = c.args.self.now in
+    let of = lead-of end c.lead-lead.result c.index_mut-session.result.now c.lead-lead.ensures c.index_mut-session.ensures.value c.args.node.now c.requires.end in
+    HasGoneOn-lead end _ _ c.lead-lead.ensures c.index_mut-session.ensures.value c.mend_for.new.session
+    (HasStayed-trans _ _ _ (HasStayed-told _ _ _ of.certain c.in-Err.fault c.in-Err.ensures.refused) c.mend_for.ensures.stayed)
+
+pub returns-in_err-mend_for-clause-made : goal.returns-in_err-mend_for-clause-made
+returns-in_err-mend_for-clause-made g c =
+    made_by-unmarked c.args.self.now _ _ c.lead-lead.ensures c.index_mut-session.ensures.value c.mend_for.new.session 1
+    (λ unmarked. omega (arith, c.mend_for.ensures.few unmarked, made-marked _ _ _ c.in-Err.fault c.in-Err.ensures.refused))
+
+pub returns-in_err-mend_for-clause-stop : goal.returns-in_err-mend_for-clause-stop
+returns-in_err-mend_for-clause-stop g c =
+    IsKeptStop-lead c.args.self.now _ _ c.lead-lead.ensures c.index_mut-session.ensures.value _ c.args.node.now.desk c.mend_for.new.session _ c.in_err-mend_for.ensures.stop
+
+pub returns-clause-on : goal.returns-clause-on
+returns-clause-on g c =
+    let end = c.args.self.now in
+    let of = lead-of end c.lead-lead.result c.index_mut-session.result.now c.lead-lead.ensures c.index_mut-session.ensures.value c.args.node.now c.requires.end in
+    HasGoneOn-lead end _ _ c.lead-lead.ensures c.index_mut-session.ensures.value c.mend_for.new.session
+    (HasStayed-trans _ _ _ (HasStayed-told _ _ _ of.certain c.in-Err.fault c.in-Err.ensures.refused) c.mend_for.ensures.stayed)
+
+pub returns-clause-made : goal.returns-clause-made
+returns-clause-made g c =
+    made_by-unmarked c.args.self.now _ _ c.lead-lead.ensures c.index_mut-session.ensures.value c.mend_for.new.session 1
+    (λ unmarked. omega (arith, c.mend_for.ensures.few unmarked, made-marked _ _ _ c.in-Err.fault c.in-Err.ensures.refused))
+
+pub returns-clause-none : goal.returns-clause-none
+returns-clause-none g c none unmarked =
+    c.in_ok-mend_for.ensures.marked (unmarked-lead c.args.self.now _ _ c.lead-lead.ensures c.index_mut-session.ensures.value c.mend_for.new.session unmarked)
