@@ -39,34 +39,34 @@ mend_for-requires-clause-session g c =
 pub mend_for-requires-clause-told : goal.mend_for-requires-clause-told
 mend_for-requires-clause-told g c = IsTold-heard _ _ _ c.in-Err.fault c.in-Err.ensures.refused c.in-Err.ensures.fault
 
-pub returns-in_err-mend_for-clause-on : goal.returns-in_err-mend_for-clause-on
-returns-in_err-mend_for-clause-on g c =
+pub returns-in_err-mend_for-in-Err-clause-on : goal.returns-in_err-mend_for-in-Err-clause-on
+returns-in_err-mend_for-in-Err-clause-on g c =
     let end = c.args.self.now in
     let of = lead-of end c.lead-lead.result c.index_mut-session.result.now c.lead-lead.ensures c.index_mut-session.ensures.value c.args.node.now c.requires.end in
     HasGoneOn-lead end _ _ c.lead-lead.ensures c.index_mut-session.ensures.value c.mend_for.new.session
     (HasStayed-trans _ _ _ (HasStayed-told _ _ _ of.certain c.in-Err.fault c.in-Err.ensures.refused) c.mend_for.ensures.stayed)
 
-pub returns-in_err-mend_for-clause-made : goal.returns-in_err-mend_for-clause-made
-returns-in_err-mend_for-clause-made g c =
+pub returns-in_err-mend_for-in-Err-clause-made : goal.returns-in_err-mend_for-in-Err-clause-made
+returns-in_err-mend_for-in-Err-clause-made g c =
     made_by-unmarked c.args.self.now _ _ c.lead-lead.ensures c.index_mut-session.ensures.value c.mend_for.new.session 1
     (λ unmarked. omega (arith, c.mend_for.ensures.few unmarked, made-marked _ _ _ c.in-Err.fault c.in-Err.ensures.refused))
 
-pub returns-in_err-mend_for-clause-stop : goal.returns-in_err-mend_for-clause-stop
-returns-in_err-mend_for-clause-stop g c =
-    IsKeptStop-lead c.args.self.now _ _ c.lead-lead.ensures c.index_mut-session.ensures.value _ c.args.node.now.desk c.mend_for.new.session _ c.in_err-mend_for.ensures.stop
+pub returns-in_err-mend_for-in-Err-clause-stop : goal.returns-in_err-mend_for-in-Err-clause-stop
+returns-in_err-mend_for-in-Err-clause-stop g c =
+    IsKeptStop-lead c.args.self.now _ _ c.lead-lead.ensures c.index_mut-session.ensures.value _ c.args.node.now.desk c.mend_for.new.session _ c.in_err-mend_for-in-Err.ensures.stop
 
-pub returns-clause-on : goal.returns-clause-on
-returns-clause-on g c =
+pub returns-in_ok-mend_for-in-Err-clause-on : goal.returns-in_ok-mend_for-in-Err-clause-on
+returns-in_ok-mend_for-in-Err-clause-on g c =
     let end = c.args.self.now in
     let of = lead-of end c.lead-lead.result c.index_mut-session.result.now c.lead-lead.ensures c.index_mut-session.ensures.value c.args.node.now c.requires.end in
     HasGoneOn-lead end _ _ c.lead-lead.ensures c.index_mut-session.ensures.value c.mend_for.new.session
     (HasStayed-trans _ _ _ (HasStayed-told _ _ _ of.certain c.in-Err.fault c.in-Err.ensures.refused) c.mend_for.ensures.stayed)
 
-pub returns-clause-made : goal.returns-clause-made
-returns-clause-made g c =
+pub returns-in_ok-mend_for-in-Err-clause-made : goal.returns-in_ok-mend_for-in-Err-clause-made
+returns-in_ok-mend_for-in-Err-clause-made g c =
     made_by-unmarked c.args.self.now _ _ c.lead-lead.ensures c.index_mut-session.ensures.value c.mend_for.new.session 1
     (λ unmarked. omega (arith, c.mend_for.ensures.few unmarked, made-marked _ _ _ c.in-Err.fault c.in-Err.ensures.refused))
 
-pub returns-clause-none : goal.returns-clause-none
-returns-clause-none g c none unmarked =
-    c.in_ok-mend_for.ensures.marked (unmarked-lead c.args.self.now _ _ c.lead-lead.ensures c.index_mut-session.ensures.value c.mend_for.new.session unmarked)
+pub returns-in_ok-mend_for-in-Err-clause-none : goal.returns-in_ok-mend_for-in-Err-clause-none
+returns-in_ok-mend_for-in-Err-clause-none g c none unmarked =
+    c.in_ok-mend_for-in-Err.ensures.marked (unmarked-lead c.args.self.now _ _ c.lead-lead.ensures c.index_mut-session.ensures.value c.mend_for.new.session unmarked)
