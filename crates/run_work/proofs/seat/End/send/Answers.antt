@@ -1,4 +1,5 @@
 use Rattle.std.proofs.Common.{ap, ◌∙◌, arith}
+use Rattle.std.proofs.lemmas.Result.{err_from_is_err_and}
 use Rattle.replica_lock.specs.Sessions.{SessionView}
 use Rattle.run_model.specs.declared.entry.Message.{Message}
 use Rattle.run_work.proofs.Leads.{HasGoneOn-lead, HasSeenSending-made, IsKeptStop-lead, lead-of, made_by-lead, made_by-unmarked, unmarked-lead}
@@ -53,7 +54,10 @@ returns-in_err-mend_for-in-Err-clause-made g c =
 
 pub returns-in_err-mend_for-in-Err-clause-stop : goal.returns-in_err-mend_for-in-Err-clause-stop
 returns-in_err-mend_for-in-Err-clause-stop g c =
-    IsKeptStop-lead c.args.self.now _ _ c.lead-lead.ensures c.index_mut-session.ensures.value _ c.args.node.now.desk c.mend_for.new.session _ c.in_err-mend_for-in-Err.ensures.stop
+    let p = err_from_is_err_and c.from_residual.result c.from_residual.ensures.1 in
+    rw (p.1, p.2)
+    (IsKeptStop-lead c.args.self.now _ _ c.lead-lead.ensures c.index_mut-session.ensures.value _ c.args.node.now.desk c.mend_for.new.session _
+    c.in_err-mend_for-in-Err.ensures.stop)
 
 pub returns-in_ok-mend_for-in-Err-clause-on : goal.returns-in_ok-mend_for-in-Err-clause-on
 returns-in_ok-mend_for-in-Err-clause-on g c =

@@ -1,5 +1,7 @@
-use Rattle.std.proofs.Common.{◌≡◌, ap, arith, length, sym, ◌∙◌}
-use Rattle.run_work.specs.Rounds.{HasSeenAt, lose_at}
+use Rattle.std.proofs.Common.{◌≡◌, IfSome, List, Option, ap, arith, length, subst, sym, ◌∙◌}
+use Rattle.run_model.specs.declared.entry.Entry.{Entry}
+use Rattle.locked_replica.specs.Parcels.{ParcelView}
+use Rattle.run_work.specs.Rounds.{HasSeenAt, HasSeenSending, lose_at}
 use Rattle.run_work.proofs.RoundLoops.{HasSentTo-made, HasSentTo-put, HasSentTo-still}
 use Rattle.run_work.proofs.RoundSteps.{HasSeenAt-on, HasSeenSending-map, lose_at-on, waiting-same}
 use Rattle.run_work.proofs.Settled.{have_gone_on_then}
@@ -33,10 +35,12 @@ returns-clause-reached g c unmarked front seen =
     let on = c.put.ensures.on in
     let message = c.in-Some.parcel.message in
     let same = waiting-same c.args.self.now between c.args.to c.in_ok-parcel.ensures.made.inboxes in
+    let Sent = λ (parcel : ParcelView). (front : List Entry) → HasSeenAt c.args.self.now c.args.from front → HasSeenSending (HasSeenAt between c.args.from) front c.args.from c.args.to parcel.message in
+    let sent = subst (λ (one : Option ParcelView). IfSome one Sent) c.in-Some.is c.in_ok-parcel.ensures.sent in
     record {
       message = message;
       sent = HasSeenSending-map (HasSeenAt between c.args.from) (HasSeenAt after c.args.from) front c.args.from c.args.to message
-          (λ front. HasSeenAt-on between after c.args.from front on) (c.in-Some.ensures.sent front seen);
+          (λ front. HasSeenAt-on between after c.args.from front on) (sent front seen);
       waits = λ (none : lose_at after c.args.to ≡ 0).
           c.in-Ok.ensures.waits (sym (lose_at-on between after c.args.to on) ∙ none) (omega (arith, c.requires.room, ap length same));
     }
