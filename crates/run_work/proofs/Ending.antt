@@ -9,7 +9,7 @@ use Rattle.tact_base.proofs.ElementLemmas.{Contains-first, Contains-later}
 use Rattle.run_model.specs.Histories.{calls_of}
 use Rattle.run_history.specs.Seats.{NoteView}
 use Rattle.replica_lock.specs.Rosters.{IsRosterOf, RosterView}
-use Rattle.replica_lock.specs.Sessions.{IsSessionOf, NodeView, SessionView, own_calls}
+use Rattle.replica_lock.specs.Sessions.{IsAtNode, NodeView, SessionView, own_calls}
 use Rattle.run_model.specs.declared.entry.Entry.{Entry}
 use Rattle.work_load.specs.Clients.{is_of}
 use Rattle.work_load.specs.Entries.{EachAfter}
@@ -176,7 +176,7 @@ module _ (seated back : List Client) (notes : List NoteView) (client : Client) (
     (seen : note.seen ≡ session.seen) (at : session.replica ≡ client.replica) (number : session.client ≡ client.client)
     (size : length notes ≡ length back) (new : list_any (is_of client.replica client.client) back ≡ false) where
   IsEnd-come : (node : NodeView) (before after : End)
-      → IsSessionOf node session
+      → IsAtNode node session
       → after.roster ≡ before.roster
       → after.sessions.items ≡ before.sessions.items ++ session ∷ []
       → IsEnd seated back notes client.replica node before
@@ -186,7 +186,7 @@ module _ (seated back : List Client) (notes : List NoteView) (client : Client) (
       record {
         roster = subst (IsRosterOf node) (sym same) is.roster;
         seated_are = ap (λ (r : RosterView). r.clients) same ∙ is.seated_are;
-        sessions = subst (All (IsSessionOf node)) (sym items) (All-push (IsSessionOf node) before.sessions.items session is.sessions of);
+        sessions = subst (All (IsAtNode node)) (sym items) (All-push (IsAtNode node) before.sessions.items session is.sessions of);
         back_are = ap (map (λ (s : SessionView). s.client)) items
             ∙ map_push (λ (s : SessionView). s.client) before.sessions.items session
             ∙ ap (λ (numbers : List ℕ). numbers ++ session.client ∷ []) is.back_are
@@ -212,7 +212,7 @@ module _ (seated back : List Client) (notes : List NoteView) (client : Client) (
   -- so one more session is back
   pub AreEnds-come : (sites : SitesView) (before after : List End)
       → client.replica < length before
-      → ((none : NodeView) → IsSessionOf (get_or sites.nodes client.replica none) session)
+      → ((none : NodeView) → IsAtNode (get_or sites.nodes client.replica none) session)
       → AreEnds seated back notes sites before
       → HasCome session client.replica before after
       → AreEnds seated (back ++ client ∷ []) (notes ++ note ∷ []) sites after

@@ -9,7 +9,7 @@ use Rattle.tact_base.proofs.ListLemmas.{get_or-map_range}
 use Rattle.atomic_table.specs.Seated.{TableId}
 use Rattle.run_history.specs.Seats.{ClerkView, DeskView, fresh_clerk}
 use Rattle.replica_lock.specs.Rosters.{IsRosterOf}
-use Rattle.replica_lock.specs.Sessions.{IsSessionOf, NodeView, SessionView, own_calls}
+use Rattle.replica_lock.specs.Sessions.{IsAtNode, NodeView, SessionView, own_calls}
 use Rattle.postbox.specs.Posts.{PostboxView}
 use Rattle.run_work.specs.Ends.{AreEnds, IsEnd, noted_calls}
 use Rattle.run_work.specs.declared.seat.End.{End}
@@ -44,7 +44,7 @@ IsEnd-new replica node end roster clients none =
     record {
       roster = roster;
       seated_are = clients;
-      sessions = subst (All (IsSessionOf node)) (sym none) (All-nil (IsSessionOf node));
+      sessions = subst (All (IsAtNode node)) (sym none) (All-nil (IsAtNode node));
       back_are = ap (map (λ (session : SessionView). session.client)) none;
       calls = subst (All IsNoted) (sym none) (All-nil IsNoted);
     }
