@@ -1,140 +1,169 @@
--- How a session goes on, entry by entry.
-use Rattle.std.proofs.Common.{◌≡◌, ℕ, ◌+◌, ◌≤◌, List, [], ◌∷◌, ◌++◌, refl, sym, ap, ap₂, ◌∙◌, arith}
-use Rattle.std.specs.Prelude.{OnErr, OnOk, Result, Ok, Err, false}
+-- How a session goes on without a call: by an entry that is none, by a refusal that it marks, and one after the other.
+use Rattle.std.proofs.Common.{◌≡◌, ℕ, ◌+◌, ◌≤◌, false, refl, sym, ap, ◌∙◌, subst, arith}
+use Rattle.std.specs.Prelude.{IfErr, IfOk, OnOk, Result, Ok, Err}
 use Rattle.tact_base.specs.Setup.{Setup}
-use Rattle.run_model.specs.Histories.{IsPrefix}
-use Rattle.run_model.specs.declared.call.Reply.{Reply}
-use Rattle.run_model.specs.declared.call.Request.{Request}
 use Rattle.run_model.specs.declared.entry.Act.{Act}
-use Rattle.run_model.specs.declared.entry.Entry.{Entry}
-use Rattle.run_model.proofs.PrefixLemmas.{IsPrefix-refl, IsPrefix-trans}
-use Rattle.replica_lock.specs.Sessions.{HasCalled, HasHeard, HasMade, IsSessionOf, NodeView, SessionView, call_after, entry_after}
-use Rattle.run_work.specs.Holding.{IsLater, IsQuiet}
-
--- a session with other counts and more seen
-abbrev gone_on : SessionView → ℕ → ℕ → List Entry → SessionView
-gone_on session calls made seen = record session { calls = calls; made = made; seen = seen }
-
--- that a session has gone on says only which counts it has
-going_on : (before after : SessionView) (calls made : ℕ)
-    → after ≡ gone_on before calls made after.seen
-    → after ≡ gone_on before after.calls after.made after.seen
-going_on before after calls made is =
-    is ∙ ap₂ (λ (k m : ℕ). gone_on before k m after.seen) (sym (ap (λ (s : SessionView). s.calls) is)) (sym (ap (λ (s : SessionView). s.made) is))
-
--- an entry is seen behind all that was
-seen_behind : (seen front after : List Entry) (entry : Entry)
-    → IsPrefix seen front
-    → after ≡ front ++ entry ∷ []
-    → IsPrefix seen after
-seen_behind seen front after entry told is = IsPrefix-trans seen front after told (entry ∷ [], is)
+use Rattle.run_model.specs.declared.entry.Act.TheVariants as act
+use Rattle.locked_replica.specs.Parcels.{ParcelView}
+use Rattle.locked_replica.specs.declared.fault.NodeFault.{NodeFault}
+use Rattle.locked_replica.specs.declared.fault.NodeFault.TheVariants as fault
+use Rattle.locked_replica.specs.declared.fault.NodeLoanFault.{NodeLoanFault}
+use Rattle.locked_replica.specs.declared.fault.NodeLoanFault.TheVariants as loan_fault
+use Rattle.locked_replica.specs.declared.loan.Loan.{Loan}
+use Rattle.replica_lock.specs.Ledgers.{risen}
+use Rattle.replica_lock.specs.Loans.{IsLoanFaultSeen}
+use Rattle.replica_lock.specs.Sessions.{HasHeard, HasMade, HasSent, IsFaultSeen, IsSessionOf, NodeView, SessionView, marked_by, marked_lent}
+use Rattle.steady_node.specs.Endings.{IsTold}
+use Rattle.steady_node.specs.Going.{GoesOn, IsUnmarked}
+use Rattle.steady_node.proofs.Goings.{GoesOn-made, GoesOn-marked, GoesOn-same, GoesOn-trans, IsAtNode-on, going, risen-least, risen-some}
+use Rattle.run_work.specs.Holding.{IsQuiet}
+use Rattle.run_work.specs.Trying.{IsLoanTold, is_refused}
 
 -- with as many entries or more
-pub IsLater-weaker : (few most : ℕ) (before after : SessionView)
+pub GoesOn-weaker : (few most : ℕ) (before after : SessionView)
     → few ≤ most
-    → IsLater few before after
-    → IsLater most before after
-IsLater-weaker few most before after less later = record { value = later.value; told = later.told; few = omega (arith, later.few) }
-
--- after a call, after an entry that is none, after a refusal, and where nothing was done
-pub IsLater-called : (setup : Setup) (before after : SessionView) (moment : ℕ) (asked : Request) (given : Reply)
-    → HasCalled setup before after moment asked given
-    → IsLater 1 before after
-IsLater-called setup before after moment asked given called = record {
-  value = going_on before after (before.calls + 1) (before.made + 1) called.counts;
-  told = seen_behind before.seen called.front after.seen (call_after before called.front moment asked given) called.told called.seen;
-  few = omega (arith, ap (λ (s : SessionView). s.made) called.counts);
+    → GoesOn few before after
+    → GoesOn most before after
+GoesOn-weaker few most before after less on = record {
+  value = on.value;
+  told = on.told;
+  faults = on.faults;
+  halts = on.halts;
+  few = λ unmarked.
+      let made = on.few unmarked in
+      omega (arith, less, made);
 }
 
-pub IsLater-made : (setup : Setup) (before after : SessionView) (moment : ℕ) (done : Act)
-    → HasMade setup before after moment done
-    → IsLater 1 before after
-IsLater-made setup before after moment done made = record {
-  value = going_on before after before.calls (before.made + 1) made.counts;
-  told = seen_behind before.seen made.front after.seen (entry_after before made.front moment done) made.told made.seen;
-  few = omega (arith, ap (λ (s : SessionView). s.made) made.counts);
-}
+module _ (setup : Setup) (before after : SessionView) where
+  -- a refusal that is marked
+  pub GoesOn-heard : (most : ℕ) (told : NodeFault) → HasHeard setup before (marked_by told before) after → GoesOn most before after
+  GoesOn-heard most fault.Halted heard =
+      going most before after before.calls before.made before.faults (risen before.halts) before.doubt heard.value heard.told (omega arith) (risen-least before.halts) (omega arith)
+  GoesOn-heard most fault.JournalFault heard =
+      going most before after before.calls before.made (risen before.faults) before.halts before.doubt heard.value heard.told (risen-least before.faults) (omega arith) (omega arith)
+  GoesOn-heard most (fault.Full count stamp) heard =
+      going most before after before.calls before.made before.faults before.halts before.doubt heard.value heard.told (omega arith) (omega arith) (omega arith)
+  GoesOn-heard most fault.NoMemory heard =
+      going most before after before.calls before.made before.faults before.halts before.doubt heard.value heard.told (omega arith) (omega arith) (omega arith)
 
-pub IsLater-heard : (setup : Setup) (before after : SessionView) (most : ℕ)
-    → HasHeard setup before before after
-    → IsLater most before after
-IsLater-heard setup before after most heard = record {
-  value = going_on before after before.calls before.made heard.value;
-  told = heard.told;
-  few = omega (arith, ap (λ (s : SessionView). s.made) heard.value);
-}
+  doubt-heard : (told : NodeFault) → HasHeard setup before (marked_by told before) after → after.doubt ≡ before.doubt
+  doubt-heard fault.Halted heard = ap (λ (s : SessionView). s.doubt) heard.value
+  doubt-heard fault.JournalFault heard = ap (λ (s : SessionView). s.doubt) heard.value
+  doubt-heard (fault.Full count stamp) heard = ap (λ (s : SessionView). s.doubt) heard.value
+  doubt-heard fault.NoMemory heard = ap (λ (s : SessionView). s.doubt) heard.value
 
-pub IsLater-same : (session : SessionView) (most : ℕ) → IsLater most session session
-IsLater-same session most = record { value = refl; told = IsPrefix-refl session.seen; few = omega arith }
+  -- and what it tells
+  pub IsTold-heard : (told : NodeFault) → HasHeard setup before (marked_by told before) after → IsFaultSeen after told → IsTold told after
+  IsTold-heard fault.Halted heard seen = λ none. risen-some before.halts (sym (ap (λ (s : SessionView). s.halts) heard.value) ∙ none)
+  IsTold-heard fault.JournalFault heard seen = λ none. risen-some before.faults (sym (ap (λ (s : SessionView). s.faults) heard.value) ∙ none)
+  IsTold-heard (fault.Full count stamp) heard seen = seen
+  IsTold-heard fault.NoMemory heard seen = tt
 
--- one after another
-pub IsLater-trans : (few more : ℕ) (before between after : SessionView)
-    → IsLater few before between
-    → IsLater more between after
-    → IsLater (few + more) before after
-IsLater-trans few more before between after first second = record {
-  value = second.value ∙ ap (λ (s : SessionView). gone_on s after.calls after.made after.seen) first.value;
-  told = IsPrefix-trans before.seen between.seen after.seen first.told second.told;
-  few = omega (arith, first.few, second.few);
-}
+  pub IsTold-if : {A : Type 0} (answer : Result A NodeFault)
+      → IfErr answer (λ told. HasHeard setup before (marked_by told before) after)
+      → IfErr answer (IsFaultSeen after)
+      → IfErr answer (λ told. IsTold told after)
+  IsTold-if (Ok given) heard seen = tt
+  IsTold-if (Err told) heard seen = IsTold-heard told heard seen
 
--- it stays of its node and its client
-pub IsSessionOf-later : (node : NodeView) (most : ℕ) (before after : SessionView)
-    → IsLater most before after
-    → IsSessionOf node before
-    → IsSessionOf node after
-IsSessionOf-later node most before after later of = record {
-  at = record {
-    cell = ap (λ (s : SessionView). s.cell) later.value ∙ of.at.cell;
-    desk = ap (λ (s : SessionView). s.desk) later.value ∙ of.at.desk;
-    conits = ap (λ (s : SessionView). s.conits) later.value ∙ of.at.conits;
-    replica = ap (λ (s : SessionView). s.replica) later.value ∙ of.at.replica;
-  };
-  certain = ap (λ (s : SessionView). s.doubt) later.value ∙ of.certain;
-}
+  -- neither is a call
+  module _ (certain : before.doubt ≡ false) where
+    pub IsQuiet-made : (moment : ℕ) (done : Act) → HasMade setup before after moment done → IsQuiet 1 before after
+    IsQuiet-made moment done made = record {
+      later = GoesOn-made setup before after moment done made;
+      calls = made.calls certain;
+      doubt = ap (λ (s : SessionView). s.doubt) made.counts;
+    }
 
-pub client-later : (most : ℕ) (before after : SessionView) → IsLater most before after → after.client ≡ before.client
-client-later most before after later = ap (λ (s : SessionView). s.client) later.value
+    pub IsQuiet-heard : (most : ℕ) (told : NodeFault) → HasHeard setup before (marked_by told before) after → IsQuiet most before after
+    IsQuiet-heard most told heard = record {
+      later = GoesOn-heard most told heard;
+      calls = heard.calls certain;
+      doubt = doubt-heard told heard;
+    }
 
-pub replica-later : (most : ℕ) (before after : SessionView) → IsLater most before after → after.replica ≡ before.replica
-replica-later most before after later = ap (λ (s : SessionView). s.replica) later.value
+-- the same where nothing was done
+pub IsQuiet-same : (session : SessionView) (most : ℕ) → IsQuiet most session session
+IsQuiet-same session most = record { later = GoesOn-same most session; calls = refl; doubt = refl }
 
--- the same where none of the entries is a call
 pub IsQuiet-weaker : (few most : ℕ) (before after : SessionView)
     → few ≤ most
     → IsQuiet few before after
     → IsQuiet most before after
-IsQuiet-weaker few most before after less quiet = record { later = IsLater-weaker few most before after less quiet.later; calls = quiet.calls }
+IsQuiet-weaker few most before after less quiet = record {
+  later = GoesOn-weaker few most before after less quiet.later;
+  calls = quiet.calls;
+  doubt = quiet.doubt;
+}
 
-pub IsQuiet-made : (setup : Setup) (before after : SessionView) (moment : ℕ) (done : Act)
-    → before.doubt ≡ false
-    → HasMade setup before after moment done
-    → IsQuiet 1 before after
-IsQuiet-made setup before after moment done certain made = record { later = IsLater-made setup before after moment done made; calls = made.calls certain }
-
-pub IsQuiet-heard : (setup : Setup) (before after : SessionView) (most : ℕ)
-    → before.doubt ≡ false
-    → HasHeard setup before before after
+-- with any count of entries where it is marked
+pub IsQuiet-marked : (few most : ℕ) (before after : SessionView)
+    → (IsUnmarked after → ⊥)
+    → IsQuiet few before after
     → IsQuiet most before after
-IsQuiet-heard setup before after most certain heard = record { later = IsLater-heard setup before after most heard; calls = heard.calls certain }
-
--- an entry that is no call, or a refusal
-pub IsQuiet-either : {A E : Type 0} (answer : Result A E) (setup : Setup) (before after : SessionView) (moment : ℕ) (done : Act)
-    → before.doubt ≡ false
-    → OnOk answer (HasMade setup before after moment done)
-    → OnErr answer (HasHeard setup before before after)
-    → IsQuiet 1 before after
-IsQuiet-either (Ok given) setup before after moment done certain made heard = IsQuiet-made setup before after moment done certain made
-IsQuiet-either (Err fault) setup before after moment done certain made heard = IsQuiet-heard setup before after 1 certain heard
-
-pub IsQuiet-same : (session : SessionView) (most : ℕ) → IsQuiet most session session
-IsQuiet-same session most = record { later = IsLater-same session most; calls = refl }
+IsQuiet-marked few most before after marked quiet = record {
+  later = GoesOn-marked few most before after marked quiet.later;
+  calls = quiet.calls;
+  doubt = quiet.doubt;
+}
 
 pub IsQuiet-trans : (few more : ℕ) (before between after : SessionView)
     → IsQuiet few before between
     → IsQuiet more between after
     → IsQuiet (few + more) before after
 IsQuiet-trans few more before between after first second = record {
-  later = IsLater-trans few more before between after first.later second.later;
+  later = GoesOn-trans few more before between after first.later second.later;
   calls = second.calls ∙ first.calls;
+  doubt = second.doubt ∙ first.doubt;
 }
+
+-- it may still be asked at its node
+pub IsSessionOf-quiet : (node : NodeView) (most : ℕ) (before after : SessionView)
+    → IsQuiet most before after
+    → IsSessionOf node before
+    → IsSessionOf node after
+IsSessionOf-quiet node most before after quiet of = record {
+  at = IsAtNode-on node most before after quiet.later of.at;
+  certain = quiet.doubt ∙ of.certain;
+}
+
+-- A loan or a return that was asked for once: where it was refused, and not for its amount, the session went on, and else
+-- nothing more was done.
+pub IsQuiet-loan : (setup : Setup) (before between after : SessionView) (moment : ℕ) (done : Act) (answer : Result (Unit {0}) NodeLoanFault)
+    → before.doubt ≡ false
+    → OnOk answer (HasMade setup before between moment done)
+    → IfErr answer (λ told. HasHeard setup before (marked_lent told before) between)
+    → (is_refused answer ≡ false → after ≡ between)
+    → IsQuiet 1 between after
+    → IsQuiet 1 before after
+IsQuiet-loan setup before between after moment done (Ok given) certain made heard same quiet =
+    subst (IsQuiet 1 before) (sym (same refl)) (IsQuiet-made setup before between certain moment done made)
+IsQuiet-loan setup before between after moment done (Err (loan_fault.Node told)) certain made heard same quiet =
+    IsQuiet-trans 0 1 before between after (IsQuiet-heard setup before between certain 0 told heard) quiet
+IsQuiet-loan setup before between after moment done (Err (loan_fault.Home conit most)) certain made heard same quiet =
+    IsQuiet-trans 0 1 before between after (IsQuiet-heard setup before between certain 0 fault.NoMemory heard) quiet
+IsQuiet-loan setup before between after moment done (Err (loan_fault.Free conit most)) certain made heard same quiet =
+    IsQuiet-trans 0 1 before between after (IsQuiet-heard setup before between certain 0 fault.NoMemory heard) quiet
+
+-- what its refusal tells
+pub IsLoanTold-heard : (setup : Setup) (before after : SessionView) (one : Loan) (answer : Result (Unit {0}) NodeLoanFault)
+    → IfErr answer (λ told. HasHeard setup before (marked_lent told before) after)
+    → IfErr answer (IsLoanFaultSeen setup after one)
+    → IsLoanTold answer after
+IsLoanTold-heard setup before after one (Ok given) heard seen = tt
+IsLoanTold-heard setup before after one (Err (loan_fault.Node told)) heard seen = IsTold-heard setup before after told heard seen
+IsLoanTold-heard setup before after one (Err (loan_fault.Home conit most)) heard seen = tt
+IsLoanTold-heard setup before after one (Err (loan_fault.Free conit most)) heard seen = tt
+
+-- A message that was sent, or refused: then the session went on, and else nothing more was done.
+module _ (setup : Setup) (before between after : SessionView) (moment to : ℕ) (certain : before.doubt ≡ false) where
+  pub IsQuiet-sent : (sent : Result ParcelView NodeFault)
+      → IfOk sent (λ (parcel : ParcelView). HasSent setup before between moment to parcel.message)
+      → IfErr sent (λ told. HasHeard setup before (marked_by told before) between)
+      → OnOk sent (after ≡ between)
+      → IsQuiet 1 between after
+      → IsQuiet 1 before after
+  IsQuiet-sent (Ok parcel) made heard same quiet =
+      subst (IsQuiet 1 before) (sym same) (IsQuiet-made setup before between certain moment (act.Send parcel.message) made.made)
+  IsQuiet-sent (Err told) made heard same quiet =
+      IsQuiet-trans 0 1 before between after (IsQuiet-heard setup before between certain 0 told heard) quiet

@@ -1,5 +1,6 @@
 -- Calls that wait, and the messages that follow them.
-use Rattle.std.proofs.Common.{◌≡◌, ◌⊎◌, ℕ, ◌<◌, ◌==◌, true, List, [], ◌∷◌, ◌++◌, IfSome, Option, Some, None, filter, length, drop, refl, sym, ap, ap₂, ◌∙◌, subst, inl, inr, ⊎_elim, arith}
+use Rattle.std.proofs.Common.{◌≡◌, ◌≢◌, ◌⊎◌, ℕ, ◌<◌, ◌==◌, true, List, [], ◌∷◌, ◌++◌, IfSome, Option, Some, None, filter, length, drop, refl, sym, ap, ap₂, ◌∙◌, subst, inl, inr, ⊎_elim, arith}
+use Rattle.std.specs.Prelude.{Err, IfOk, Ok, OnErr, OnOk, Result}
 use Rattle.std.proofs.lemmas.Bool.{eq-eqb}
 use Rattle.std.proofs.lemmas.List.{append_assoc, append_cancel_left, append_cancel_right, length-append, nil_from_length}
 use Rattle.std.proofs.lemmas.List.Elements.{filter-append}
@@ -14,14 +15,18 @@ use Rattle.run_model.specs.declared.entry.Act.TheVariants as act
 use Rattle.run_model.specs.declared.entry.Entry.{Entry}
 use Rattle.run_model.specs.declared.entry.Message.{Message}
 use Rattle.run_model.proofs.PrefixLemmas.{IsPrefix-trans}
-use Rattle.replica_lock.specs.Sessions.{HasCalled, HasSent, SessionView, call_after, entry_after, own_calls}
+use Rattle.locked_replica.specs.Parcels.{ParcelView}
+use Rattle.locked_replica.specs.declared.fault.NodeFault.{NodeFault}
+use Rattle.replica_lock.specs.Sessions.{HasCalled, HasSent, NodeView, SessionView, call_after, entry_after, own_calls}
+use Rattle.steady_node.specs.Answered.{IsAnswered}
+use Rattle.steady_node.specs.Going.{GoesOn, IsUnmarked}
+use Rattle.steady_node.proofs.Goings.{client-on, replica-on}
 use Rattle.run_work.specs.Holding.{IsQuiet}
 use Rattle.run_work.specs.Served.{IsSending, wish_in}
 use Rattle.run_work.specs.Serving.{AreHeededBut, HasSentTo, IsHeededBut, IsOther, Owes, owed_by}
 use Rattle.run_work.specs.Trying.{tried_by}
 use Rattle.run_work.specs.declared.trying.Tried.TheVariants.{Final}
-use Rattle.run_work.proofs.GoingOn.{client-later, replica-later}
-use Rattle.run_work.proofs.Wishes.{wish-called}
+use Rattle.run_work.proofs.Wishes.{wish-more}
 
 -- an element of two lists joined stands in the first or in the second
 pub split_cases : {A : Type 0} (xs ys front rest : List A) (x : A)
@@ -145,30 +150,21 @@ owed-tried (reply.WaitOrder conit replica tentative order) = refl
 owed-tried (reply.WaitStale conit replica moment wanted) = refl
 owed-tried (reply.NotHeld conit held amount) = refl
 
--- a session after a call
-pub Owes-called : (setup : Setup) (before after : SessionView) (moment : ℕ) (asked : Request) (given : Reply)
-    → IsSetup setup
-    → before.replica < setup.replicas
+-- what a session that heeded its calls owes after one more
+AreHeeded-called : (setup : Setup) (before after : SessionView) (moment : ℕ) (asked : Request) (given : Reply)
     → HasCalled setup before after moment asked given
-    → Owes setup (tried_by given) before after
-Owes-called setup before after moment asked given sound among called = record {
-  other = subst (λ (owed : Option ℕ). IfSome owed (IsOther setup before.replica)) (sym (owed-tried given)) (named (wish_of given) refl);
-  heeded = λ heeded.
-      subst (λ (s : SessionView). AreHeededBut (owed_by (tried_by given)) s.replica s.client after.seen) (sym called.counts)
-      (subst (λ (owed : Option ℕ). AreHeededBut owed before.replica before.client after.seen) (sym (owed-tried given))
-      (subst (AreHeededBut (wish_of given) before.replica before.client) (sym called.seen)
-      (AreHeeded-call before.replica before.client called.front call
-      (let told = called.told in
-      subst (AreHeededBut None before.replica before.client) (sym told.1)
-      (AreHeeded-on None before.replica before.client before.seen told.0 (none_new told) heeded)))));
-}
+    → IsHeededBut None before
+    → IsHeededBut (wish_of given) after
+AreHeeded-called setup before after moment asked given called heeded =
+    subst (λ (s : SessionView). AreHeededBut (wish_of given) s.replica s.client after.seen) (sym called.counts)
+    (subst (AreHeededBut (wish_of given) before.replica before.client) (sym called.seen)
+    (AreHeeded-call before.replica before.client called.front call
+    (let told = called.told in
+    subst (AreHeededBut None before.replica before.client) (sym told.1)
+    (AreHeeded-on None before.replica before.client before.seen told.0 (none_new told) heeded))))
   where
     call : Entry
     call = call_after before called.front moment asked given
-
-    named : (wish : Option ℕ) → wish_of given ≡ wish → IfSome wish (IsOther setup before.replica)
-    named None is = tt
-    named (Some to) is = wish-called setup before after moment asked given to sound among called is
 
     none_new : (told : IsPrefix before.seen called.front) → calls_of told.0 before.replica before.client ≡ []
     none_new told =
@@ -187,6 +183,35 @@ Owes-called setup before after moment asked given sound among called = record {
             (ap (λ (calls : List Entry). calls_of called.front before.replica before.client ++ calls) (sym (one_call call before.replica before.client refl (eq-eqb before.client before.client refl)))
             ∙ sym own_after ∙ called.calls)
 
+-- a session after a call that was answered
+pub Owes-answered : (node : NodeView) (before after : SessionView)
+    → IsSetup node.desk.setup
+    → before.replica < node.desk.setup.replicas
+    → (most : ℕ)
+    → GoesOn most before after
+    → (asked : Request) (given : Reply)
+    → IsAnswered node before after asked given
+    → Owes node.desk.setup (tried_by given) before after
+Owes-answered node before after sound among most on asked given answered = record {
+  other = subst (λ (owed : Option ℕ). IfSome owed (IsOther setup before.replica)) (sym (owed-tried given)) (named (wish_of given) refl);
+  heeded = λ unmarked heeded.
+      let called = answered.called unmarked in
+      subst (λ (owed : Option ℕ). IsHeededBut owed after) (sym (owed-tried given))
+      (AreHeeded-called setup before after called.0 asked given called.1 heeded);
+}
+  where
+    setup : Setup
+    setup = node.desk.setup
+
+    same : after.replica ≡ before.replica
+    same = replica-on most before after on
+
+    named : (wish : Option ℕ) → wish_of given ≡ wish → IfSome wish (IsOther setup before.replica)
+    named None is = tt
+    named (Some to) is =
+        subst (λ (replica : ℕ). (to < setup.replicas) × (to ≢ replica)) same
+        (wish-more setup before after asked given to sound (subst (λ (replica : ℕ). replica < setup.replicas) (sym same) among) answered.more is)
+
 -- a session that goes on without a call
 pub IsHeeded-quiet : (owed : Option ℕ) (most : ℕ) (before after : SessionView)
     → IsQuiet most before after
@@ -194,8 +219,8 @@ pub IsHeeded-quiet : (owed : Option ℕ) (most : ℕ) (before after : SessionVie
     → IsHeededBut owed after
 IsHeeded-quiet owed most before after quiet heeded =
     let told = quiet.later.told in
-    let replica = replica-later most before after quiet.later in
-    let client = client-later most before after quiet.later in
+    let replica = replica-on most before after quiet.later in
+    let client = client-on most before after quiet.later in
     let same : calls_of after.seen before.replica before.client ≡ own_calls before =
     ap₂ (λ (r c : ℕ). calls_of after.seen r c) (sym replica) (sym client) ∙ quiet.calls in
     subst (λ (r : ℕ). AreHeededBut owed r after.client after.seen) (sym replica)
@@ -206,7 +231,7 @@ IsHeeded-quiet owed most before after quiet heeded =
 
 -- so does a try that is no call, after which nothing is owed
 pub Owes-quiet : (setup : Setup) (most : ℕ) (before after : SessionView) → IsQuiet most before after → Owes setup Final before after
-Owes-quiet setup most before after quiet = record { other = tt; heeded = IsHeeded-quiet None most before after quiet }
+Owes-quiet setup most before after quiet = record { other = tt; heeded = λ unmarked heeded. IsHeeded-quiet None most before after quiet heeded }
 
 -- a message is sent behind all that the session had seen
 pub HasSentTo-sent : (setup : Setup) (before after : SessionView) (moment to : ℕ) (message : Message)
@@ -226,12 +251,23 @@ HasSentTo-sent setup before after moment to message sent = (
   sent.made.told,
 )
 
+-- so is one that was sent or refused, where the session isn't marked after a refusal
+pub HasSentTo-after : {E : Type 0} (setup : Setup) (before between after : SessionView) (moment to : ℕ) (sent : Result ParcelView NodeFault) (result : Result (Unit {0}) E)
+    → IfOk sent (λ (parcel : ParcelView). HasSent setup before between moment to parcel.message)
+    → OnOk sent (after ≡ between)
+    → OnErr sent (OnOk result (IsUnmarked after → ⊥))
+    → OnOk result (IsUnmarked after → HasSentTo to before after)
+HasSentTo-after setup before between after moment to sent (Err ending) made same marked = tt
+HasSentTo-after setup before between after moment to (Ok parcel) (Ok done) made same marked =
+    λ unmarked. subst (HasSentTo to before) (sym same) (HasSentTo-sent setup before between moment to parcel.message made)
+HasSentTo-after setup before between after moment to (Err told) (Ok done) made same marked = λ unmarked. absurd (marked unmarked)
+
 pub HasSentTo-later : (to most : ℕ) (before between after : SessionView)
     → IsQuiet most before between
     → HasSentTo to between after
     → HasSentTo to before after
 HasSentTo-later to most before between after quiet (sending, behind) =
-    subst (λ (r : ℕ). (sending : IsSending after.seen r to) × IsPrefix before.seen sending.before) (replica-later most before between quiet.later)
+    subst (λ (r : ℕ). (sending : IsSending after.seen r to) × IsPrefix before.seen sending.before) (replica-on most before between quiet.later)
     (sending, IsPrefix-trans before.seen between.seen sending.before quiet.later.told behind)
 
 -- then nothing is owed
@@ -252,10 +288,10 @@ IsHeeded-sent to most before after quiet (sending, behind) heeded front rest cal
     told = quiet.later.told
 
     replica : after.replica ≡ before.replica
-    replica = replica-later most before after quiet.later
+    replica = replica-on most before after quiet.later
 
     client : after.client ≡ before.client
-    client = client-later most before after quiet.later
+    client = client-on most before after quiet.later
 
     same : calls_of after.seen before.replica before.client ≡ own_calls before
     same = ap₂ (λ (r c : ℕ). calls_of after.seen r c) (sym replica) (sym client) ∙ quiet.calls

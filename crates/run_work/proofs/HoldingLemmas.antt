@@ -6,7 +6,7 @@ use Rattle.std.proofs.lemmas.Bool.{cases_eq, eq-eqb, ne_eqb}
 use Rattle.std.proofs.lemmas.List.Sums.{sum_by_push}
 use Rattle.tact_base.specs.declared.conit_list.Weight.{Weight}
 use Rattle.tact_base.specs.declared.write.Op.{Op}
-use Rattle.run_model.specs.Missing.{granted_by, reserved, used_by}
+use Rattle.run_model.specs.Missing.{granted_by, granted_on, reserved, used_by}
 use Rattle.run_model.specs.declared.call.Reply.{Reply}
 use Rattle.run_model.specs.declared.call.Reply.TheVariants as reply
 use Rattle.run_model.specs.declared.call.Request.{Request}
@@ -119,6 +119,20 @@ module _ (call : Entry) (client number : ℕ) where
 
     pub Moves-held_elsewhere : (conit : ℕ) → conit ≢ weight.conit → Moves conit 0 0 call
     Moves-held_elsewhere conit other = record { more_is = ap (granted_by conit) is; less_is = ap (used_by conit) is ∙ elsewhere conit weight.conit (unsigned_abs weight.nweight) other }
+
+-- A reserve that isn't granted moves nothing.
+refused_none : (conit at amount : ℕ) (given : Reply) → given ≢ reply.Granted → granted_on conit (request.Reserve at amount) given ≡ 0
+refused_none conit at amount reply.Granted refused = absurd (refused refl)
+refused_none conit at amount given refused = refl
+
+pub Moves-refused : (call : Entry) (client number at amount : ℕ) (given : Reply) (conit : ℕ)
+    → given ≢ reply.Granted
+    → call.act ≡ act.Call client number (request.Reserve at amount) given
+    → Moves conit 0 0 call
+Moves-refused call client number at amount given conit refused is = record {
+  more_is = ap (granted_by conit) is ∙ refused_none conit at amount given refused;
+  less_is = ap (used_by conit) is;
+}
 
 -- A write or a read moves nothing.
 pub Moves-plain : (call : Entry) (client number : ℕ) (asked : Request) (given : Reply) (conit : ℕ)

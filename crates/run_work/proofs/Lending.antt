@@ -1,7 +1,7 @@
 -- Loans that items ask for, and those that are made.
 use Rattle.std.proofs.Common.{◌≡◌, ◌⊎◌, ℕ, ◌+◌, ◌<◌, ◌≤◌, ◌==◌, ◌&&◌, Bool, true, false, List, [], ◌∷◌, ◌++◌, IfSome, Option, Some, None, filter, get_or, length, take, refl, sym, ap, ◌∙◌, subst, inl, inr, ⊎_elim, arith}
 use Rattle.std.specs.List.{filter_map}
-use Rattle.std.specs.Prelude.{IfErr, OnErr, OnOk, Result, Ok, Err}
+use Rattle.std.specs.Prelude.{IfErr, OnOk, Result, Ok, Err}
 use Rattle.std.proofs.lemmas.Bool.{and_parts, eq-eqb, eqb-true}
 use Rattle.std.proofs.lemmas.List.{length-append, take_all, take_more}
 use Rattle.std.proofs.lemmas.List.Elements.{filter-append, filter_map-append}
@@ -11,7 +11,7 @@ use Rattle.run_model.specs.declared.entry.Entry.{Entry}
 use Rattle.run_model.proofs.PrefixLemmas.{IsPrefix-refl, IsPrefix-trans}
 use Rattle.replica_lock.specs.Loans.{IsLoanFaultSeen}
 use Rattle.locked_replica.specs.Loans.{act_of}
-use Rattle.replica_lock.specs.Sessions.{HasHeard, HasMade, SessionView, entry_after}
+use Rattle.replica_lock.specs.Sessions.{HasHeard, HasMade, SessionView, entry_after, marked_lent}
 use Rattle.locked_replica.specs.declared.fault.NodeLoanFault.{NodeLoanFault}
 use Rattle.locked_replica.specs.declared.fault.NodeLoanFault.TheVariants as fault
 use Rattle.locked_replica.specs.declared.loan.Loan.{Loan}
@@ -20,7 +20,7 @@ use Rattle.work_load.specs.declared.plan.Item.{Item}
 use Rattle.work_load.specs.declared.plan.Item.TheVariants as item
 use Rattle.run_work.specs.Served.{AreLent, HasPassed, is_loan, loan_in, loan_of, loans_asked, loans_made, times}
 use Rattle.run_work.specs.Serving.{HasLent}
-use Rattle.run_work.specs.Trying.{loaned_by}
+use Rattle.run_work.specs.Trying.{is_refused}
 use Rattle.run_work.proofs.TryingLemmas.{HaveWaited}
 
 -- a loan is the same as itself, and as no other
@@ -241,16 +241,17 @@ no_loan tries item.Restart before after waited some = refl
 pub HasLent-none : (setup : Setup) (item : Item) (before after : SessionView) → loan_of item ≡ None → HasLent setup item before after
 HasLent-none setup item before after none = rw (none) tt
 
--- an item's loan after the call that asks for it
+-- an item's loan after the call that asks for it, where this made it or refused it for its amount
 pub HasLent-asked : (setup : Setup) (item : Item) (one : Loan) (before after : SessionView) (moment : ℕ) (answer : Result (Unit {0}) NodeLoanFault)
     → loan_of item ≡ Some one
     → OnOk answer (HasMade setup before after moment (act_of one))
-    → OnErr answer (HasHeard setup before before after)
+    → IfErr answer (λ told. HasHeard setup before (marked_lent told before) after)
     → IfErr answer (IsLoanFaultSeen setup after one)
-    → OnOk (loaned_by answer) (HasLent setup item before after)
-HasLent-asked setup item one before after moment (Ok done) is made heard seen = rw (is) (inl (made_more setup before after one moment made))
-HasLent-asked setup item one before after moment (Err (fault.Node why)) is made heard seen = tt
-HasLent-asked setup item one before after moment (Err (fault.Home conit most)) is made heard seen =
+    → is_refused answer ≡ false
+    → HasLent setup item before after
+HasLent-asked setup item one before after moment (Ok done) is made heard seen plain = rw (is) (inl (made_more setup before after one moment made))
+HasLent-asked setup item one before after moment (Err (fault.Node why)) is made heard seen plain = cc
+HasLent-asked setup item one before after moment (Err (fault.Home conit most)) is made heard seen plain =
     rw (is) (inr (refused setup before after one (fault.Home conit most) (ap (λ (s : SessionView). s.replica) heard.value) seen (λ why same. cc)))
-HasLent-asked setup item one before after moment (Err (fault.Free conit most)) is made heard seen =
+HasLent-asked setup item one before after moment (Err (fault.Free conit most)) is made heard seen plain =
     rw (is) (inr (refused setup before after one (fault.Free conit most) (ap (λ (s : SessionView). s.replica) heard.value) seen (λ why same. cc)))

@@ -1,5 +1,6 @@
 pub mod PlacingLemmas
 pub mod Closed
+pub mod Stopped
 pub mod Settled
 pub mod Leads
 pub mod RoundSteps
@@ -8,7 +9,6 @@ pub mod Puts
 pub mod RoundLoops
 pub mod LeadLoop
 pub mod Arriving
-pub mod Unmarked
 pub mod GoingOn
 pub mod HoldingLemmas
 pub mod TryingLemmas

@@ -1,6 +1,6 @@
 -- Restarts that items ask for, and those that are made; and what items ask for beside calls, loans and restarts together.
-use Rattle.std.proofs.Common.{◌≡◌, ℕ, ◌+◌, ◌<◌, ◌≤◌, ◌==◌, List, [], ◌∷◌, ◌++◌, filter, get_or, length, take, refl, ap, ◌∙◌, subst, arith}
-use Rattle.std.specs.Prelude.{IfErr, OnErr, OnOk, Result, Ok, Err, Some}
+use Rattle.std.proofs.Common.{◌≡◌, ℕ, ◌+◌, ◌<◌, ◌≤◌, ◌==◌, Bool, true, false, List, [], ◌∷◌, ◌++◌, filter, get_or, length, take, refl, sym, ap, ◌∙◌, subst, arith}
+use Rattle.std.specs.Prelude.{IfErr, OnOk, Result, Ok, Err, Some}
 use Rattle.std.proofs.lemmas.Bool.{eq-eqb}
 use Rattle.std.proofs.lemmas.List.{length-append, take_all, take_more}
 use Rattle.std.proofs.lemmas.List.Elements.{filter-append}
@@ -10,16 +10,16 @@ use Rattle.run_model.specs.declared.entry.Act.TheVariants as act
 use Rattle.run_model.specs.declared.entry.Entry.{Entry}
 use Rattle.locked_replica.specs.Loans.{act_of}
 use Rattle.locked_replica.specs.declared.fault.NodeLoanFault.{NodeLoanFault}
-use Rattle.locked_replica.specs.declared.fault.RestartFault.{RestartFault}
-use Rattle.locked_replica.specs.declared.fault.RestartFault.TheVariants as fault
 use Rattle.locked_replica.specs.declared.loan.Loan.{Loan}
 use Rattle.replica_lock.specs.Loans.{IsLoanFaultSeen}
-use Rattle.replica_lock.specs.Sessions.{HasHeard, HasMade, SessionView, entry_after}
+use Rattle.replica_lock.specs.Sessions.{HasHeard, HasMade, SessionView, entry_after, marked_lent}
+use Rattle.steady_node.specs.Going.{GoesOn, IsUnmarked}
+use Rattle.steady_node.proofs.Goings.{unmarked-before}
 use Rattle.work_load.specs.declared.plan.Item.{Item}
 use Rattle.work_load.specs.declared.plan.Item.TheVariants as item
 use Rattle.run_work.specs.Served.{AreObeyed, asks_restart, is_restart, loan_of, restarts_asked, restarts_made}
 use Rattle.run_work.specs.Serving.{HasLent, HasRestarted, IsObeyed}
-use Rattle.run_work.specs.Trying.{loaned_by, restarted_by}
+use Rattle.run_work.specs.Trying.{is_refused}
 use Rattle.run_work.proofs.Lending.{AreLent-all, AreLent-item, AreLent-none, AreLent-on, HasLent-around, HasLent-asked, HasLent-none, no_loan}
 use Rattle.run_work.proofs.TryingLemmas.{HaveWaited}
 
@@ -58,30 +58,31 @@ HasRestarted-made setup before after moment made =
       one_restart entry before.replica refl refl,
     )
 
-pub IsObeyed-restarted : (setup : Setup) (before after : SessionView) (moment : ℕ) (answer : Result (Unit {0}) RestartFault)
-    → OnOk answer (HasMade setup before after moment act.Restart)
-    → OnOk (restarted_by answer) (IsObeyed setup item.Restart before after)
-IsObeyed-restarted setup before after moment (Ok done) made = (tt, HasRestarted-made setup before after moment made)
-IsObeyed-restarted setup before after moment (Err fault.NoMemory) made = tt
-IsObeyed-restarted setup before after moment (Err (fault.Full count clock)) made = tt
-IsObeyed-restarted setup before after moment (Err fault.JournalFault) made = tt
-IsObeyed-restarted setup before after moment (Err fault.JournalReadFault) made = tt
-IsObeyed-restarted setup before after moment (Err (fault.Foreign place)) made = tt
+pub IsObeyed-restarted : (setup : Setup) (before after : SessionView) (moment : ℕ)
+    → HasMade setup before after moment act.Restart
+    → IsObeyed setup item.Restart before after
+IsObeyed-restarted setup before after moment made unmarked = (tt, HasRestarted-made setup before after moment made)
 
--- and so is a loan
-with_other : {A E : Type 0} (P Q : Type 0) (answer : Result A E) → Q → OnOk answer P → OnOk answer (P × Q)
-with_other P Q (Ok given) other holds = (holds, other)
-with_other P Q (Err fault) other holds = tt
-
-pub IsObeyed-lent : (setup : Setup) (item : Item) (one : Loan) (before after : SessionView) (moment : ℕ) (answer : Result (Unit {0}) NodeLoanFault)
+-- and so is a loan that the node made, or refused for its amount
+pub IsObeyed-lent : {A E : Type 0} (setup : Setup) (item : Item) (one : Loan) (before between after : SessionView) (moment : ℕ)
+    (answer : Result (Unit {0}) NodeLoanFault) (result : Result A E)
     → HasRestarted item before after
     → loan_of item ≡ Some one
-    → OnOk answer (HasMade setup before after moment (act_of one))
-    → OnErr answer (HasHeard setup before before after)
-    → IfErr answer (IsLoanFaultSeen setup after one)
-    → OnOk (loaned_by answer) (IsObeyed setup item before after)
-IsObeyed-lent setup item one before after moment answer none is made heard seen =
-    with_other (HasLent setup item before after) (HasRestarted item before after) (loaned_by answer) none (HasLent-asked setup item one before after moment answer is made heard seen)
+    → OnOk answer (HasMade setup before between moment (act_of one))
+    → IfErr answer (λ told. HasHeard setup before (marked_lent told before) between)
+    → IfErr answer (IsLoanFaultSeen setup between one)
+    → (is_refused answer ≡ false → after ≡ between)
+    → (is_refused answer ≡ true → OnOk result (IsUnmarked after → ⊥))
+    → OnOk result (IsObeyed setup item before after)
+IsObeyed-lent setup item one before between after moment answer (Err ending) none is made heard seen same marked = tt
+IsObeyed-lent setup item one before between after moment answer (Ok done) none is made heard seen same marked = go (is_refused answer) refl
+  where
+    go : (refused : Bool) → is_refused answer ≡ refused → IsObeyed setup item before after
+    go true refused unmarked = absurd (marked refused unmarked)
+    go false plain unmarked = (
+      subst (HasLent setup item before) (sym (same plain)) (HasLent-asked setup item one before between moment answer is made heard seen plain),
+      none,
+    )
 
 -- as many more are made as an item asks for
 restarts_more : (item : Item) (before after : SessionView)
@@ -111,14 +112,16 @@ module _ (setup : Setup) (items : List Item) (place : ℕ) (none : Item) (within
   abbrev here : Item
   here = get_or items place none
 
-  pub AreObeyed-item : IsObeyed setup here before after → AreObeyed setup before.replica (take (place + 1) items) after.seen
-  AreObeyed-item obeyed = record {
-    lent = AreLent-item setup items place none within before after told so_far.lent obeyed.0;
+  pub AreObeyed-item : HasLent setup here before after
+      → HasRestarted here before after
+      → AreObeyed setup before.replica (take (place + 1) items) after.seen
+  AreObeyed-item lent restarted = record {
+    lent = AreLent-item setup items place none within before after told so_far.lent lent;
     restarted =
         omega (
           arith,
           so_far.restarted,
-          restarts_more here before after told obeyed.1,
+          restarts_more here before after told restarted,
           ap restarts_asked (take_more items place none within),
           restarts_asked-more (take place items) here,
         );
@@ -143,7 +146,7 @@ AreObeyed-on setup replica items seen history told obeyed = record {
 }
 
 -- what is obeyed between two moments is obeyed around them
-module _ (before now tried after : SessionView) (first : IsPrefix before.seen now.seen) (third : IsPrefix tried.seen after.seen) (same : now.replica ≡ before.replica) where
+module _ (before now tried after : SessionView) (first : IsPrefix before.seen now.seen) (same : now.replica ≡ before.replica) (most : ℕ) (on : GoesOn most tried after) where
   around : restarts_made now.seen now.replica < restarts_made tried.seen now.replica
       → restarts_made before.seen before.replica < restarts_made after.seen before.replica
   around more =
@@ -151,7 +154,7 @@ module _ (before now tried after : SessionView) (first : IsPrefix before.seen no
         arith,
         subst (λ (r : ℕ). restarts_made now.seen r < restarts_made tried.seen r) same more,
         restarts-seen before.replica before.seen now.seen first,
-        restarts-seen before.replica tried.seen after.seen third,
+        restarts-seen before.replica tried.seen after.seen on.told,
       )
 
   HasRestarted-around : (item : Item) → HasRestarted item now tried → HasRestarted item before after
@@ -165,8 +168,9 @@ module _ (before now tried after : SessionView) (first : IsPrefix before.seen no
   HasRestarted-around (item.Back owner conit amount) more = tt
 
   pub IsObeyed-around : (setup : Setup) (item : Item) → IsPrefix now.seen tried.seen → IsObeyed setup item now tried → IsObeyed setup item before after
-  IsObeyed-around setup item second obeyed =
-      (HasLent-around setup item before now tried after first second third same obeyed.0, HasRestarted-around item obeyed.1)
+  IsObeyed-around setup item second obeyed unmarked =
+      let done = obeyed (unmarked-before most tried after on unmarked) in
+      (HasLent-around setup item before now tried after first second on.told same done.0, HasRestarted-around item done.1)
 
 -- an item whose tries wait asks for a call alone
 no_restart : (tries : ℕ) (item : Item) (calls after : List Entry) (before now : SessionView)
@@ -186,5 +190,5 @@ pub IsObeyed-waited : (setup : Setup) (tries : ℕ) (item : Item) (calls after :
     → HaveWaited tries item calls after
     → 0 < tries
     → IsObeyed setup item before now
-IsObeyed-waited setup tries item calls after before now waited some =
+IsObeyed-waited setup tries item calls after before now waited some unmarked =
     (HasLent-none setup item before now (no_loan tries item calls after waited some), no_restart tries item calls after before now waited some)

@@ -1,10 +1,11 @@
 -- A worker that takes and sends, which makes no call.
-use Rattle.std.proofs.Common.{◌≡◌, ℕ, ◌+◌, ◌<◌, ◌≤◌, refl, ap, ◌∙◌, ⊎_elim, arith}
+use Rattle.std.proofs.Common.{◌≡◌, ℕ, ◌+◌, ◌<◌, ◌≤◌, refl, sym, ap, ◌∙◌, subst, ⊎_elim, arith}
 use Rattle.std.proofs.lemmas.Bool.{cases_lt}
-use Rattle.replica_lock.specs.Sessions.{SessionView}
+use Rattle.replica_lock.specs.Sessions.{IsSessionOf, NodeView, SessionView}
+use Rattle.steady_node.specs.Going.{IsUnmarked}
 use Rattle.run_work.specs.Holding.{IsQuiet}
 use Rattle.run_work.specs.Working.{WorkerView}
-use Rattle.run_work.proofs.GoingOn.{IsQuiet-same, IsQuiet-trans, IsQuiet-weaker}
+use Rattle.run_work.proofs.GoingOn.{IsQuiet-marked, IsQuiet-same, IsQuiet-trans, IsQuiet-weaker, IsSessionOf-quiet}
 
 -- a worker with another session
 abbrev pub with_session : WorkerView → SessionView → WorkerView
@@ -33,6 +34,26 @@ pub IsTending-weaker : (before : WorkerView) (few most : ℕ) (now : WorkerView)
     → IsTending before few now
     → IsTending before most now
 IsTending-weaker before few most now less tending = record { same = tending.same; quiet = IsQuiet-weaker few most before.session now.session less tending.quiet }
+
+-- it may still be asked at its node
+pub IsSessionOf-tending : (before : WorkerView) (most : ℕ) (now : WorkerView)
+    → IsTending before most now
+    → IsSessionOf before.node before.session
+    → IsSessionOf now.node now.session
+IsSessionOf-tending before most now tending of =
+    subst (λ (node : NodeView). IsSessionOf node now.session) (sym (ap (λ (w : WorkerView). w.node) tending.same))
+    (IsSessionOf-quiet before.node most before.session now.session tending.quiet of)
+
+-- where it is marked after one more entry, no count of them is known
+pub IsTending-marked : (before : WorkerView) (few more most : ℕ) (now after : WorkerView)
+    → IsTending before few now
+    → after ≡ with_session now after.session
+    → IsQuiet more now.session after.session
+    → (IsUnmarked after.session → ⊥)
+    → IsTending before most after
+IsTending-marked before few more most now after tending same quiet marked =
+    let more_so = IsTending-more before few more now after tending same quiet in
+    record { same = more_so.same; quiet = IsQuiet-marked (few + more) most before.session after.session marked more_so.quiet }
 
 -- after a message to each replica below one, at most, and none to its own
 pub record IsSending (before : WorkerView) (to : ℕ) (now : WorkerView) : Type 0 where

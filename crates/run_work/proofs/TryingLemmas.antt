@@ -10,7 +10,6 @@ use Rattle.tact_base.specs.declared.conit_list.Weight.{Weight}
 use Rattle.tact_base.specs.declared.write.Op.{Op}
 use Rattle.anti_entropy.specs.Wishes.{wish_of}
 use Rattle.run_model.specs.Call.{is_waiting}
-use Rattle.run_model.specs.Histories.{moment_at, part_of}
 use Rattle.run_model.specs.Missing.{granted_on, used_on, reserved}
 use Rattle.run_model.specs.declared.call.Reply.{Reply}
 use Rattle.run_model.specs.declared.call.Reply.TheVariants as reply
@@ -20,39 +19,37 @@ use Rattle.run_model.specs.declared.entry.Act.{Act}
 use Rattle.run_model.specs.declared.entry.Act.TheVariants as act
 use Rattle.run_model.specs.declared.entry.Entry.{Entry}
 use Rattle.run_model.proofs.PrefixLemmas.{right_cases}
-use Rattle.work_load.specs.Attempts.{AreCallsFor, AreTries, AreWaitingFor, IsWaitingFor, asked, asked_with, waits}
+use Rattle.work_load.specs.Attempts.{AreCallsFor, AreTries, AreWaitingFor, Asks, IsWaitingFor, asked, asked_with, waits}
 use Rattle.work_load.specs.declared.plan.Item.{Item}
 use Rattle.work_load.specs.declared.plan.Item.TheVariants as item
-use Rattle.replica_lock.specs.Sessions.{HasCalled, SessionView, call_after, own_calls}
+use Rattle.replica_lock.specs.Sessions.{SessionView, own_calls}
+use Rattle.steady_node.specs.Settled.{HasCallMore}
 use Rattle.run_work.specs.Trying.{HasAsked, HasDone, HasTried, HasWaited, IsTry, tried_by}
 use Rattle.run_work.specs.declared.trying.Tried.{Tried}
 use Rattle.run_work.specs.declared.trying.Tried.TheVariants.{Final, Waiting}
 use Rattle.run_work.proofs.HoldingLemmas.{Moves, reserved-same}
 
 -- one call with its reply is a try of what it asked for
-pub IsTry-called : (replica moment client number : ℕ) (wanted : Request) (given : Reply)
-    → IsTry (Some wanted) (tried_by given)
-    ((let call : Entry = record { replica = replica; moment = moment; act = act.Call client number wanted given } in call) ∷ [])
-IsTry-called replica moment client number wanted given = go (is_waiting given) refl
+pub IsTry-call : (call : Entry) (client number : ℕ) (wanted : Request) (given : Reply)
+    → call.act ≡ act.Call client number wanted given
+    → IsTry (Some wanted) (tried_by given) (call ∷ [])
+IsTry-call call client number wanted given is = go (is_waiting given) refl
   where
-    call : Entry
-    call = record { replica = replica; moment = moment; act = act.Call client number wanted given }
+    asks : Asks wanted call.act
+    asks = subst (Asks wanted) (sym is) refl
 
     go : (yes : Bool)
         → is_waiting given ≡ yes
         → IsTry (Some wanted) (cond yes (Waiting (wish_of given)) Final) (call ∷ [])
-    go true is = (call, refl, (refl, is))
-    go false is = (call, refl, refl, is)
+    go true same = (call, refl, (asks, ap waits is ∙ same))
+    go false same = (call, refl, asks, ap waits is ∙ same)
 
--- so is a call of a session
-pub HasAsked-called : (setup : Setup) (before after : SessionView) (moment : ℕ) (wanted : Request) (given : Reply)
-    → HasCalled setup before after moment wanted given
+-- so is a further call of a session
+pub HasAsked-more : (setup : Setup) (before after : SessionView) (wanted : Request) (given : Reply)
+    → HasCallMore setup before after wanted given
     → HasAsked wanted (tried_by given) (own_calls before) (own_calls after)
-HasAsked-called setup before after moment wanted given called = (
-  call_after before called.front moment wanted given ∷ [],
-  called.calls,
-  IsTry-called before.replica (moment_at (part_of called.front before.replica) moment) before.client before.calls wanted given,
-)
+HasAsked-more setup before after wanted given more =
+    (more.entry ∷ [], more.calls, IsTry-call more.entry before.client more.number wanted given more.act_is)
 
 -- what is asked for where an item asks for it
 pub HasTried-asked : (item : Item) (wanted : Request) (tried : Tried) (before after : List Entry)

@@ -1,9 +1,10 @@
 -- The replica that a due reply names as what it waits for is another one of the setup.
-use Rattle.std.proofs.Common.{◌≡◌, ◌≢◌, ℕ, ◌<◌, ◌≤◌, nat_lt, false, List, [], ◌∷◌, flat_map, All, Some, sym, ap, ◌∙◌, subst, arith}
-use Rattle.std.proofs.lemmas.Bool.{le-ltb}
-use Rattle.std.proofs.lemmas.List.Elements.{All-weaker}
+use Rattle.std.proofs.Common.{◌≡◌, ◌≢◌, ℕ, ◌<◌, ◌≤◌, ◌==◌, nat_lt, true, false, List, [], ◌∷◌, ◌++◌, flat_map, All, Contains, Some, sym, ap, ◌∙◌, subst, ⊎_elim, arith}
+use Rattle.std.proofs.lemmas.Bool.{eqb-true, le-ltb}
+use Rattle.std.proofs.lemmas.List.Elements.{All-contains, All-weaker, Contains-push, filter_passes}
 use Rattle.std.proofs.lemmas.List.Sorted.{All-permutation}
 use Rattle.std.proofs.lemmas.Option.{same_Some}
+use Rattle.tact_base.proofs.ElementLemmas.{Contains-cases, Contains-from_filter, Contains-none}
 use Rattle.tact_base.proofs.ListLemmas.{All-flat_map, filter_none}
 use Rattle.tact_base.proofs.OrderLemmas.{IsPermutation-in_order}
 use Rattle.tact_base.proofs.SetupLemmas.{HasCounts-from_IsSetup}
@@ -13,14 +14,15 @@ use Rattle.tact_base.specs.WriteOrder.{in_order}
 use Rattle.tact_base.specs.declared.write.Cover.{Cover}
 use Rattle.tact_base.specs.declared.write.Write.{Write}
 use Rattle.anti_entropy.specs.Wishes.{wish_of}
-use Rattle.run_model.specs.Histories.{moment_at, part_of}
+use Rattle.run_model.specs.Histories.{is_call_of, part_of}
 use Rattle.run_model.specs.Order.{point, seen, tentative}
 use Rattle.run_model.specs.Replies.{reply_of}
-use Rattle.run_model.specs.Runs.{IsRun}
+use Rattle.run_model.specs.Runs.{IsActDue, IsRun}
 use Rattle.run_model.specs.Taking.{clock, cover_of, log_of}
 use Rattle.run_model.specs.declared.call.Reply.{Reply}
 use Rattle.run_model.specs.declared.call.Reply.TheVariants as reply
 use Rattle.run_model.specs.declared.call.Request.{Request}
+use Rattle.run_model.specs.declared.entry.Act.TheVariants as act
 use Rattle.run_model.specs.declared.entry.Entry.{Entry}
 use Rattle.run_model.proofs.RunInduction.{IsRun-prefix}
 use Rattle.run_model.proofs.Sound.{Sound}
@@ -28,7 +30,8 @@ use Rattle.run_model.proofs.SoundRuns.{Sound-run}
 use Rattle.run_model.proofs.SoundViews.{Sound-stamps, cover_of-same}
 use Rattle.replica_core.specs.Calling.{NamesCause}
 use Rattle.replica_core.proofs.Causes.{reply_names_cause}
-use Rattle.replica_lock.specs.Sessions.{HasCalled, SessionView, call_after}
+use Rattle.replica_lock.specs.Sessions.{SessionView, own_calls}
+use Rattle.steady_node.specs.Settled.{HasCallMore}
 
 -- a replica of a history, and its part there
 module _ (setup : Setup) (history : List Entry) (replica : ℕ) (sound : Sound setup history) where
@@ -85,7 +88,7 @@ module _ (setup : Setup) (history : List Entry) (replica : ℕ) (sound : Sound s
   named-other moment asked (reply.NotHeld conit held weight) to cause is = cc
 
 -- the replica that a due reply names as what it waits for is another one of the setup
-pub wish-other : (setup : Setup) (history : List Entry) (replica moment : ℕ) (asked : Request) (to : ℕ)
+wish-other : (setup : Setup) (history : List Entry) (replica moment : ℕ) (asked : Request) (to : ℕ)
     → IsSetup setup
     → replica < setup.replicas
     → IsRun setup history
@@ -95,16 +98,48 @@ wish-other setup history replica moment asked to is_setup among run =
     named-other setup history replica (Sound-run setup history run) moment asked (reply_of setup replica (part_of history replica) moment asked) to
     (reply_names_cause setup replica (part_of history replica) moment among (HasCounts-from_IsSetup setup is_setup).replicas_low asked)
 
--- so is the one that a session's call waits for
-pub wish-called : (setup : Setup) (before after : SessionView) (moment : ℕ) (asked : Request) (given : Reply) (to : ℕ)
+-- an element stands between others
+stands_in : {A : Type 0} (xs : List A) (x : A) → Contains xs x → (front : List A) × (rest : List A) × (xs ≡ front ++ x ∷ rest)
+stands_in [] x among = absurd (Contains-none x among)
+stands_in {A} (first ∷ xs) x among =
+    ⊎_elim
+    (λ (here : first ≡ x). ([], xs, ap (λ (y : A). y ∷ xs) here))
+    (λ (later : Contains xs x).
+    let found = stands_in xs x later in
+    (first ∷ found.0, found.1, ap (λ (list : List A). first ∷ list) found.2))
+    (Contains-cases first x xs among)
+
+-- so is the one that a call of a run waits for
+wish-among : (setup : Setup) (history front rest : List Entry) (call : Entry) (client number : ℕ) (asked : Request) (given : Reply) (to : ℕ)
     → IsSetup setup
-    → before.replica < setup.replicas
-    → HasCalled setup before after moment asked given
+    → call.replica < setup.replicas
+    → IsRun setup history
+    → history ≡ front ++ call ∷ rest
+    → call.act ≡ act.Call client number asked given
     → wish_of given ≡ Some to
-    → (to < setup.replicas) × (to ≢ before.replica)
-wish-called setup before after moment asked given to is_setup among called is =
-    let front = called.front in
-    let run : IsRun setup front =
-    IsRun-prefix setup front after.seen (call_after before front moment asked given ∷ [], called.seen) called.run in
-    wish-other setup front before.replica (moment_at (part_of front before.replica) moment) asked to is_setup among run
-    (subst (λ (reply : Reply). wish_of reply ≡ Some to) called.due is)
+    → (to < setup.replicas) × (to ≢ call.replica)
+wish-among setup history front rest call client number asked given to is_setup among run stands is names =
+    let due = subst (IsActDue setup call.replica (part_of front call.replica) call.moment) is (run front rest call stands).due.act in
+    wish-other setup front call.replica call.moment asked to is_setup among (IsRun-prefix setup front history (call ∷ rest, stands) run)
+    (subst (λ (reply : Reply). wish_of reply ≡ Some to) due.1 names)
+
+-- and the one that a further call of a session waits for
+pub wish-more : (setup : Setup) (before after : SessionView) (asked : Request) (given : Reply) (to : ℕ)
+    → IsSetup setup
+    → after.replica < setup.replicas
+    → HasCallMore setup before after asked given
+    → wish_of given ≡ Some to
+    → (to < setup.replicas) × (to ≢ after.replica)
+wish-more setup before after asked given to is_setup among more names =
+    let own = λ (entry : Entry). is_call_of after.client entry.act in
+    let here = λ (entry : Entry). entry.replica == after.replica in
+    let in_part : Contains (part_of after.seen after.replica) more.entry =
+    Contains-from_filter own (part_of after.seen after.replica) more.entry
+    (subst (λ (calls : List Entry). Contains calls more.entry) (sym more.calls) (Contains-push (own_calls before) more.entry)) in
+    let at : more.entry.replica ≡ after.replica =
+    eqb-true more.entry.replica after.replica
+    (All-contains (λ (entry : Entry). entry.replica == after.replica ≡ true) (part_of after.seen after.replica) more.entry (filter_passes here after.seen) in_part) in
+    let found = stands_in after.seen more.entry (Contains-from_filter here after.seen more.entry in_part) in
+    subst (λ (replica : ℕ). (to < setup.replicas) × (to ≢ replica)) at
+    (wish-among setup after.seen found.0 found.1 more.entry before.client more.number asked given to is_setup
+    (subst (λ (replica : ℕ). replica < setup.replicas) (sym at) among) more.run found.2 more.act_is names)

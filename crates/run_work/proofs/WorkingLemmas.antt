@@ -10,6 +10,8 @@ use Rattle.work_load.specs.Attempts.{AreBegunFor, AreWaitingFor, Attempts, Begun
 use Rattle.work_load.specs.declared.plan.Item.{Item}
 use Rattle.work_load.proofs.AttemptLemmas.{attempts-push}
 use Rattle.replica_lock.specs.Sessions.{SessionView, own_calls}
+use Rattle.steady_node.specs.Going.{GoesOn}
+use Rattle.steady_node.proofs.Goings.{unmarked-before}
 use Rattle.run_work.specs.Trying.{HasBegun, HasDone, HasWaited}
 use Rattle.run_work.specs.Working.{IsBusyFor}
 
@@ -71,16 +73,17 @@ Attempts-all tries items place calls past so_far =
 
 -- of each try at most 24 entries were made, and each but the last is a call
 pub IsBusyFor-tried : (before after : SessionView) (tries : ℕ)
-    → after.made ≤ before.made + 24 * (tries + 1)
+    → GoesOn (24 * (tries + 1)) before after
     → length (own_calls before) + tries ≤ length (own_calls after)
     → (count : ℕ)
     → IsBusyFor count before
     → IsBusyFor (count + 1) after
-IsBusyFor-tried before after tries made calls count busy =
-    go (length (own_calls before)) (length (own_calls after)) calls busy
+IsBusyFor-tried before after tries on calls count busy unmarked =
+    go (length (own_calls before)) (length (own_calls after)) calls (busy (unmarked-before (24 * (tries + 1)) before after on unmarked)) (on.few unmarked)
   where
     go : (was now : ℕ)
         → was + tries ≤ now
         → before.made ≤ 24 * (count + was)
+        → after.made ≤ before.made + 24 * (tries + 1)
         → after.made ≤ 24 * ((count + 1) + now)
-    go was now more busy = omega (arith, more, busy, made)
+    go was now more busy made = omega (arith, more, busy, made)

@@ -5,6 +5,7 @@ ghost use Rattle.link_faults.specs.Plans.{no_faults};
 ghost use Rattle.run_history.specs.Seats.{fresh_clerks};
 ghost use Rattle.replica_lock.specs.Rosters.{IsRosterOf};
 ghost use Rattle.replica_lock.specs.Sessions.{IsSessionOf, NodeView, own_calls};
+ghost use Rattle.steady_node.specs.Going.{IsUnmarked};
 ghost use Rattle.work_load.specs.Entries.{EachAfter};
 ghost use Rattle.work_load.specs.Ranges.{IsClientAfter, IsItemOf};
 ghost use Rattle.run_work.specs.Ends.{AreEnds, AreKeys, HaveRosters, IsNewEnd};
@@ -237,6 +238,7 @@ pub(crate) fn session_of<J: Journal, G: Gate>(
     requires free { Contains roster.old.clients client → ⊥ }
     ensures session { IfOk result (λ session. IsSessionOf node.now session × (session.client ≡ client)) }
     ensures fresh { IfOk result (λ session. (own_calls session ≡ []) × (session.made ≡ 0)) }
+    ensures unmarked { IfOk result IsUnmarked }
     ensures roster { OnOk result (roster.new ≡ record roster.old { clients = roster.old.clients ++ client ∷ [] }) }
     ensures err { OnErr result (roster.new ≡ roster.old) }
 {

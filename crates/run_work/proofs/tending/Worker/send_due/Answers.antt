@@ -2,8 +2,8 @@ use Rattle.std.proofs.Common.{◌≡◌, sym, ap, ◌∙◌}
 use Rattle.run_work.specs.Working.{WorkerView}
 use Rattle.run_work.proofs.GoingOn.{replica-later}
 use Rattle.run_work.proofs.TendingLoop.{IsSending-more, IsSending-own}
-use Rattle.run_work.proofs.worker.Worker.send_due.Goals as goal
-use Rattle.run_work.proofs.worker.Worker.send_due.Goals.{then-to-replica+in_ok-send_if_due, else-to-replica}
+use Rattle.run_work.proofs.tending.Worker.send_due.Goals as goal
+use Rattle.run_work.proofs.tending.Worker.send_due.Goals.{then-to-replica+in_ok-send_if_due, else-to-replica}
 
 pub loop-to-preserved : goal.loop-to-preserved
 loop-to-preserved g c =

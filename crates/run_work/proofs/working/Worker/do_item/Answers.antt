@@ -6,8 +6,8 @@ use Rattle.run_work.specs.Trying.{HasBegun, HasDone, HasTried}
 use Rattle.run_work.specs.Working.{WorkerView}
 use Rattle.run_work.specs.Serving.{IsObeyed, Owes}
 use Rattle.run_work.proofs.TryingLoop.{HasBegun-most, HasBegun-now, HasDone-now, HasDone-try, IsHeeded-more, IsHeeded-try, IsObeyed-tries, IsObeyed-try, IsSameBut-session, IsTrying-more}
-use Rattle.run_work.proofs.worker.Worker.do_item.Goals as goal
-use Rattle.run_work.proofs.worker.Worker.do_item.Goals.{After-tend}
+use Rattle.run_work.proofs.working.Worker.do_item.Goals as goal
+use Rattle.run_work.proofs.working.Worker.do_item.Goals.{After-tend}
 
 -- what holds anyway holds where a result is an error, and where it is none
 on_err : {A E P : Type 0} (answer : Result A E) → P → OnErr answer P

@@ -5,7 +5,7 @@ use Rattle.run_work.specs.Serving.{IsObeyed}
 use Rattle.run_work.specs.Trying.{HasBegun, HasDone}
 use Rattle.run_work.specs.Working.{HasWorked, IsWorker, WorkerView}
 use Rattle.run_work.proofs.WorkingLoop.{HasWorked-all, HasWorked-fault, IsWorking-more, IsWorking-start}
-use Rattle.run_work.proofs.worker.Worker.work.Goals as goal
+use Rattle.run_work.proofs.working.Worker.work.Goals as goal
 
 pub returns-in-Err-clause-worked : goal.returns-in-Err-clause-worked
 returns-in-Err-clause-worked g c sites fresh =

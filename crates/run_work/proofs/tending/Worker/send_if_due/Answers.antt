@@ -1,7 +1,7 @@
 use Rattle.run_work.proofs.GoingOn.{IsQuiet-heard, IsQuiet-made}
 use Rattle.run_work.proofs.Staying.{IsWorker-quiet}
 use Rattle.run_work.proofs.Unmarked.{heard_marked}
-use Rattle.run_work.proofs.worker.Worker.send_if_due.Goals as goal
+use Rattle.run_work.proofs.tending.Worker.send_if_due.Goals as goal
 
 pub invariant_of-self : goal.invariant_of-self
 invariant_of-self g c =

@@ -4,7 +4,7 @@ use Rattle.replica_lock.specs.Sessions.{SessionView}
 use Rattle.run_work.specs.Holding.{IsQuiet}
 use Rattle.run_work.specs.Serving.{HasSentTo}
 use Rattle.run_work.proofs.Heeding.{HasSentTo-later}
-use Rattle.run_work.proofs.worker.Worker.tend.Goals as goal
+use Rattle.run_work.proofs.tending.Worker.tend.Goals as goal
 
 -- what is sent after what was taken is sent after all that was seen before
 sent_later : {A E : Type 0} (answer : Result A E) (wish : Option ℕ) (to most : ℕ) (before between after : SessionView)

@@ -1,7 +1,7 @@
 use Rattle.run_work.proofs.GoingOn.{IsQuiet-either}
 use Rattle.run_work.proofs.Staying.{IsWorker-quiet}
 use Rattle.run_work.proofs.Unmarked.{heard_taken}
-use Rattle.run_work.proofs.worker.Worker.take.Goals as goal
+use Rattle.run_work.proofs.tending.Worker.take.Goals as goal
 
 pub invariant_of-self : goal.invariant_of-self
 invariant_of-self g c =

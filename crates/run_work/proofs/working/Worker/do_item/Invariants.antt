@@ -1,7 +1,7 @@
 use Rattle.std.proofs.Common.{None}
 use Rattle.run_work.specs.Serving.{IsHeededBut}
 use Rattle.run_work.proofs.TryingLoop.{IsTrying}
-use Rattle.run_work.proofs.worker.Worker.do_item.Given as goal
+use Rattle.run_work.proofs.working.Worker.do_item.Given as goal
 
 abbrev pub invariant-loop-tried : goal.invariant-loop-tried
 invariant-loop-tried g l =

@@ -1,6 +1,6 @@
 use Rattle.run_work.proofs.GoingOn.{IsQuiet-made}
 use Rattle.run_work.proofs.Heeding.{HasSentTo-sent}
-use Rattle.run_work.proofs.worker.Worker.send_to.Goals as goal
+use Rattle.run_work.proofs.tending.Worker.send_to.Goals as goal
 
 pub returns-in_err-put-clause-quiet : goal.returns-in_err-put-clause-quiet
 returns-in_err-put-clause-quiet g c = rw (← c.self.view_is) (IsQuiet-made _ _ _ _ _ c.self.invariant.session.certain c.in_ok-parcel.ensures.sent.made)
