@@ -1,5 +1,6 @@
 -- How a run's parts fit together at its end: the replicas when the workers have left, and the clerks when the nodes have.
 use Rattle.std.proofs.Common.{◌≡◌, ◌≢◌, ◌⊎◌, ℕ, ◌<◌, zero, suc, Bool, true, false, List, [], ◌∷◌, All, IfOk, IfSome, OnOk, Option, Some, None, Result, Ok, Err, Vec, get_or, length, map, set, refl, sym, ap, ◌∙◌, subst, inl, inr, ⊎_elim, arith}
+use Rattle.std.specs.Option.{is_some}
 use Rattle.std.specs.Vec.{with_item, with_items}
 use Rattle.std.proofs.lemmas.Bool.{false≢true}
 use Rattle.std.proofs.lemmas.List.{get_or-map, length-set, with_items_is}

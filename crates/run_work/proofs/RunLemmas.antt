@@ -29,12 +29,13 @@ use Rattle.work_load.specs.declared.plan.Item.{Item}
 use Rattle.run_work.specs.Ends.{AreDrawn, HaveDrawn, HaveEnded, HasNoted, LosesNone, noted_calls}
 use Rattle.run_work.specs.Finished.{HasFinished, IsFaultOf, IsHeard, IsStopHeard, fault_for}
 use Rattle.run_work.specs.Runs.{ArePutBack, IsDoneRun, IsFullRun, IsRunOf, IsStoppedRun}
-use Rattle.run_work.specs.Shelves.{IsStored, IsSure, ShelfEnd}
+use Rattle.run_work.specs.Shelves.{IsOpenFault, IsStored, IsSure, ShelfEnd}
 use Rattle.run_work.specs.Stops.{IsStopBy, is_failure}
 use Rattle.run_work.specs.declared.closing.Drawn.{Drawn}
 use Rattle.run_work.specs.declared.leaving.Stop.{Stop}
 use Rattle.run_work.specs.declared.run.Finished.{Finished}
 use Rattle.run_work.specs.declared.run.RunFault.{RunFault}
+use Rattle.run_work.specs.declared.run.RunFault.TheVariants as fault
 use Rattle.run_work.proofs.Closed.{calls_of-none, calls_of-stored, entries_of-drawn, part_of-full, part_of-none}
 use Rattle.run_work.proofs.Ending.{each_at}
 use Rattle.run_work.proofs.Noted.{is_of-itself, noted_calls-none}
@@ -313,3 +314,12 @@ clerks_are desk drawn are = λ replica below.
     let within : replica < length drawn.clerks.items = omega (arith, below, are.count) in
     let there = map_at (λ (clerk : ClerkView). clerk.replica) drawn.clerks.items replica none replica within in
     (replica, there.0, there.1 ∙ are.replica_is replica none within)
+
+-- a run that didn't begin, or had to end
+pub stopped_open : (shelf : ShelfEnd) (plan : Workload) (tries : ℕ) (told : RunFault)
+    → IsOpenFault shelf.before shelf.after told
+    → IsStoppedRun shelf plan tries told
+stopped_open shelf plan tries (fault.JournalFault replica) is = is
+stopped_open shelf plan tries fault.NoMemory is = tt
+stopped_open shelf plan tries (fault.Full replica count clock run) is = absurd is
+stopped_open shelf plan tries (fault.JournalForeign replica place) is = absurd is

@@ -39,12 +39,16 @@ pub record IsReady (worker : WorkerView) : Type 0 where
   pub session : IsSessionOf worker.node worker.session
   pub held : Holds worker.node (own_calls worker.session) worker.allowances
 
+-- where the last call of a session is lost, it marked that the journal failed
+abbrev pub IsMarkedLost : SessionView → Ending → Type 0
+IsMarkedLost session ending = ending.lost ≡ true → session.faults ≢ 0
+
 -- Why a worker ends. Where its last call isn't lost, the session isn't in doubt; where it is, the session marked that the
 -- journal failed.
 pub record IsEnding (tells : Bool) (session : SessionView) (ending : Ending) : Type 0 where
   pub cause : IsCause tells session ending.fault
   pub certain : ending.lost ≡ false → session.doubt ≡ false
-  pub marked : ending.lost ≡ true → session.faults ≢ 0
+  pub marked : IsMarkedLost session ending
 
 -- why it does where no call is lost
 

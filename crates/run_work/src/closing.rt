@@ -126,6 +126,7 @@ where
             unreachable!()
         };
         let Ended { clerk, journal, .. } = node.end(rt, roster);
-        shelf.put_back(clerk.replica(), journal);
+        let replica = clerk.replica();
+        shelf.put_back(replica, journal);
     }
 }
