@@ -1,8 +1,9 @@
 -- Sessions that come back to the ends of their nodes: what holds of all sessions, and the rosters.
-use Rattle.std.proofs.Common.{◌≡◌, ℕ, ◌<◌, List, [], ◌∷◌, ◌++◌, All, get_or, length, refl, sym, ap, ◌∙◌, subst, ⊎_elim, arith}
+use Rattle.std.proofs.Common.{◌≡◌, ℕ, ◌<◌, zero, suc, List, [], ◌∷◌, ◌++◌, All, get_or, length, map, set, refl, sym, ap, ◌∙◌, subst, ⊎_elim, arith}
 use Rattle.std.proofs.lemmas.Bool.{cases_eq}
 use Rattle.std.proofs.lemmas.List.Elements.{All-head, All-push}
 use Rattle.tact_base.proofs.ListLemmas.{All-append_left, All-append_right}
+use Rattle.replica_lock.specs.Rosters.{RosterView}
 use Rattle.replica_lock.specs.Sessions.{SessionView}
 use Rattle.run_work.specs.Ends.{HasCome}
 use Rattle.run_work.specs.declared.seat.End.{End}
@@ -39,3 +40,11 @@ module _ (P : SessionView → Type 0) (session : SessionView) (at : ℕ) (before
       (All-push P (get_or before place none).sessions.items session was one))
       (λ (other : place ≡ at → ⊥). subst (λ (end : End). All P end.sessions.items) (sym (come.others place none other)) was)
       (cases_eq place at)
+
+-- rosters stay where one end keeps its own
+pub rosters_set : (ends : List End) (at : ℕ) (d new : End)
+    → new.roster ≡ (get_or ends at d).roster
+    → map (λ (end : End). end.roster) (set ends at new) ≡ map (λ (end : End). end.roster) ends
+rosters_set [] at d new same = refl
+rosters_set (first ∷ rest) zero d new same = ap (λ (roster : RosterView). roster ∷ map (λ (end : End). end.roster) rest) same
+rosters_set (first ∷ rest) (suc at) d new same = ap (λ (rosters : List RosterView). first.roster ∷ rosters) (rosters_set rest at d new same)

@@ -1,5 +1,5 @@
 -- What nodes leave when they end.
-use Rattle.std.proofs.Common.{◌≡◌, ℕ, ◌+◌, ◌<◌, ◌⊎◌, inl, inr, Bool, false, List, [], ◌∷◌, ◌++◌, All, Contains, drop, length, get_or, map, refl, sym, ap, ◌∙◌, subst, ⊎_elim, arith}
+use Rattle.std.proofs.Common.{◌≡◌, ℕ, ◌+◌, ◌<◌, ◌≤◌, ◌⊎◌, inl, inr, Bool, false, List, [], ◌∷◌, ◌++◌, All, Contains, drop, length, get_or, map, refl, sym, ap, ◌∙◌, subst, ⊎_elim, arith}
 use Rattle.std.specs.List.{list_any}
 use Rattle.std.specs.Prelude.{IsTrue, sum_by}
 use Rattle.std.proofs.lemmas.Bool.{cases_eq, cases_lt, false_from_ne_true}
@@ -7,7 +7,7 @@ use Rattle.std.proofs.lemmas.List.{append-nil, drop-drop, get_or-drop, get_or_ap
 use Rattle.std.proofs.lemmas.List.Elements.{All-cons, All-head, All-nil, All-tail}
 use Rattle.std.proofs.lemmas.List.Sums.{sum_by-cons, sum_by-le}
 use Rattle.tact_base.proofs.ElementLemmas.{Contains-cases, Contains-first, Contains-later, Contains-none}
-use Rattle.tact_base.specs.declared.limits.TheConstants.{CLIENTS}
+use Rattle.tact_base.specs.declared.limits.TheConstants.{CLIENTS, REPLICAS_MAX}
 use Rattle.run_model.specs.Histories.{calls_in}
 use Rattle.run_model.specs.declared.entry.Entry.{Entry}
 use Rattle.run_history.specs.Seats.{ClerkView, DeskView, NoteView}
@@ -18,7 +18,7 @@ use Rattle.steady_node.specs.Going.{IsUnmarked}
 use Rattle.work_load.specs.Clients.{is_of}
 use Rattle.work_load.specs.declared.plan.Client.{Client}
 use Rattle.run_work.specs.Ends.{AreCertain, AreDrawn, AreWhole, HaveDrawn, IsWhole, noted_calls}
-use Rattle.run_work.specs.Sites.{IsNodeAt}
+use Rattle.run_work.specs.Sites.{AreNumbered, IsNodeAt}
 use Rattle.run_work.specs.declared.closing.Drawn.{Drawn}
 use Rattle.run_work.specs.declared.seat.End.{End}
 use Rattle.run_work.proofs.Noted.{among-is_of, noted_calls-none}
@@ -217,7 +217,7 @@ pub AreDrawn-left : (desk : DeskView) (nodes : List NodeView) (ends : List End) 
     → AreDrawn desk drawn
 AreDrawn-left desk nodes ends drawn size count replicas at parts left =
     let each : (replica : ℕ) (none : ClerkView) → replica < length drawn.clerks.items
-        → ((get_or drawn.clerks.items replica none).table ≡ desk.table) × ((get_or drawn.clerks.items replica none).replica ≡ replica) =
+    → ((get_or drawn.clerks.items replica none).table ≡ desk.table) × ((get_or drawn.clerks.items replica none).replica ≡ replica) =
     λ replica none within.
     let inside : replica < length nodes = omega (arith, size, within) in
     let node : NodeView = some_of nodes replica inside in
@@ -246,3 +246,30 @@ HaveDrawn-left clients notes nodes ends drawn size whole left certain = λ repli
     let end : End = some_of ends replica there in
     calls_drawn clients notes replica (get_or nodes replica node) (get_or ends replica end) (entries_of (get_or drawn.clerks.items replica none).pairs)
     (whole.each replica node end there) (certain replica end there) (left replica node end none within).sessions number below
+
+-- a clerk is that of the replica of its place
+pub numbered_left : (nodes before after : List NodeView) (ends : List End) (clerks : List ClerkView)
+    → before ++ after ≡ nodes
+    → AreNumbered nodes
+    → length clerks ≡ length before
+    → AreLeft before ends clerks
+    → length before ≤ length ends
+    → (replica : ℕ) (none : ClerkView) → replica < length clerks
+    → (get_or clerks replica none).replica ≡ replica
+numbered_left nodes before after ends clerks whole numbered size left enough replica none within =
+    let inside : replica < length before = omega (arith, size, within) in
+    let node : NodeView = some_of before replica inside in
+    let end : End = some_of ends replica (omega (arith, inside, enough)) in
+    let here : replica < length nodes = omega (arith, inside, ap length whole, length-append before after) in
+    let stands : get_or nodes replica node ≡ get_or before replica node =
+    ap (λ (all : List NodeView). get_or all replica node) (sym whole) ∙ get_or_append_left before after node replica inside in
+    (left replica node end none within).replica ∙ ap (λ (n : NodeView). n.replica) (sym stands) ∙ numbered.number replica node here
+
+-- the node at a place has its number
+pub number_at : (nodes before after : List NodeView) (node : NodeView)
+    → before ++ node ∷ after ≡ nodes
+    → AreNumbered nodes
+    → (node.replica ≡ length before) × (length before < REPLICAS_MAX)
+number_at nodes before after node whole numbered =
+    let inside : length before < length nodes = count_at before node after nodes whole in
+    (ap (λ (n : NodeView). n.replica) (sym (stands_at before node after nodes node whole)) ∙ numbered.number (length before) node inside, omega (arith, inside, numbered.few))

@@ -25,6 +25,7 @@ use Rattle.run_work.specs.Holding.{IsQuiet}
 use Rattle.run_work.specs.Served.{IsSending, wish_in}
 use Rattle.run_work.specs.Serving.{AreHeededBut, HasSentTo, IsHeededBut, IsOther, Owes, owed_by}
 use Rattle.run_work.specs.Trying.{tried_by}
+use Rattle.run_work.specs.declared.trying.Tried.{Tried}
 use Rattle.run_work.specs.declared.trying.Tried.TheVariants.{Final}
 use Rattle.run_work.proofs.Wishes.{wish-more}
 
@@ -232,6 +233,13 @@ IsHeeded-quiet owed most before after quiet heeded =
 -- so does a try that is no call, after which nothing is owed
 pub Owes-quiet : (setup : Setup) (most : ℕ) (before after : SessionView) → IsQuiet most before after → Owes setup Final before after
 Owes-quiet setup most before after quiet = record { other = tt; heeded = λ unmarked heeded. IsHeeded-quiet None most before after quiet heeded }
+
+pub Owes-none : {E : Type 0} (answer : Result Tried E) (setup : Setup) (most : ℕ) (before after : SessionView)
+    → IfOk answer (λ tried. tried ≡ Final)
+    → IsQuiet most before after
+    → IfOk answer (λ tried. Owes setup tried before after)
+Owes-none (Ok tried) setup most before after final quiet = subst (λ (t : Tried). Owes setup t before after) (sym final) (Owes-quiet setup most before after quiet)
+Owes-none (Err ending) setup most before after final quiet = tt
 
 -- a message is sent behind all that the session had seen
 pub HasSentTo-sent : (setup : Setup) (before after : SessionView) (moment to : ℕ) (message : Message)

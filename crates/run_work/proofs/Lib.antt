@@ -30,7 +30,7 @@ pub mod Ended
 pub mod Zips
 pub mod Reach
 pub mod Stopping
-pub mod Leaving
+pub mod LeaveLoop
 pub mod Opening
 pub mod Shelving
 pub mod Finishing

@@ -13,7 +13,9 @@ use Rattle.replica_lock.specs.Rosters.{AreAllSessions}
 use Rattle.replica_lock.specs.Sessions.{SessionView}
 use Rattle.steady_node.specs.Going.{IsUnmarked}
 use Rattle.run_work.specs.Ends.{AreFaultless, AreUnmarked, IsFaultlessEnd, IsUnmarkedEnd}
-use Rattle.run_work.specs.Shelves.{HaveHeld, IsStored}
+use Rattle.run_work.specs.Shelves.{HaveHeld, IsOpenFault, IsStored}
+use Rattle.run_work.specs.declared.run.RunFault.{RunFault}
+use Rattle.run_work.specs.declared.run.RunFault.TheVariants as fault
 use Rattle.run_work.specs.declared.seat.End.{End}
 use Rattle.run_work.proofs.Ended.{faultless_of, unmarked_of}
 
@@ -30,6 +32,18 @@ HasRisen-on first before after last one two three (inr end) =
     (λ (less : first < last). inl less)
     (λ (most : last ≤ first). inr (omega (arith, one, two, three, end, most)))
     (cases_lt first last)
+
+-- and what is told of it stays told
+pub IsOpenFault-on : (first before after last : ℕ) (told : RunFault)
+    → first ≤ before
+    → before ≤ after
+    → after ≤ last
+    → IsOpenFault before after told
+    → IsOpenFault first last told
+IsOpenFault-on first before after last (fault.JournalFault replica) one two three risen = HasRisen-on first before after last one two three risen
+IsOpenFault-on first before after last fault.NoMemory one two three is = tt
+IsOpenFault-on first before after last (fault.Full replica count clock run) one two three is = is
+IsOpenFault-on first before after last (fault.JournalForeign replica place) one two three is = is
 
 -- the pieces that a journal has which counted no fault are those of what its clerk drew
 pub pieces_of : (tells : Bool) (pieces : List (List ℕ)) (stored : ℕ → Option (List (List ℕ))) (replica : ℕ) (part : List Entry)

@@ -6,7 +6,7 @@ use Rattle.run_model.specs.declared.call.Reply.{Reply}
 use Rattle.run_model.specs.declared.call.Request.{Request}
 use Rattle.run_model.specs.declared.entry.Entry.{Entry}
 use Rattle.replica_lock.specs.Allowances.{AllowanceView}
-use Rattle.replica_lock.specs.Sessions.{SessionView, own_calls}
+use Rattle.replica_lock.specs.Sessions.{IsAtNode, SessionView, own_calls}
 use Rattle.steady_node.specs.Answered.{IsAnswered}
 use Rattle.steady_node.specs.Going.{GoesOn}
 use Rattle.steady_node.proofs.Goings.{IsAtNode-on, client-on}
@@ -39,6 +39,17 @@ module _ (desk : DeskView) (worker : WorkerView) (kept : IsWorker desk worker) (
     at = IsAtNode-on worker.node most worker.session after on kept.at;
     number = client-on most worker.session after on ∙ kept.number;
   }
+
+-- it is ready after a call that was answered, with what the client then holds
+pub IsReady-answered : (worker : WorkerView) (after : SessionView) (allowances : List AllowanceView) (asked : Request) (given : Reply)
+    → IsAtNode worker.node after
+    → IsAnswered worker.node worker.session after asked given
+    → Holds worker.node (own_calls after) allowances
+    → IsReady (record worker { session = after; allowances = allowances })
+IsReady-answered worker after allowances asked given at answered holds = record {
+  session = record { at = at; certain = answered.certain };
+  held = holds;
+}
 
 -- it stays ready where no call was made
 pub IsReady-quiet : (worker after : WorkerView) (most : ℕ)

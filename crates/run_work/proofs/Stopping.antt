@@ -15,7 +15,7 @@ use Rattle.work_load.specs.Attempts.{Attempts, Begun}
 use Rattle.work_load.proofs.AttemptLemmas.{Begun-from_Attempts}
 use Rattle.run_work.proofs.Zips.{AllZip-join, AllZip-less}
 use Rattle.work_load.specs.declared.plan.Client.{Client}
-use Rattle.run_work.specs.Ends.{HasNoted, HaveEnded, HaveServed, IsKept, IsStop, first_of, is_before, note_of, stop_of, stop_with}
+use Rattle.run_work.specs.Ends.{HasNoted, HaveEnded, HaveServed, LosesNone, IsStop, first_of, is_before, note_of, stop_of, stop_with}
 use Rattle.run_work.specs.Serving.{IsClientServed}
 use Rattle.run_work.specs.Sites.{AreSites, SitesView}
 use Rattle.run_work.specs.Stops.{IsFailed, IsStopBy, is_failure}
@@ -32,7 +32,7 @@ IsBegun tries client note = HasNoted (Begun tries client.items) client note
 -- who has done all has begun
 have_begun : (tries : ℕ) (clients : List Client) (notes : List NoteView) (stop : Option Stop)
     → HaveEnded tries clients notes stop
-    → IsKept stop
+    → LosesNone stop
     → AllZip (IsBegun tries) clients notes
 have_begun tries clients notes None ended kept =
     AllZip-less (IsDone tries) (IsBegun tries) clients notes (λ client note done. Begun-from_Attempts tries client.items (calls_of note.seen client.replica client.client) done) ended
@@ -55,7 +55,7 @@ chosen P false one other p q = q
 IsKeptIn : Stop → Type 0
 IsKeptIn stop = stop.ending.lost ≡ false
 
-first_kept : (before : Option Stop) (other : Stop) → (first_of before other).ending.lost ≡ false → IsKept before × (other.ending.lost ≡ false)
+first_kept : (before : Option Stop) (other : Stop) → (first_of before other).ending.lost ≡ false → LosesNone before × (other.ending.lost ≡ false)
 first_kept None other kept = (tt, kept)
 first_kept (Some one) other kept = go one.ending.lost refl other.ending.lost refl
   where
@@ -77,14 +77,14 @@ first_kept (Some one) other kept = go one.ending.lost refl other.ending.lost ref
 pub kept_before : (tells : Bool) (tries : ℕ) (worker : WorkerView) (before after : Option Stop)
     → HasLeftOff tells tries worker.client worker.session worker.end
     → after ≡ stop_with worker worker.end before
-    → IsKept after
-    → IsKept before × (worker.session.doubt ≡ false)
-kept_before tells tries worker before after has is kept = go worker.end has (subst IsKept is kept)
+    → LosesNone after
+    → LosesNone before × (worker.session.doubt ≡ false)
+kept_before tells tries worker before after has is kept = go worker.end has (subst LosesNone is kept)
   where
     go : (end : Option Ending)
         → HasLeftOff tells tries worker.client worker.session end
-        → IsKept (stop_with worker end before)
-        → IsKept before × (worker.session.doubt ≡ false)
+        → LosesNone (stop_with worker end before)
+        → LosesNone before × (worker.session.doubt ≡ false)
     go None has kept = (kept, has.0)
     go (Some ending) has kept =
         let both = first_kept before (stop_of worker ending) kept in

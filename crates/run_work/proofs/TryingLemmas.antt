@@ -1,6 +1,6 @@
 -- What the tries of an item make of a client's calls.
-use Rattle.std.proofs.Common.{◌≡◌, ◌⊎◌, ℕ, ◌+◌, ◌<◌, ◌≤◌, Bool, true, false, cond, List, [], ◌∷◌, ◌++◌, length, All, Option, Some, None, refl, sym, ap, ◌∙◌, subst, inl, inr, arith}
-use Rattle.std.specs.Prelude.{unsigned_abs}
+use Rattle.std.proofs.Common.{◌≡◌, ◌⊎◌, ℕ, ◌+◌, ◌<◌, ◌≤◌, Bool, true, false, cond, List, [], ◌∷◌, ◌++◌, length, All, Option, Some, None, refl, sym, ap, ◌∙◌, subst, subst₂, inl, inr, arith}
+use Rattle.std.specs.Prelude.{Err, IfOk, Ok, Result, unsigned_abs}
 use Rattle.std.proofs.lemmas.Bool.{le-leb, lt-leb}
 use Rattle.std.proofs.lemmas.List.{append-nil, append_assoc, length-append}
 use Rattle.std.proofs.lemmas.List.Elements.{All-head, All-nil, All-push}
@@ -57,6 +57,16 @@ pub HasTried-asked : (item : Item) (wanted : Request) (tried : Tried) (before af
     → HasAsked wanted tried before after
     → HasTried item tried before after
 HasTried-asked item wanted tried before after is (calls, all, try) = (calls, all, subst (λ w. IsTry w tried calls) (sym is) try)
+
+-- an item that asks for no call is tried by none
+pub HasTried-none : {E : Type 0} (answer : Result Tried E) (item : Item) (before after : List Entry)
+    → asked before item ≡ None
+    → IfOk answer (λ tried. tried ≡ Final)
+    → after ≡ before
+    → IfOk answer (λ tried. HasTried item tried before after)
+HasTried-none (Ok tried) item before after none final same =
+    ([], same ∙ sym (append-nil before), subst₂ (λ (wanted : Option Request) (t : Tried). IsTry wanted t []) (sym none) (sym final) refl)
+HasTried-none (Err ending) item before after none final same = tt
 
 -- what a held item asks for
 pub asked-held : (calls : List Entry) (weight : Weight) (op : Op)

@@ -113,8 +113,8 @@ abbrev pub IsKeptStop : Bool → DeskView → Type 0 → Stop → Type 0
 IsKeptStop tells desk Faultless stop = IsStop tells desk Faultless stop × (stop.ending.lost ≡ false)
 
 -- no call is lost where a run stopped, if it did
-abbrev pub IsKept : Option Stop → Type 0
-IsKept stop = IfSome stop (λ stop. stop.ending.lost ≡ false)
+abbrev pub LosesNone : Option Stop → Type 0
+LosesNone stop = IfSome stop (λ stop. stop.ending.lost ≡ false)
 
 -- what a worker's session has seen, and where its worker stopped
 abbrev pub note_of : WorkerView → NoteView

@@ -11,7 +11,7 @@ use Rattle.locked_replica.specs.declared.fault.RestartFault.TheVariants as resta
 use Rattle.steady_node.specs.declared.ending.Ending.{Ending}
 use Rattle.work_load.specs.Attempts.{settling}
 use Rattle.work_load.specs.Workloads.{Workload}
-use Rattle.run_work.specs.Ends.{AreDrawn, AreFew, HaveDrawn, HaveEnded, HaveServed, IsKept}
+use Rattle.run_work.specs.Ends.{AreDrawn, AreFew, HaveDrawn, HaveEnded, HaveServed, LosesNone}
 use Rattle.run_work.specs.Settling.{HasMet}
 use Rattle.run_work.specs.Shelves.{IsStored, IsSure, ShelfEnd}
 use Rattle.run_work.specs.Stops.{IsFailed, IsStopBy}
@@ -55,13 +55,13 @@ pub record HaveAllMet (plan : Workload) (notes : List NoteView) (clerks : List C
 pub record HasFinished (shelf : ShelfEnd) (plan : Workload) (tries : ℕ) (desk : DeskView) (finished : Finished) : Type 0 where
   pub notes : List NoteView
   pub drawn : AreDrawn desk finished.drawn
-  pub counted : IsKept finished.stop → HaveDrawn plan.clients notes finished.drawn
+  pub counted : LosesNone finished.stop → HaveDrawn plan.clients notes finished.drawn
   pub heard : All (IsHeard finished.drawn.clerks.items) notes
   pub ended : HaveEnded tries plan.clients notes finished.stop
   pub stop : IfSome finished.stop (IsStopHeard shelf finished.drawn.clerks.items)
   pub served : IsSure shelf → HaveServed desk.setup plan.clients notes finished.stop
   pub met : IsSure shelf → finished.stop ≡ None → plan.settle ≢ 0 → HaveAllMet plan notes finished.drawn.clerks.items
-  pub few : IsSure shelf → IsKept finished.stop → AreFew plan.clients (settling plan.settle) finished.drawn.clerks.items
+  pub few : IsSure shelf → LosesNone finished.stop → AreFew plan.clients (settling plan.settle) finished.drawn.clerks.items
   pub pieces : IsSure shelf → (replica : ℕ) (none : ClerkView) → replica < length finished.drawn.clerks.items
       → IsStored shelf.stored replica (entries_of (get_or finished.drawn.clerks.items replica none).pairs)
 

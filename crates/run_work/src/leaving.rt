@@ -1,6 +1,6 @@
 //! What the workers leave when all have ended.
 ghost use Rattle.std.specs.Prelude.{◌≡◌, ◌<◌, ◌++◌, ◌∷◌, [], All, IfOk, IfSome, OnOk, length, map, Some};
-ghost use Rattle.run_work.specs.Ends.{AreBusy, AreCertain, AreEnds, AreFaultless, AreUnmarked, HasCome, HaveEnded, HaveServed, IsKept, IsStop, first_of, first_stop, note_of, is_before, stop_with};
+ghost use Rattle.run_work.specs.Ends.{AreBusy, AreCertain, AreEnds, AreFaultless, AreUnmarked, HasCome, HaveEnded, HaveServed, LosesNone, IsStop, first_of, first_stop, note_of, is_before, stop_with};
 ghost use Rattle.run_work.specs.Working.{HasWorked};
 ghost use Rattle.work_load.specs.Entries.{EachAfter};
 ghost use Rattle.work_load.specs.Ranges.{IsClientAfter};
@@ -45,7 +45,7 @@ pub(crate) fn leave_all<J: Journal, G: Gate>(
     ensures ends { IfOk result (λ left. AreEnds (map (λ worker. worker.client) workers.entry.items) (map (λ worker. worker.client) workers.entry.items) left.notes.items sites.now ends.new) }
     ensures ended { IfOk result (λ left. HaveEnded tries (map (λ worker. worker.client) workers.entry.items) left.notes.items left.stop) }
     ensures served { IfOk result (λ left. AreUnmarked ends.new → HaveServed sites.now.desk.setup (map (λ worker. worker.client) workers.entry.items) left.notes.items left.stop) }
-    ensures certain { IfOk result (λ left. IsKept left.stop → AreCertain ends.new) }
+    ensures certain { IfOk result (λ left. LosesNone left.stop → AreCertain ends.new) }
     ensures notes { IfOk result (λ left. All (λ note. note.table ≡ sites.now.desk.table) left.notes.items) }
     ensures count { IfOk result (λ left. length left.notes.items ≡ length workers.entry.items) }
     ensures stop { IfOk result (λ left. IfSome left.stop (IsStop J.tells sites.now.desk (AreFaultless ends.new))) }

@@ -5,7 +5,7 @@ ghost use Rattle.run_history.specs.Seats.{fresh_clerks, NoteView};
 ghost use Rattle.work_load.specs.Attempts.{settling as settled_most};
 ghost use Rattle.work_load.specs.Workloads.{IsWorkload};
 ghost use Rattle.work_load.specs.declared.plan.Client.{Client};
-ghost use Rattle.run_work.specs.Ends.{AreBusy, AreCertain, AreEnds, AreFaultless, AreUnmarked, AreWhole, HaveEnded, HaveRosters, HaveServed, IsKept, IsStop};
+ghost use Rattle.run_work.specs.Ends.{AreBusy, AreCertain, AreEnds, AreFaultless, AreUnmarked, AreWhole, HaveEnded, HaveRosters, HaveServed, LosesNone, IsStop};
 ghost use Rattle.run_work.specs.Finished.{HasFinished, IsFaultOf, fault_by};
 ghost use Rattle.run_work.specs.Runs.{IsDoneRun, IsStoppedRun};
 ghost use Rattle.run_work.specs.Settling.{AreSettled, HaveMet, IsSettling};
@@ -75,9 +75,14 @@ pub enum RunFault {
     },
     /// The journal of this replica failed, or of its shelf, and what was asked for last wasn't found out. Or the replica is
     /// full, and a call of its client was lost before.
-    JournalFault { replica: u32 },
+    JournalFault {
+        replica: u32,
+    },
     /// The journal of this replica gave another piece at this place than the one that was appended there.
-    JournalForeign { replica: u32, place: u64 },
+    JournalForeign {
+        replica: u32,
+        place: u64,
+    },
     /// An allocation was refused.
     NoMemory,
 }
@@ -140,7 +145,9 @@ where
     ensures never_falls { B.faults shelf.old ≤ B.faults shelf.new }
 {
     let (desk, clerks) = Desk::new(alloc, plan.config())?;
-    let Finished { drawn, stop } = run_on(rt, alloc, &desk, plan, clerks, tries, clock, gate, shelf)?;
+    let Finished { drawn, stop } = run_on(
+        rt, alloc, &desk, plan, clerks, tries, clock, gate, shelf,
+    )?;
     let history = desk.close(drawn.clerks);
     let entries = in_order(alloc, &history, drawn.parts)?;
     end_run(Run { history, entries }, stop)
@@ -153,9 +160,13 @@ fn end_run(run: Run, stop: Option<Stop>) -> Result<Run, RunFault>
 {
     match stop {
         None => Ok(run),
-        Some(Stop {
-            replica, ending, ..
-        }) => Err(fault_of(replica, ending, run)),
+        Some(
+            Stop {
+                replica,
+                ending,
+                ..
+            },
+        ) => Err(fault_of(replica, ending, run)),
     }
 }
 
@@ -205,19 +216,14 @@ where
         mut ends,
         keys,
     } = open(rt, alloc, desk, plan, clerks, gate, shelf)?;
-    let left = work_all(
-        rt,
-        alloc,
-        &sites,
-        ends.as_mut_slice(),
-        plan,
-        tries,
-        clock,
-    );
+    let left = work_all(rt, alloc, &sites, ends.as_mut_slice(), plan, tries, clock);
     stand(&sites);
     let Sites { nodes, inboxes, .. } = sites;
-    let inboxes = end_inboxes(rt, alloc, inboxes, keys);
-    let (Ok(Left { notes, stop }), Ok(inboxes)) = (left, inboxes) else {
+    let Ok(Left { notes, stop }) = left else {
+        give_up(rt, nodes, ends, shelf);
+        return Err(RunFault::NoMemory);
+    };
+    let Ok(inboxes) = end_inboxes(rt, alloc, inboxes, keys) else {
         give_up(rt, nodes, ends, shelf);
         return Err(RunFault::NoMemory);
     };
@@ -229,8 +235,13 @@ where
         inboxes,
         stop,
     };
-    let Settled { nodes, ends, stop } =
-        settle_after(rt, clock, unsettled, plan.settle(), &mut note);
+    let Settled { nodes, ends, stop } = settle_after(
+        rt,
+        clock,
+        unsettled,
+        plan.settle(),
+        &mut note,
+    );
     let Ok(mut stop) = stop else {
         give_up(rt, nodes, ends, shelf);
         return Err(RunFault::NoMemory);
@@ -251,7 +262,7 @@ fn settle_after<'d, 'g, R: Wait, C: Clock, J: Journal + Drop, G: Gate>(
     requires whole { (clients : List Client) × (noted : List NoteView) × AreWhole clients noted unsettled.nodes.items unsettled.ends.items }
     requires numbered { AreNumbered unsettled.nodes.items }
     requires settling { unsettled.stop ≡ None → IsSettling (record { desk = unsettled.desk.now; nodes = unsettled.nodes.items; ends = unsettled.ends.items; inboxes = unsettled.inboxes.items }) }
-    requires certain { IsKept unsettled.stop → AreCertain unsettled.ends.items }
+    requires certain { LosesNone unsettled.stop → AreCertain unsettled.ends.items }
     requires note { note.old.table ≡ unsettled.desk.now.table }
     requires stop { IfSome unsettled.stop (IsStop J.tells unsettled.desk.now (AreFaultless unsettled.ends.items)) }
     ensures note { (note.new.table ≡ note.old.table) × IsPrefix note.old.seen note.new.seen }
@@ -260,7 +271,7 @@ fn settle_after<'d, 'g, R: Wait, C: Clock, J: Journal + Drop, G: Gate>(
     ensures met { IfOk result.stop (λ stop. stop ≡ None → rounds ≢ 0 → AreUnmarked result.ends.items → HaveMet (record { desk = unsettled.entry.desk.now; nodes = unsettled.entry.nodes.items; ends = unsettled.entry.ends.items; inboxes = unsettled.entry.inboxes.items }) note.old.seen note.new.seen) }
     ensures settled { OnOk result.stop (AreSettled (record { desk = unsettled.entry.desk.now; nodes = unsettled.entry.nodes.items; ends = unsettled.entry.ends.items; inboxes = unsettled.entry.inboxes.items }) (record { desk = unsettled.entry.desk.now; nodes = result.nodes.items; ends = result.ends.items; inboxes = unsettled.entry.inboxes.items })) }
     ensures stop { IfOk result.stop (λ stop. IfSome stop (IsStop J.tells unsettled.entry.desk.now (AreFaultless result.ends.items))) }
-    ensures kept { IfOk result.stop (λ stop. IsKept stop → AreCertain result.ends.items) }
+    ensures kept { IfOk result.stop (λ stop. LosesNone stop → AreCertain result.ends.items) }
     ensures first { IfOk result.stop (λ stop. stop ≡ None → unsettled.entry.stop ≡ None) }
     ensures ended { (tries : ℕ) (clients : List Client) (noted : List NoteView)
         → HaveEnded tries clients noted unsettled.entry.stop → IfOk result.stop (HaveEnded tries clients noted) }
@@ -350,7 +361,7 @@ fn work_all<R: Threads + Wait + Sync, C: Clock + Sync, J: Journal + Drop + Send,
     ensures ends { IfOk result (λ left. AreEnds plan.now.clients plan.now.clients left.notes.items sites.now ends.new) }
     ensures ended { IfOk result (λ left. HaveEnded tries plan.now.clients left.notes.items left.stop) }
     ensures served { IfOk result (λ left. AreUnmarked ends.new → HaveServed sites.now.desk.setup plan.now.clients left.notes.items left.stop) }
-    ensures certain { IfOk result (λ left. IsKept left.stop → AreCertain ends.new) }
+    ensures certain { IfOk result (λ left. LosesNone left.stop → AreCertain ends.new) }
     ensures notes { IfOk result (λ left. All (λ note. note.table ≡ sites.now.desk.table) left.notes.items) }
     ensures count { IfOk result (λ left. length left.notes.items ≡ length plan.now.clients) }
     ensures stop { IfOk result (λ left. IfSome left.stop (IsStop J.tells sites.now.desk (AreFaultless ends.new))) }

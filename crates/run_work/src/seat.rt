@@ -1,6 +1,6 @@
 //! How a run begins: its nodes and inboxes, and a worker for each client.
 ghost use Rattle.std.specs.Prelude.{◌≡◌, ◌<◌, ◌≤◌, ◌++◌, ◌∷◌, [], map, All, Contains, IfErr, IfOk, OnErr, OnOk, get_or};
-ghost use Rattle.tact_base.specs.declared.limits.TheConstants.{CLIENTS};
+ghost use Rattle.tact_base.specs.declared.limits.TheConstants.{CLIENTS, REPLICAS_MAX};
 ghost use Rattle.link_faults.specs.Plans.{no_faults};
 ghost use Rattle.run_history.specs.Seats.{fresh_clerks};
 ghost use Rattle.replica_lock.specs.Rosters.{IsRosterOf};
@@ -75,18 +75,21 @@ where
     ensures fault { IfErr result (IsOpenFault (B.faults shelf.old) (B.faults shelf.new)) }
 {
     let count = clerks.len();
+    let conits = plan.config().conits();
     let mut nodes = room_for(alloc, count)?;
     let mut inboxes = room_for(alloc, count)?;
     let mut ends = room_for(alloc, count)?;
     let mut keys = room_for(alloc, count)?;
     for clerk in clerks {
         match open_at(alloc, desk, plan, clerk, gate, shelf) {
-            Ok(Place {
-                node,
-                inbox,
-                end,
-                key,
-            }) => {
+            Ok(
+                Place {
+                    node,
+                    inbox,
+                    end,
+                    key,
+                },
+            ) => {
                 put(&mut nodes, node);
                 put(&mut inboxes, inbox);
                 put(&mut ends, end);
@@ -101,7 +104,7 @@ where
     Ok(Opened {
         sites: Sites {
             desk,
-            conits: plan.config().conits(),
+            conits,
             nodes,
             inboxes,
         },
@@ -123,11 +126,12 @@ where
     B::J: Drop,
     requires setup { desk.now.setup ≡ plan.now.setup }
     requires replica { clerk.replica < plan.now.setup.replicas }
+    requires few { clerk.replica < REPLICAS_MAX }
     requires clerk { clerk.table ≡ desk.now.table }
     requires drawn { clerk.pairs ≡ [] }
-    ensures node { IfOk result (λ place. IsNodeAt desk.now clerk.entry.replica place.node) }
-    ensures inbox { IfOk result (λ place. IsInboxAt desk.now clerk.entry.replica place.inbox) }
-    ensures plan { IfOk result (λ place. place.inbox.plan ≡ get_or plan.now.links clerk.entry.replica no_faults) }
+    ensures node { IfOk result (λ place. IsNodeAt desk.now clerk.replica place.node) }
+    ensures inbox { IfOk result (λ place. IsInboxAt desk.now clerk.replica place.inbox) }
+    ensures plan { IfOk result (λ place. place.inbox.plan ≡ get_or plan.now.links clerk.replica no_faults) }
     ensures end { IfOk result (λ place. IsNewEnd place.node place.end) }
     ensures key { IfOk result (λ place. place.key ≡ place.inbox.cell) }
     ensures never_falls { B.faults shelf.old ≤ B.faults shelf.new }

@@ -1,4 +1,4 @@
-use Rattle.std.proofs.Common.{◌≡◌, ℕ, Bool, false, List, [], ◌∷◌, ◌++◌, All, length, map, refl, ap, sym, ◌∙◌, subst, arith}
+use Rattle.std.proofs.Common.{◌≡◌, ℕ, Bool, false, List, [], ◌∷◌, ◌++◌, All, length, map, refl, ap, sym, ◌∙◌, subst, arith, rules}
 use Rattle.std.specs.List.{list_any}
 use Rattle.std.proofs.lemmas.List.{append_assoc, map-append}
 use Rattle.std.proofs.lemmas.List.Elements.{All-head}
@@ -11,7 +11,7 @@ use Rattle.run_work.specs.Sites.{SitesView}
 use Rattle.run_work.specs.Working.{HasWorked, WorkerView}
 use Rattle.run_work.proofs.Ended.{all_there}
 use Rattle.run_work.proofs.Ending.{each_mid}
-use Rattle.run_work.proofs.Leaving.{IsLeaving-all, IsLeaving-more, IsLeaving-start, clients_of}
+use Rattle.run_work.proofs.LeaveLoop.{IsLeaving-all, IsLeaving-more, IsLeaving-start, clients_of}
 use Rattle.run_work.proofs.leaving.leave_all.Goals as goal
 
 -- one of the workers has worked
@@ -46,7 +46,7 @@ leave-requires g c =
 
 pub loop-worker-init : goal.loop-worker-init
 loop-worker-init g c = record {
-  all = refl;
+  all = search rules;
   leaving = IsLeaving-start g.J.Journal.tells c.args.sites.now c.args.tries (clients_of c.args.workers.items) _ c.args.ends.now c.new.ensures.items refl c.requires.ends;
 }
 

@@ -1,5 +1,5 @@
 use Rattle.std.proofs.Common.{◌≡◌, ◌++◌}
-use Rattle.run_work.proofs.Leaving.{IsLeaving, clients_of}
+use Rattle.run_work.proofs.LeaveLoop.{IsLeaving, clients_of}
 use Rattle.run_work.proofs.leaving.leave_all.Given as goal
 
 abbrev pub invariant-loop-worker : goal.invariant-loop-worker

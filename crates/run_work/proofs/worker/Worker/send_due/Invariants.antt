@@ -1,5 +1,5 @@
 use Rattle.run_work.proofs.TendingLoop.{IsSending}
-use Rattle.run_work.proofs.tending.Worker.send_due.Given as goal
+use Rattle.run_work.proofs.worker.Worker.send_due.Given as goal
 
 abbrev pub invariant-loop-to : goal.invariant-loop-to
 invariant-loop-to g l = IsSending l.fn.self l.to l.self

@@ -1,19 +1,20 @@
 use Rattle.std.proofs.Common.{◌≡◌, ℕ, IfSome, Option, Some, sym, subst}
 use Rattle.std.specs.Prelude.{Err, Ok, OnOk, Result}
 use Rattle.replica_lock.specs.Sessions.{SessionView}
+use Rattle.steady_node.specs.Going.{IsUnmarked}
 use Rattle.run_work.specs.Holding.{IsQuiet}
 use Rattle.run_work.specs.Serving.{HasSentTo}
 use Rattle.run_work.proofs.Heeding.{HasSentTo-later}
-use Rattle.run_work.proofs.tending.Worker.tend.Goals as goal
+use Rattle.run_work.proofs.worker.Worker.tend.Goals as goal
 
 -- what is sent after what was taken is sent after all that was seen before
 sent_later : {A E : Type 0} (answer : Result A E) (wish : Option ℕ) (to most : ℕ) (before between after : SessionView)
     → wish ≡ Some to
     → IsQuiet most before between
-    → OnOk answer (HasSentTo to between after)
-    → OnOk answer (IfSome wish (λ (to : ℕ). HasSentTo to before after))
-sent_later (Ok given) wish to most before between after is quiet sent =
-    subst (λ (w : Option ℕ). IfSome w (λ (to : ℕ). HasSentTo to before after)) (sym is) (HasSentTo-later to most before between after quiet sent)
+    → OnOk answer (IsUnmarked after → HasSentTo to between after)
+    → OnOk answer (IsUnmarked after → IfSome wish (λ (to : ℕ). HasSentTo to before after))
+sent_later (Ok given) wish to most before between after is quiet sent = λ unmarked.
+    subst (λ (w : Option ℕ). IfSome w (λ (to : ℕ). HasSentTo to before after)) (sym is) (HasSentTo-later to most before between after quiet (sent unmarked))
 sent_later (Err fault) wish to most before between after is quiet sent = tt
 
 pub returns-in-Some-clause-sent : goal.returns-in-Some-clause-sent

@@ -1,7 +1,7 @@
 -- What the workers leave as they leave one by one.
 use Rattle.std.proofs.Common.{◌≡◌, ℕ, ◌+◌, ◌<◌, Bool, false, List, [], ◌∷◌, ◌++◌, All, IfSome, Option, None, get_or, length, map, refl, ap, sym, ◌∙◌, subst, arith}
 use Rattle.std.specs.List.{list_any}
-use Rattle.std.proofs.lemmas.List.{length_push, map_push, nil_from_length}
+use Rattle.std.proofs.lemmas.List.{length-map, length_push, map_push}
 use Rattle.std.proofs.lemmas.List.Elements.{All-nil, All-push}
 use Rattle.tact_base.proofs.ListLemmas.{fold-push}
 use Rattle.run_history.specs.Seats.{DeskView, NoteView}
@@ -10,7 +10,7 @@ use Rattle.replica_lock.specs.Sessions.{IsAtNode, NodeView, SessionView}
 use Rattle.steady_node.specs.Going.{IsUnmarked}
 use Rattle.work_load.specs.Clients.{is_of}
 use Rattle.work_load.specs.declared.plan.Client.{Client}
-use Rattle.run_work.specs.Ends.{AreBusy, AreCertain, AreEnds, AreFaultless, AreUnmarked, HasCome, HaveEnded, HaveServed, IsKept, IsStop, first_stop, note_of, stop_with}
+use Rattle.run_work.specs.Ends.{AreBusy, AreCertain, AreEnds, AreFaultless, AreUnmarked, HasCome, HaveEnded, HaveServed, LosesNone, IsStop, first_stop, note_of, stop_with}
 use Rattle.run_work.specs.Sites.{AreSites, SitesView}
 use Rattle.run_work.specs.Working.{HasWorked, WorkerView}
 use Rattle.run_work.specs.declared.leaving.Left.{Left}
@@ -35,7 +35,7 @@ pub record IsLeaving (tells : Bool) (sites : SitesView) (tries : ℕ) (seated : 
   pub count : length left.notes.items ≡ length back
   pub ended : HaveEnded tries (clients_of back) left.notes.items left.stop
   pub served : AreUnmarked ends → HaveServed sites.desk.setup (clients_of back) left.notes.items left.stop
-  pub certain : IsKept left.stop → AreCertain ends
+  pub certain : LosesNone left.stop → AreCertain ends
   pub notes : All (IsOfDesk sites) left.notes.items
   pub first : left.stop ≡ first_stop back
   pub stop : IfSome left.stop (IsStop tells sites.desk (AreFaultless ends))
@@ -111,7 +111,7 @@ module _ (tells : Bool) (sites : SitesView) (tries : ℕ) (seated : List Client)
   IsLeaving-more = record {
     ends_are = joined (λ clients notes. AreEnds seated clients notes sites after)
         (AreEnds-come seated (clients_of back) left.notes.items worker.client (note_of worker) worker.session refl at has.number
-        (leaving.count ∙ sym (length-map_of back)) new sites before after there
+        (leaving.count ∙ sym (length-map back (λ (w : WorkerView). w.client))) new sites before after there
         (λ none. subst (λ (node : NodeView). IsAtNode node worker.session) (has.node none) has.at) leaving.ends_are come);
     count = ap length noted ∙ length_push left.notes.items (note_of worker) ∙ ap (λ (k : ℕ). k + 1) leaving.count ∙ sym (length_push back worker);
     ended = joined (λ clients notes. HaveEnded tries clients notes now.stop)
@@ -136,7 +136,3 @@ module _ (tells : Bool) (sites : SitesView) (tries : ℕ) (seated : List Client)
         (AreBusy-come (clients_of back) worker.client 0 worker.session before after has.busy there come leaving.busy);
     rosters = kept ∙ leaving.rosters;
   }
-    where
-      length-map_of : (workers : List WorkerView) → length (clients_of workers) ≡ length workers
-      length-map_of [] = refl
-      length-map_of (first ∷ rest) = ap (λ (k : ℕ). k + 1) (length-map_of rest)

@@ -1,0 +1,53 @@
+use Rattle.std.proofs.Common.{◌≡◌, false, sym, subst}
+use Rattle.locked_replica.specs.Parcels.{ParcelView}
+use Rattle.postbox.specs.Posts.{IsFor}
+use Rattle.replica_lock.specs.Sessions.{IsSessionOf}
+use Rattle.run_work.specs.Working.{WorkerView}
+use Rattle.steady_node.proofs.Goings.{GoesOn-made, GoesOn-trans}
+use Rattle.run_work.proofs.GoingOn.{GoesOn-heard, IsQuiet-heard, IsQuiet-made, IsQuiet-mended, IsSessionOf-quiet, IsTold-heard, left-mended}
+use Rattle.run_work.proofs.Staying.{IsWorker-on}
+use Rattle.run_work.proofs.worker.Worker.take_once.Goals as goal
+
+pub invariant_of-self : goal.invariant_of-self
+invariant_of-self g c = IsWorker-on _ _ c.self.invariant 1 _ (GoesOn-made _ _ _ _ _ c.in-Ok.ensures.taken) _
+
+pub mend-requires-clause-session : goal.mend-requires-clause-session
+mend-requires-clause-session g c =
+    let of = subst (λ (w : WorkerView). IsSessionOf w.node w.session) (sym c.self.view_is) c.requires.session in
+    IsSessionOf-quiet _ 0 _ _ (IsQuiet-heard _ _ _ of.certain 0 c.in-Err.fault c.in-Err.ensures.refused) of
+
+pub mend-requires-clause-told : goal.mend-requires-clause-told
+mend-requires-clause-told g c = IsTold-heard _ _ _ c.in-Err.fault c.in-Err.ensures.refused c.in-Err.ensures.fault_seen
+
+pub invariant_of-self-in_err-mend-in-Err : goal.invariant_of-self-in_err-mend-in-Err
+invariant_of-self-in_err-mend-in-Err g c =
+    IsWorker-on _ _ c.self.invariant 1 _ (GoesOn-trans 0 1 _ _ _ (GoesOn-heard _ _ _ 0 c.in-Err.fault c.in-Err.ensures.refused) c.mend.ensures.on) _
+
+pub invariant_of-self-in-Err : goal.invariant_of-self-in-Err
+invariant_of-self-in-Err g c =
+    IsWorker-on _ _ c.self.invariant 1 _ (GoesOn-trans 0 1 _ _ _ (GoesOn-heard _ _ _ 0 c.in-Err.fault c.in-Err.ensures.refused) c.mend.ensures.on) _
+
+pub returns-in_err-mend-in-Err-clause-quiet : goal.returns-in_err-mend-in-Err-clause-quiet
+returns-in_err-mend-in-Err-clause-quiet g c =
+    let certain : c.self.inside.session.doubt ≡ false = subst (λ (w : WorkerView). w.session.doubt ≡ false) (sym c.self.view_is) c.requires.session.certain in
+    rw (← c.self.view_is)
+    (IsQuiet-mended _ _ _ _ c.in-Err.fault certain c.in-Err.ensures.refused c.mend.ensures.on c.mend.ensures.calls c.mend.ensures.session.certain)
+
+pub returns-in-Ok-clause-quiet : goal.returns-in-Ok-clause-quiet
+returns-in-Ok-clause-quiet g c =
+    let certain : c.self.inside.session.doubt ≡ false = subst (λ (w : WorkerView). w.session.doubt ≡ false) (sym c.self.view_is) c.requires.session.certain in
+    rw (← c.self.view_is) (IsQuiet-made _ _ _ certain _ _ c.in-Ok.ensures.taken)
+
+pub returns-in_ok-mend-in-Err-clause-quiet : goal.returns-in_ok-mend-in-Err-clause-quiet
+returns-in_ok-mend-in-Err-clause-quiet g c =
+    let certain : c.self.inside.session.doubt ≡ false = subst (λ (w : WorkerView). w.session.doubt ≡ false) (sym c.self.view_is) c.requires.session.certain in
+    rw (← c.self.view_is)
+    (IsQuiet-mended _ _ _ _ c.in-Err.fault certain c.in-Err.ensures.refused c.mend.ensures.on c.mend.ensures.calls c.mend.ensures.session.certain)
+
+pub returns-in_ok-mend-in-Err-clause-taking : goal.returns-in_ok-mend-in-Err-clause-taking
+returns-in_ok-mend-in-Err-clause-taking g c =
+    let node = c.args.self.now.node in (
+      subst (IsFor node.desk.table node.replica) (sym c.in-Err.ensures.back) c.requires.parcel,
+      c.in_ok-mend.ensures.marked,
+      rw (← c.self.view_is) (left-mended _ _ _ _ c.in-Err.fault c.in-Err.ensures.refused c.in_ok-mend.ensures.nearer),
+    )
