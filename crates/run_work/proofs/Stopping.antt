@@ -149,7 +149,7 @@ stop-less tells desk Before After None less is = tt
 stop-less tells desk Before After (Some stop) less is = IsStop-less tells desk Before After stop less is
 
 -- where a worker ended before its last item, it stopped
-cause_of : (tells : Bool) (session : SessionView) (told : RestartFault) (replica : ℕ)
+pub cause_of : (tells : Bool) (session : SessionView) (told : RestartFault) (replica : ℕ)
     → session.replica ≡ replica
     → IsCause tells session told
     → IsStopBy tells told (part_of session.seen replica)
@@ -159,7 +159,7 @@ cause_of tells session fault.JournalFault replica at cause = tt
 cause_of tells session fault.JournalReadFault replica at cause = tt
 cause_of tells session (fault.Foreign place) replica at cause = cause
 
-marked_of : (tells : Bool) (session : SessionView) (told : RestartFault) → is_failure told ≡ true → IsCause tells session told → session.faults ≢ 0
+pub marked_of : (tells : Bool) (session : SessionView) (told : RestartFault) → is_failure told ≡ true → IsCause tells session told → session.faults ≢ 0
 marked_of tells session fault.JournalFault is cause = cause
 marked_of tells session fault.JournalReadFault is cause = cause
 marked_of tells session (fault.Full count stamp) is cause = absurd (false≢true is)

@@ -23,7 +23,10 @@ use tact_io::{Clock, Gate, Journal};
 
 impl End {
     /// A session of client 0 where there is none. `NoMemory` is the only error.
-    pub(crate) fn seat<J: Journal, G: Gate>(&mut self, node: &Node<'_, J, G>) -> Result<(), NoMemory>
+    pub(crate) fn seat<J: Journal, G: Gate>(
+        &mut self,
+        node: &Node<'_, J, G>,
+    ) -> Result<(), NoMemory>
         requires end { IsEndOf node.now self.old }
         requires whole { map (λ session. session.client) self.old.sessions.items ≡ self.old.roster.clients }
         ensures end { IsEndOf node.now self.new }
@@ -201,11 +204,7 @@ fn mend_for<R: Wait, C: Clock, J: Journal, G: Gate>(
 }
 
 // Where a session's replica stopped, and what the session has seen.
-fn stop<J: Journal, G: Gate>(
-    node: &Node<'_, J, G>,
-    session: &mut Session,
-    ending: Ending,
-) -> Stop
+fn stop<J: Journal, G: Gate>(node: &Node<'_, J, G>, session: &mut Session, ending: Ending) -> Stop
     requires session { IsSessionOf node.now session.old }
     ensures session { session.new ≡ session.old }
     ensures stop { (tells : Bool) → IsKeptEnd tells session.old ending → IsKeptStop tells node.now.desk (session.new.faults ≡ 0) result }
