@@ -1,5 +1,5 @@
 -- A stage on which nothing has happened.
-use Rattle.std.proofs.Common.{◌≡◌, ℕ, List, [], length, get_or, replicate, Option, refl, sym, ap, ◌∙◌, subst, arith}
+use Rattle.std.proofs.Common.{◌≡◌, List, [], length, get_or, replicate, Option, refl, sym, ap, ◌∙◌, subst, arith}
 use Rattle.std.proofs.lemmas.List.{length-replicate, get_or-replicate}
 use Rattle.std.proofs.lemmas.List.FromFn.{length-range_with_len}
 use Rattle.std.proofs.lemmas.Simd.{splat_is_map}

@@ -1,5 +1,5 @@
 -- What a script plays on: what it keeps of what was played, and what a step of it leaves.
-use Rattle.std.specs.Prelude.{◌≡◌, ℕ, ◌<◌, ◌≤◌, true, List, ◌∷◌, [], ◌++◌, length, map, slice_index_or, Option, None, Some}
+use Rattle.std.specs.Prelude.{◌≡◌, ℕ, ◌<◌, ◌≤◌, true, List, ◌∷◌, [], ◌++◌, length, map, slice_index_or, Option, Some}
 use Rattle.tact_base.specs.Setup.{Setup}
 use Rattle.tact_base.specs.declared.conit_list.Need.{Need}
 use Rattle.tact_base.specs.declared.limits.TheConstants.{MOMENT_MAX}

@@ -3,7 +3,7 @@ use Rattle.tact_base.specs.Setup.{Setup}
 use Rattle.run_model.specs.ScriptRuns.{Played, after_line, not_played, played_by, lines_text, text_after}
 use Rattle.run_model.specs.declared.script_line.Line.{Line}
 use Rattle.script_text.specs.Setups.{setup_of}
-use Rattle.script_run.specs.Stages.{GoesOnTo, IsReadyFor, setup_in, played_in}
+use Rattle.script_run.specs.Stages.{IsReadyFor, setup_in}
 use Rattle.script_run.proofs.Fronts.{next_is_ready}
 use Rattle.script_run.proofs.Played.{lines_text-push, front_is, played_by-push, AreFirstLines-next}
 use Rattle.script_run.proofs.stage.step_all.Goals as goal
