@@ -5,7 +5,7 @@
 use run_model::Status;
 use std::alloc::{AllocError, Global};
 use std::process::ExitCode;
-use tact_io::{FreeGate, StdClock, StdSink, StdSource};
+use tact_io::{FreeGate, StdClock, StdSink, StdSource, SureShelf};
 use tact_top::tact;
 
 fn main(rt: HostRuntime) -> ExitCode {
@@ -16,6 +16,9 @@ fn main(rt: HostRuntime) -> ExitCode {
     let mut sink = StdSink::new(&rt);
     let clock = StdClock::new(&rt);
     let gate = FreeGate::new();
+    let Ok(mut shelf) = SureShelf::new(rt.alloc()) else {
+        return ExitCode::FAILURE;
+    };
     match tact(
         &rt,
         rt.alloc(),
@@ -24,6 +27,7 @@ fn main(rt: HostRuntime) -> ExitCode {
         &mut sink,
         &clock,
         &gate,
+        &mut shelf,
     ) {
         Status::Done => ExitCode::SUCCESS,
         _ => ExitCode::FAILURE,

@@ -1,43 +1,80 @@
 -- What nodes leave when they end.
-use Rattle.std.proofs.Common.{◌≡◌, ℕ, ◌+◌, ◌<◌, ◌⊎◌, inl, inr, true, List, [], ◌∷◌, ◌++◌, All, Contains, drop, length, get_or, map, refl, sym, ap, ◌∙◌, subst, ⊎_elim, arith}
+use Rattle.std.proofs.Common.{◌≡◌, ℕ, ◌+◌, ◌<◌, ◌≤◌, ◌⊎◌, inl, inr, Bool, false, List, [], ◌∷◌, ◌++◌, All, Contains, drop, length, get_or, map, refl, sym, ap, ◌∙◌, subst, ⊎_elim, arith}
 use Rattle.std.specs.List.{list_any}
-use Rattle.std.specs.Prelude.{sum_by}
+use Rattle.std.specs.Prelude.{IsTrue, sum_by}
 use Rattle.std.proofs.lemmas.Bool.{cases_eq, cases_lt, false_from_ne_true}
 use Rattle.std.proofs.lemmas.List.{append-nil, drop-drop, get_or-drop, get_or_append_left, get_or_at, get_or_push, length-append, length_push, nil_from_length}
-use Rattle.std.proofs.lemmas.List.Elements.{All-head, All-tail}
+use Rattle.std.proofs.lemmas.List.Elements.{All-cons, All-head, All-nil, All-tail}
+use Rattle.std.proofs.lemmas.List.Sums.{sum_by-cons, sum_by-le}
 use Rattle.tact_base.proofs.ElementLemmas.{Contains-cases, Contains-first, Contains-later, Contains-none}
-use Rattle.tact_base.specs.declared.limits.TheConstants.{CLIENTS}
+use Rattle.tact_base.specs.declared.limits.TheConstants.{CLIENTS, REPLICAS_MAX}
 use Rattle.run_model.specs.Histories.{calls_in}
 use Rattle.run_model.specs.declared.entry.Entry.{Entry}
 use Rattle.run_history.specs.Seats.{ClerkView, DeskView, NoteView}
 use Rattle.run_history.specs.Ticks.{entries_of}
 use Rattle.replica_lock.specs.Rosters.{AreAllSessions}
-use Rattle.replica_lock.specs.Sessions.{IsSessionOf, NodeView, SessionView, own_calls}
+use Rattle.replica_lock.specs.Sessions.{NodeView, SessionView, own_calls}
+use Rattle.steady_node.specs.Going.{IsUnmarked}
 use Rattle.work_load.specs.Clients.{is_of}
 use Rattle.work_load.specs.declared.plan.Client.{Client}
-use Rattle.run_work.specs.Ends.{AreWhole, IsDrawn, IsWhole, noted_calls}
-use Rattle.run_work.specs.Sites.{IsNodeAt}
+use Rattle.run_work.specs.Ends.{AreCertain, AreDrawn, AreWhole, HaveDrawn, IsWhole, noted_calls}
+use Rattle.run_work.specs.Sites.{AreNumbered, IsNodeAt}
+use Rattle.run_work.specs.declared.closing.Drawn.{Drawn}
 use Rattle.run_work.specs.declared.seat.End.{End}
 use Rattle.run_work.proofs.Noted.{among-is_of, noted_calls-none}
 
--- The sessions of a node that has ended over a journal that never failed: of each session's client the part has as many
--- calls as the session has seen, of others none; and the entries are those made for all sessions.
+-- The sessions of a node that has ended: of the client of each that isn't in doubt the part has as many calls as the
+-- session has seen, of others none; and where none is marked the entries are those made for all sessions.
 pub record AreAll (clients : List ℕ) (sessions : List SessionView) (part : List Entry) : Type 0 where
-  pub calls : All (λ (session : SessionView). calls_in part session.client ≡ length (own_calls session)) sessions
+  pub calls : All (λ (session : SessionView). session.doubt ≡ false → calls_in part session.client ≡ length (own_calls session)) sessions
   pub others : (client : ℕ) → client < CLIENTS → (Contains clients client → ⊥) → calls_in part client ≡ 0
-  pub made : length part ≡ sum_by (λ (session : SessionView). session.made) sessions
+  pub made : All IsUnmarked sessions → length part ≡ sum_by (λ (session : SessionView). session.made) sessions
 
-pub AreAll-sure : (node : NodeView) (clients : List ℕ) (sessions : List SessionView) (part : List Entry)
-    → All (IsSessionOf node) sessions
-    → AreAllSessions clients sessions part true 0
+-- sums of nothing, and what is of no sum
+sum_of_none : (amount : SessionView → ℕ) (sessions : List SessionView)
+    → All (λ (session : SessionView). amount session ≡ 0) sessions
+    → sum_by amount sessions ≡ 0
+sum_of_none amount sessions none = omega (arith, sum_by-le amount 0 sessions (λ at d within. omega (arith, none at d within)))
+
+none_of_sum : (amount : SessionView → ℕ) (sessions : List SessionView)
+    → sum_by amount sessions ≡ 0
+    → All (λ (session : SessionView). amount session ≡ 0) sessions
+none_of_sum amount [] none = All-nil (λ (session : SessionView). amount session ≡ 0)
+none_of_sum amount (session ∷ sessions) none =
+    let parts = sum_by-cons amount session sessions in
+    All-cons (λ (one : SessionView). amount one ≡ 0) session sessions (omega (arith, none, parts)) (none_of_sum amount sessions (omega (arith, none, parts)))
+
+pub AreAll-of : (clients : List ℕ) (sessions : List SessionView) (part : List Entry) (tells : Bool) (count : ℕ)
+    → AreAllSessions clients sessions part tells count
     → AreAll clients sessions part
-AreAll-sure node clients sessions part of are =
-    let none : sum_by (λ (session : SessionView). session.faults) sessions ≡ 0 = omega (arith, are.faults (omega arith)) in
-    record {
-      calls = λ at d within. are.calls at d within (of at d within).certain;
-      others = are.others;
-      made = omega (arith, are.made, are.drawn none);
-    }
+AreAll-of clients sessions part tells count are = record {
+  calls = are.calls;
+  others = are.others;
+  made = λ unmarked.
+      let none : sum_by (λ (session : SessionView). session.faults) sessions ≡ 0 =
+      sum_of_none (λ (session : SessionView). session.faults) sessions (λ at d within. (unmarked at d within).0) in
+      omega (arith, are.made, are.drawn none);
+}
+
+-- over a journal that counted no fault no session marked one, and where it tells its pieces none is marked
+pub faultless_of : (clients : List ℕ) (sessions : List SessionView) (part : List Entry) (tells : Bool)
+    → AreAllSessions clients sessions part tells 0
+    → All (λ (session : SessionView). session.faults ≡ 0) sessions
+faultless_of clients sessions part tells are =
+    none_of_sum (λ (session : SessionView). session.faults) sessions (omega (arith, are.faults (omega arith)))
+
+pub unmarked_of : (clients : List ℕ) (sessions : List SessionView) (part : List Entry) (tells : Bool)
+    → AreAllSessions clients sessions part tells 0
+    → IsTrue tells
+    → All IsUnmarked sessions
+unmarked_of clients sessions part tells are told =
+    let halts : sum_by (λ (session : SessionView). session.halts) sessions ≡ 0 =
+    ⊎_elim
+    (λ (none : sum_by (λ (session : SessionView). session.halts) sessions ≡ 0). none)
+    (λ (some : sum_by (λ (session : SessionView). session.halts) sessions ≡ 0 → ⊥). absurd (are.halts some told refl))
+    (cases_eq (sum_by (λ (session : SessionView). session.halts) sessions) 0) in
+    λ at d within.
+    (faultless_of clients sessions part tells are at d within, none_of_sum (λ (session : SessionView). session.halts) sessions halts at d within)
 
 -- the clerk that a node left, and of which calls its part is
 pub record IsLeft (node : NodeView) (end : End) (clerk : ClerkView) : Type 0 where
@@ -146,15 +183,16 @@ of_number P (first ∷ sessions) number all within =
 -- of each client the part has the calls that the client's note has seen
 calls_drawn : (clients : List Client) (notes : List NoteView) (replica : ℕ) (node : NodeView) (end : End) (part : List Entry)
     → IsWhole clients notes replica node end
+    → All (λ (session : SessionView). session.doubt ≡ false) end.sessions.items
     → AreAll end.roster.clients end.sessions.items part
     → (number : ℕ) → number < CLIENTS
     → calls_in part number ≡ length (noted_calls clients notes replica number)
-calls_drawn clients notes replica node end part whole are number below =
+calls_drawn clients notes replica node end part whole certain are number below =
     let HasCalls : SessionView → Type 0 = λ session.
     (calls_in part session.client ≡ length (own_calls session)) × (own_calls session ≡ noted_calls clients notes replica session.client) in
     ⊎_elim
     (λ (within : Contains end.roster.clients number).
-    let one = of_number HasCalls end.sessions.items number (λ k d inside. (are.calls k d inside, whole.calls k d inside))
+    let one = of_number HasCalls end.sessions.items number (λ k d inside. (are.calls k d inside (certain k d inside), whole.calls k d inside))
     (subst (λ (numbers : List ℕ). Contains numbers number) (sym whole.whole) within) in
     subst (λ (n : ℕ). calls_in part n ≡ length (noted_calls clients notes replica n)) one.1 (one.2.0 ∙ ap length one.2.1))
     (λ (none : Contains end.roster.clients number → ⊥).
@@ -163,29 +201,75 @@ calls_drawn clients notes replica node end part whole are number below =
     (false_from_ne_true (list_any (is_of replica number) clients) (λ any. none (whole.among number (among-is_of clients replica number any)))))))
     (found end.roster.clients number)
 
--- so a clerk that a node left is drawn
-pub IsDrawn-left : (clients : List Client) (notes : List NoteView) (desk : DeskView) (replica : ℕ) (node : NodeView) (end : End) (clerk : ClerkView)
-    → IsNodeAt desk replica node
-    → IsWhole clients notes replica node end
-    → IsLeft node end clerk
-    → IsDrawn clients notes desk replica clerk
-IsDrawn-left clients notes desk replica node end clerk at whole left = record {
-  table = left.table ∙ ap (λ (d : DeskView). d.table) at.0;
-  replica_is = left.replica ∙ at.1;
-  calls = calls_drawn clients notes replica node end (entries_of clerk.pairs) whole left.sessions;
-}
+-- an element of a list that has one at a place
+some_of : {A : Type 0} (xs : List A) (at : ℕ) → at < length xs → A
+some_of [] at within = absurd (omega (arith, within))
+some_of (x ∷ xs) at within = x
 
-pub drawn_each : (clients : List Client) (notes : List NoteView) (desk : DeskView) (nodes : List NodeView) (ends : List End) (clerks : List ClerkView)
-    → length clerks ≡ length nodes
+-- so the clerks that nodes left are drawn
+pub AreDrawn-left : (desk : DeskView) (nodes : List NodeView) (ends : List End) (drawn : Drawn)
+    → length drawn.clerks.items ≡ length nodes
+    → length ends ≡ length nodes
+    → length nodes ≡ desk.setup.replicas
     → ((replica : ℕ) (none : NodeView) → replica < length nodes → IsNodeAt desk replica (get_or nodes replica none))
+    → map (λ part. part.items) drawn.parts.items ≡ map (λ (clerk : ClerkView). clerk.pairs) drawn.clerks.items
+    → AreLeft nodes ends drawn.clerks.items
+    → AreDrawn desk drawn
+AreDrawn-left desk nodes ends drawn size count replicas at parts left =
+    let each : (replica : ℕ) (none : ClerkView) → replica < length drawn.clerks.items
+    → ((get_or drawn.clerks.items replica none).table ≡ desk.table) × ((get_or drawn.clerks.items replica none).replica ≡ replica) =
+    λ replica none within.
+    let inside : replica < length nodes = omega (arith, size, within) in
+    let node : NodeView = some_of nodes replica inside in
+    let end : End = some_of ends replica (omega (arith, inside, count)) in
+    let is = left replica node end none within in
+    let stands = at replica node inside in
+    (is.table ∙ ap (λ (d : DeskView). d.table) stands.0, is.replica ∙ stands.1) in
+    record {
+      count = size ∙ replicas;
+      table = λ replica none within. (each replica none within).0;
+      replica_is = λ replica none within. (each replica none within).1;
+      parts = parts;
+    }
+
+-- and of each client that has the calls that the client's note has seen, where no session is in doubt
+pub HaveDrawn-left : (clients : List Client) (notes : List NoteView) (nodes : List NodeView) (ends : List End) (drawn : Drawn)
+    → length drawn.clerks.items ≡ length nodes
     → AreWhole clients notes nodes ends
-    → AreLeft nodes ends clerks
+    → AreLeft nodes ends drawn.clerks.items
+    → AreCertain ends
+    → HaveDrawn clients notes drawn
+HaveDrawn-left clients notes nodes ends drawn size whole left certain = λ replica number none within below.
+    let inside : replica < length nodes = omega (arith, size, within) in
+    let there : replica < length ends = omega (arith, inside, whole.count) in
+    let node : NodeView = some_of nodes replica inside in
+    let end : End = some_of ends replica there in
+    calls_drawn clients notes replica (get_or nodes replica node) (get_or ends replica end) (entries_of (get_or drawn.clerks.items replica none).pairs)
+    (whole.each replica node end there) (certain replica end there) (left replica node end none within).sessions number below
+
+-- a clerk is that of the replica of its place
+pub numbered_left : (nodes before after : List NodeView) (ends : List End) (clerks : List ClerkView)
+    → before ++ after ≡ nodes
+    → AreNumbered nodes
+    → length clerks ≡ length before
+    → AreLeft before ends clerks
+    → length before ≤ length ends
     → (replica : ℕ) (none : ClerkView) → replica < length clerks
-    → IsDrawn clients notes desk replica (get_or clerks replica none)
-drawn_each clients notes desk [] ends clerks size at whole left replica none within = absurd (omega (arith, size, within))
-drawn_each clients notes desk (node ∷ nodes) [] clerks size at whole left replica none within = absurd (omega (arith, whole.count))
-drawn_each clients notes desk (node ∷ nodes) (end ∷ ends) clerks size at whole left replica none within =
-    let inside : replica < length (node ∷ nodes) = omega (arith, size, within) in
-    let there : replica < length (end ∷ ends) = omega (arith, inside, whole.count) in
-    IsDrawn-left clients notes desk replica (get_or (node ∷ nodes) replica node) (get_or (end ∷ ends) replica end) (get_or clerks replica none)
-    (at replica node inside) (whole.each replica node end there) (left replica node end none within)
+    → (get_or clerks replica none).replica ≡ replica
+numbered_left nodes before after ends clerks whole numbered size left enough replica none within =
+    let inside : replica < length before = omega (arith, size, within) in
+    let node : NodeView = some_of before replica inside in
+    let end : End = some_of ends replica (omega (arith, inside, enough)) in
+    let here : replica < length nodes = omega (arith, inside, ap length whole, length-append before after) in
+    let stands : get_or nodes replica node ≡ get_or before replica node =
+    ap (λ (all : List NodeView). get_or all replica node) (sym whole) ∙ get_or_append_left before after node replica inside in
+    (left replica node end none within).replica ∙ ap (λ (n : NodeView). n.replica) (sym stands) ∙ numbered.number replica node here
+
+-- the node at a place has its number
+pub number_at : (nodes before after : List NodeView) (node : NodeView)
+    → before ++ node ∷ after ≡ nodes
+    → AreNumbered nodes
+    → (node.replica ≡ length before) × (length before < REPLICAS_MAX)
+number_at nodes before after node whole numbered =
+    let inside : length before < length nodes = count_at before node after nodes whole in
+    (ap (λ (n : NodeView). n.replica) (sym (stands_at before node after nodes node whole)) ∙ numbered.number (length before) node inside, omega (arith, inside, numbered.few))

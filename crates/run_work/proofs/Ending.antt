@@ -3,19 +3,19 @@ use Rattle.std.proofs.Common.{◌≡◌, ℕ, ◌<◌, true, false, List, [], �
 use Rattle.std.proofs.Common.{refl, sym, ap, ◌∙◌, subst, ⊎_elim, arith}
 use Rattle.std.specs.List.{list_any}
 use Rattle.std.proofs.lemmas.Bool.{cases_eq, false≢true}
-use Rattle.std.proofs.lemmas.List.{get_or-set_other, get_or-set_same, length-set, map_push}
+use Rattle.std.proofs.lemmas.List.{get_or-map, get_or-set_other, get_or-set_same, length-map, length-set, map_push}
 use Rattle.std.proofs.lemmas.List.Elements.{All-push}
 use Rattle.tact_base.proofs.ElementLemmas.{Contains-first, Contains-later}
 use Rattle.run_model.specs.Histories.{calls_of}
 use Rattle.run_history.specs.Seats.{NoteView}
 use Rattle.replica_lock.specs.Rosters.{IsRosterOf, RosterView}
-use Rattle.replica_lock.specs.Sessions.{IsSessionOf, NodeView, SessionView, own_calls}
+use Rattle.replica_lock.specs.Sessions.{IsAtNode, NodeView, SessionView, own_calls}
 use Rattle.run_model.specs.declared.entry.Entry.{Entry}
 use Rattle.work_load.specs.Clients.{is_of}
 use Rattle.work_load.specs.Entries.{EachAfter}
 use Rattle.work_load.specs.Ranges.{IsClientAfter}
 use Rattle.work_load.specs.declared.plan.Client.{Client}
-use Rattle.run_work.specs.Ends.{AreEnds, AreWhole, HasCome, IsEnd, clients_at, noted_calls}
+use Rattle.run_work.specs.Ends.{AreEnds, AreWhole, HasCome, HaveRosters, IsEnd, clients_at, noted_calls}
 use Rattle.run_work.specs.Sites.{SitesView}
 use Rattle.run_work.specs.declared.seat.End.{End}
 use Rattle.run_work.proofs.Noted.{clients_at-here, clients_at-elsewhere, is_of-among, is_of-itself, noted_calls-before, noted_calls-new}
@@ -176,7 +176,7 @@ module _ (seated back : List Client) (notes : List NoteView) (client : Client) (
     (seen : note.seen ≡ session.seen) (at : session.replica ≡ client.replica) (number : session.client ≡ client.client)
     (size : length notes ≡ length back) (new : list_any (is_of client.replica client.client) back ≡ false) where
   IsEnd-come : (node : NodeView) (before after : End)
-      → IsSessionOf node session
+      → IsAtNode node session
       → after.roster ≡ before.roster
       → after.sessions.items ≡ before.sessions.items ++ session ∷ []
       → IsEnd seated back notes client.replica node before
@@ -186,7 +186,7 @@ module _ (seated back : List Client) (notes : List NoteView) (client : Client) (
       record {
         roster = subst (IsRosterOf node) (sym same) is.roster;
         seated_are = ap (λ (r : RosterView). r.clients) same ∙ is.seated_are;
-        sessions = subst (All (IsSessionOf node)) (sym items) (All-push (IsSessionOf node) before.sessions.items session is.sessions of);
+        sessions = subst (All (IsAtNode node)) (sym items) (All-push (IsAtNode node) before.sessions.items session is.sessions of);
         back_are = ap (map (λ (s : SessionView). s.client)) items
             ∙ map_push (λ (s : SessionView). s.client) before.sessions.items session
             ∙ ap (λ (numbers : List ℕ). numbers ++ session.client ∷ []) is.back_are
@@ -212,7 +212,7 @@ module _ (seated back : List Client) (notes : List NoteView) (client : Client) (
   -- so one more session is back
   pub AreEnds-come : (sites : SitesView) (before after : List End)
       → client.replica < length before
-      → ((none : NodeView) → IsSessionOf (get_or sites.nodes client.replica none) session)
+      → ((none : NodeView) → IsAtNode (get_or sites.nodes client.replica none) session)
       → AreEnds seated back notes sites before
       → HasCome session client.replica before after
       → AreEnds seated (back ++ client ∷ []) (notes ++ note ∷ []) sites after
@@ -230,3 +230,60 @@ module _ (seated back : List Client) (notes : List NoteView) (client : Client) (
         (IsEnd-kept replica (get_or sites.nodes replica no_node) (get_or before replica no_end) (λ same. other (sym same)) (are.each replica no_node no_end inside)))
         (cases_eq replica client.replica);
   }
+
+-- the roster of each node is in its end, while sessions come back and when all have
+pub HaveRosters-ends : (seated back : List Client) (notes : List NoteView) (sites : SitesView) (ends : List End)
+    → AreEnds seated back notes sites ends
+    → HaveRosters sites.nodes ends
+HaveRosters-ends seated back notes sites ends are =
+    record { count = are.count; each = λ replica no_node no_end within. (are.each replica no_node no_end within).roster }
+
+pub HaveRosters-whole : (clients : List Client) (notes : List NoteView) (nodes : List NodeView) (ends : List End)
+    → AreWhole clients notes nodes ends
+    → HaveRosters nodes ends
+HaveRosters-whole clients notes nodes ends are =
+    record { count = are.count; each = λ replica no_node no_end within. (are.each replica no_node no_end within).roster }
+
+-- and where rosters stay
+pub HaveRosters-kept : (nodes : List NodeView) (before after : List End)
+    → map (λ (end : End). end.roster) after ≡ map (λ (end : End). end.roster) before
+    → HaveRosters nodes before
+    → HaveRosters nodes after
+HaveRosters-kept nodes before after same have =
+    let size : length after ≡ length before = sym (length-map after (λ (end : End). end.roster)) ∙ ap length same ∙ length-map before (λ (end : End). end.roster) in
+    record {
+      count = size ∙ have.count;
+      each = λ replica no_node no_end within.
+          let inside : replica < length before = omega (arith, within, size) in
+          let roster : (get_or after replica no_end).roster ≡ (get_or before replica no_end).roster =
+          sym (get_or-map (λ (end : End). end.roster) after replica no_end no_end.roster within)
+          ∙ ap (λ (all : List RosterView). get_or all replica no_end.roster) same
+          ∙ get_or-map (λ (end : End). end.roster) before replica no_end no_end.roster inside in
+          subst (IsRosterOf (get_or nodes replica no_node)) (sym roster) (have.each replica no_node no_end inside);
+    }
+
+-- one roster has other clients
+pub HaveRosters-set : (nodes : List NodeView) (ends : List End) (at : ℕ) (d : End) (roster : RosterView)
+    → at < length ends
+    → roster ≡ record (get_or ends at d).roster { clients = roster.clients }
+    → HaveRosters nodes ends
+    → HaveRosters nodes (set ends at (record (get_or ends at d) { roster = roster }))
+HaveRosters-set nodes ends at d roster there same have =
+    let new : End = record (get_or ends at d) { roster = roster } in
+    let size : length (set ends at new) ≡ length ends = length-set ends at new in
+    record {
+      count = size ∙ have.count;
+      each = λ replica no_node no_end within.
+          let inside : replica < length ends = omega (arith, size, within) in
+          ⊎_elim
+          (λ (here : replica ≡ at).
+          let node : NodeView = get_or nodes at no_node in
+          let was = have.each at no_node d there in
+          let other : RosterView = record (get_or ends at d).roster { clients = roster.clients } in
+          let is : IsRosterOf node other = record { cell = was.cell; desk = was.desk; conits = was.conits; replica = was.replica } in
+          subst (λ (r : ℕ). IsRosterOf (get_or nodes r no_node) (get_or (set ends at new) r no_end).roster) (sym here)
+          (subst (λ (end : End). IsRosterOf node end.roster) (sym (get_or-set_same ends at new no_end there)) (subst (IsRosterOf node) (sym same) is)))
+          (λ (other : replica ≡ at → ⊥).
+          subst (λ (end : End). IsRosterOf (get_or nodes replica no_node) end.roster) (sym (get_or-set_other ends at replica new no_end other)) (have.each replica no_node no_end inside))
+          (cases_eq replica at);
+    }

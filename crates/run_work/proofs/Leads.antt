@@ -1,9 +1,9 @@
 -- What the sessions of the least clients have seen, and how many entries were made for an end's sessions.
-use Rattle.std.proofs.Common.{◌≡◌, ℕ, zero, suc, ◌+◌, ◌<◌, ◌≤◌, List, [], ◌∷◌, ◌++◌, get_or, get_or-set_same, length, map, set, refl, sym, ap, ◌∙◌, subst, ⊎_elim, arith}
+use Rattle.std.proofs.Common.{◌≡◌, ℕ, Bool, zero, suc, ◌+◌, ◌<◌, ◌≤◌, List, [], ◌∷◌, ◌++◌, get_or, get_or-set_same, length, map, set, refl, sym, ap, ◌∙◌, subst, ⊎_elim, arith}
 use Rattle.std.specs.List.{sum_by}
 use Rattle.std.specs.Vec.{with_item}
 use Rattle.std.proofs.lemmas.Bool.{cases_lt}
-use Rattle.std.proofs.lemmas.List.{length-map}
+use Rattle.std.proofs.lemmas.List.{length-map, length-set}
 use Rattle.std.proofs.lemmas.List.Sums.{sum_by-cons}
 use Rattle.tact_base.specs.Setup.{Setup}
 use Rattle.run_model.specs.Histories.{IsPrefix}
@@ -12,11 +12,17 @@ use Rattle.run_model.specs.declared.entry.Act.TheVariants as act
 use Rattle.run_model.specs.declared.entry.Entry.{Entry}
 use Rattle.run_model.specs.declared.entry.Message.{Message}
 use Rattle.run_model.proofs.PrefixLemmas.{IsPrefix-same, IsPrefix-trans}
+use Rattle.run_history.specs.Seats.{DeskView}
+use Rattle.locked_replica.specs.Parcels.{ParcelView}
 use Rattle.replica_lock.specs.Sessions.{HasMade, IsSessionOf, NodeView, SessionView, entry_after}
+use Rattle.steady_node.specs.Going.{IsUnmarked}
+use Rattle.steady_node.specs.Taken.{HasTaken}
 use Rattle.run_work.specs.Rounds.{HasSeen, HasSeenSending, HasSeenTaking, IsLead}
-use Rattle.run_work.specs.Ends.{made_by}
+use Rattle.run_work.specs.Ends.{IsFaultlessEnd, IsKeptStop, IsUnmarkedEnd, made_by}
 use Rattle.run_work.specs.Settling.{HasGoneOn, HasStayed, IsEndOf}
+use Rattle.run_work.specs.declared.leaving.Stop.{Stop}
 use Rattle.run_work.specs.declared.seat.End.{End}
+use Rattle.run_work.proofs.Stopped.{IsKeptStop-less}
 use Rattle.run_work.proofs.Settled.{HasGoneOn-set}
 use Rattle.run_work.proofs.Zips.{AllZip-at, map-zip}
 
@@ -79,6 +85,29 @@ module _ (end : End) (place : ℕ) (before : SessionView) (lead : IsLead (client
   pub made_by-lead : (after : SessionView) (more : ℕ) → after.made ≤ before.made + more → made_by (with_lead after) ≤ made_by end + more
   made_by-lead after more most = made_by-set end place before after more lead-within there most
 
+  -- its marks are those of one of the end's sessions
+  pub unmarked-lead : (after : SessionView) → IsUnmarkedEnd (with_lead after) → IsUnmarked after
+  unmarked-lead after unmarked =
+      subst IsUnmarked (get_or-set_same end.sessions.items place after after lead-within)
+      (unmarked place after (omega (arith, lead-within, length-set end.sessions.items place after)))
+
+  pub faultless-lead : (after : SessionView) → IsFaultlessEnd (with_lead after) → after.faults ≡ 0
+  faultless-lead after faultless =
+      subst (λ (s : SessionView). s.faults ≡ 0) (get_or-set_same end.sessions.items place after after lead-within)
+      (faultless place after (omega (arith, lead-within, length-set end.sessions.items place after)))
+
+  pub made_by-unmarked : (after : SessionView) (more : ℕ)
+      → (IsUnmarked after → after.made ≤ before.made + more)
+      → IsUnmarkedEnd (with_lead after)
+      → made_by (with_lead after) ≤ made_by end + more
+  made_by-unmarked after more few unmarked = made_by-lead after more (few (unmarked-lead after unmarked))
+
+  -- so a stop of it is one of the end
+  pub IsKeptStop-lead : (tells : Bool) (desk : DeskView) (after : SessionView) (stop : Stop)
+      → IsKeptStop tells desk (after.faults ≡ 0) stop
+      → IsKeptStop tells desk (IsFaultlessEnd (with_lead after)) stop
+  IsKeptStop-lead tells desk after stop = IsKeptStop-less tells desk (after.faults ≡ 0) (IsFaultlessEnd (with_lead after)) stop (faultless-lead after)
+
   pub made_by-same : (after : SessionView) → after.made ≡ before.made → made_by (with_lead after) ≤ made_by end
   made_by-same after same = omega (arith, made_by-lead after 0 (omega (arith, same)))
 
@@ -122,15 +151,17 @@ module _ (end : End) (place : ℕ) (before : SessionView) (lead : IsLead (client
     seen = HasSeen-made setup after moment (act.Send message) made stayed;
   }
 
-  pub HasSeenTaking-made : (setup : Setup) (after : SessionView) (moment : ℕ) (message : Message) (replica : ℕ)
-      → HasMade setup before after moment (act.Take message)
+  pub HasSeenTaking-taken : (node : NodeView) (after : SessionView) (parcel : ParcelView)
+      → HasTaken node before after parcel
       → HasStayed before after
-      → before.replica ≡ replica
-      → HasSeenTaking (HasSeen (with_lead after)) replica message
-  HasSeenTaking-made setup after moment message replica made stayed of = record {
-    before = made.front;
-    taken = entry_after before made.front moment (act.Take message);
-    by = of;
-    takes = refl;
-    seen = HasSeen-made setup after moment (act.Take message) made stayed;
-  }
+      → before.replica ≡ node.replica
+      → HasSeenTaking (HasSeen (with_lead after)) node.replica parcel.message
+  HasSeenTaking-taken node after parcel taken stayed of =
+      let last : Entry = entry_after taken.between taken.made.front taken.moment (act.Take parcel.message) in
+      record {
+        before = taken.made.front;
+        taken = last;
+        by = sym (ap (λ (s : SessionView). s.replica) taken.made.counts) ∙ ap (λ (s : SessionView). s.replica) stayed.value ∙ of;
+        takes = refl;
+        seen = HasSeen-set after (taken.made.front ++ last ∷ []) stayed (IsPrefix-same (taken.made.front ++ last ∷ []) after.seen (sym taken.made.seen));
+      }

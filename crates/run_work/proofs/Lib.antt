@@ -1,5 +1,6 @@
 pub mod PlacingLemmas
 pub mod Closed
+pub mod Stopped
 pub mod Settled
 pub mod Leads
 pub mod RoundSteps
@@ -24,11 +25,14 @@ pub mod TendingLoop
 pub mod Moving
 pub mod Noted
 pub mod Ending
+pub mod Coming
 pub mod Ended
 pub mod Zips
 pub mod Reach
 pub mod Stopping
+pub mod LeaveLoop
 pub mod Opening
+pub mod Shelving
 pub mod Finishing
 pub mod ServedLemmas
 pub mod RunLemmas

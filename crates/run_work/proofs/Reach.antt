@@ -1,6 +1,6 @@
 -- How many entries a run makes: for the sessions of its clients, as these come back and as the replicas are settled; and so
 -- what its clerks drew.
-use Rattle.std.proofs.Common.{◌≡◌, ◌≢◌, ℕ, ◌+◌, ◌*◌, ◌<◌, ◌≤◌, ◌==◌, ◌||◌, zero, suc, Bool, true, false, cond, List, [], ◌∷◌, ◌++◌, AllPairs, Contains, filter, get_or, length, map, set, sum_by, OnOk, Result, Ok, Err, refl, sym, ap, ◌∙◌, subst, ⊎_elim, arith}
+use Rattle.std.proofs.Common.{◌≡◌, ◌≢◌, ℕ, ◌+◌, ◌*◌, ◌<◌, ◌≤◌, ◌==◌, ◌||◌, zero, suc, Bool, true, false, cond, List, [], ◌∷◌, ◌++◌, All, AllPairs, Contains, filter, get_or, length, map, set, sum_by, OnOk, Result, Ok, Err, refl, sym, ap, ◌∙◌, subst, ⊎_elim, arith}
 use Rattle.std.specs.List.{list_any}
 use Rattle.std.proofs.lemmas.Bool.{and_parts, cases_eq, cond-true, cond-false, eq-eqb, eqb-true, false≢true, false_from_ne_true, ne_eqb, or_left, or_right}
 use Rattle.std.proofs.lemmas.List.{append-nil}
@@ -18,17 +18,19 @@ use Rattle.run_model.specs.declared.entry.Entry.{Entry}
 use Rattle.run_history.specs.Seats.{ClerkView, NoteView}
 use Rattle.run_history.specs.Ticks.{entries_of}
 use Rattle.replica_lock.specs.Sessions.{NodeView, SessionView, own_calls}
+use Rattle.steady_node.specs.Going.{IsUnmarked}
 use Rattle.work_load.specs.Attempts.{is_call, reach, settling}
 use Rattle.work_load.specs.Clients.{is_of}
 use Rattle.work_load.specs.Entries.{EachAfter}
 use Rattle.work_load.specs.Ranges.{IsClientAfter}
 use Rattle.work_load.specs.Workloads.{Workload}
 use Rattle.work_load.specs.declared.plan.Client.{Client}
-use Rattle.run_work.specs.Ends.{AreApart, AreBusy, AreEnds, AreFew, AreWhole, HasCome, IsBusy, IsFew, IsWhole, calls_by, clients_at, clients_by, items_of, made_by, noted_calls}
+use Rattle.run_work.specs.Ends.{AreApart, AreBusy, AreCertain, AreEnds, AreFew, AreUnmarked, AreWhole, HasCome, IsBusy, IsFew, IsWhole, calls_by, clients_at, clients_by, items_of, made_by, noted_calls}
 use Rattle.run_work.specs.Settling.{AreSettled, HasSameClients, HaveMadeFew, SettlingView}
 use Rattle.run_work.specs.Sites.{SitesView}
 use Rattle.run_work.specs.Working.{IsBusyFor}
 use Rattle.run_work.specs.declared.seat.End.{End}
+use Rattle.run_work.proofs.Coming.{OfEach-before, OfEach-come}
 use Rattle.run_work.proofs.Ended.{AreLeft, IsLeft}
 use Rattle.run_work.proofs.Noted.{is_of-among, is_of-itself}
 use Rattle.run_work.proofs.Settled.{some_element}
@@ -122,7 +124,7 @@ AreBusy-none_back end none = go end.sessions.items none
 pub AreBusy-none : (seated : List Client) (sites : SitesView) (ends : List End)
     → AreEnds seated [] [] sites ends
     → AreBusy [] 0 ends
-AreBusy-none seated sites ends are = λ replica none within.
+AreBusy-none seated sites ends are = λ unmarked replica none within.
     let node : NodeView = some_element sites.nodes replica (omega (arith, within, are.count)) in
     AreBusy-none_back (get_or ends replica none) (are.each replica node none within).back_are
 
@@ -150,12 +152,15 @@ items_of-elsewhere clients client replica elsewhere =
 -- one more session is back
 pub AreBusy-come : (clients : List Client) (client : Client) (extra : ℕ) (session : SessionView) (before after : List End)
     → IsBusyFor (length client.items) session
+    → client.replica < length before
     → HasCome session client.replica before after
     → AreBusy clients extra before
     → AreBusy (clients ++ client ∷ []) extra after
-AreBusy-come clients client extra session before after busy come are = λ replica none within.
+AreBusy-come clients client extra session before after busy_for there come are = λ unmarked replica none within.
     let inside : replica < length before = omega (arith, come.count, within) in
-    let was : IsBusy (items_of clients replica) extra (get_or before replica none) = are replica none inside in
+    let was : IsBusy (items_of clients replica) extra (get_or before replica none) =
+    are (OfEach-before IsUnmarked session client.replica before after there come unmarked) replica none inside in
+    let busy : session.made ≤ 24 * (length client.items + length (own_calls session)) = busy_for (OfEach-come IsUnmarked session client.replica before after there come none unmarked) in
     ⊎_elim
     (λ (here : replica ≡ client.replica).
     let made : SessionView → ℕ = λ s. s.made in
@@ -204,23 +209,23 @@ calls_by-stay clients notes replica node other before after was is same =
 pub AreBusy-settled : (noted clients : List Client) (notes : List NoteView) (extra more : ℕ) (before after : SettlingView)
     → AreWhole noted notes before.nodes before.ends
     → AreSettled before after
-    → ((replica : ℕ) (none : End) → replica < length before.ends → made_by (get_or after.ends replica none) ≤ made_by (get_or before.ends replica none) + more)
+    → (AreUnmarked after.ends → (replica : ℕ) (none : End) → replica < length before.ends → made_by (get_or after.ends replica none) ≤ made_by (get_or before.ends replica none) + more)
     → AreBusy clients extra before.ends
     → AreBusy clients (extra + more) after.ends
-AreBusy-settled noted clients notes extra more before after whole settled few busy = λ replica none within.
+AreBusy-settled noted clients notes extra more before after whole settled few busy = λ unmarked replica none within.
     let inside : replica < length before.ends = omega (arith, within, settled.count) in
     let node : NodeView = some_element before.nodes replica (omega (arith, inside, whole.count)) in
     let calls =
     calls_by-stay noted notes replica (get_or before.nodes replica node) (get_or after.nodes replica node) (get_or before.ends replica none) (get_or after.ends replica none)
     (whole.each replica node none inside) ((settled.ends noted notes whole).each replica node none within) (settled.clients replica none inside) in
-    omega (arith, busy replica none inside, few replica none inside, calls)
+    omega (arith, busy (settled.unmarked unmarked) replica none inside, few unmarked replica none inside, calls)
 
 -- by so many rounds, where there are any
 pub AreBusy-rounds : {A E : Type 0} (answer : Result A E) (noted clients : List Client) (notes : List NoteView) (rounds : ℕ) (before after : SettlingView)
     → (rounds ≡ 0 → ⊥)
     → AreWhole noted notes before.nodes before.ends
     → OnOk answer (AreSettled before after)
-    → OnOk answer (HaveMadeFew rounds before after)
+    → OnOk answer (AreUnmarked after.ends → HaveMadeFew rounds before after)
     → AreBusy clients 0 before.ends
     → OnOk answer (AreBusy clients (settling rounds) after.ends)
 AreBusy-rounds (Ok end) noted clients notes rounds before after some whole settled few busy =
@@ -304,28 +309,33 @@ AreApart-back replicas conits clients notes sites ends each are = λ replica non
 -- what a node's clerk drew
 IsFew-left : (items extra : ℕ) (node : NodeView) (end : End) (clerk : ClerkView)
     → IsLeft node end clerk
+    → All IsUnmarked end.sessions.items
+    → All (λ (session : SessionView). session.doubt ≡ false) end.sessions.items
     → Differ (clients_by end)
     → IsBusy items extra end
     → IsFew items extra (entries_of clerk.pairs)
-IsFew-left items extra node end clerk left apart busy =
+IsFew-left items extra node end clerk left unmarked certain apart busy =
     let part : List Entry = entries_of clerk.pairs in
     let seen : sum_by (λ (s : SessionView). calls_in part s.client) end.sessions.items ≡ calls_by end =
-    sum_by-each (λ (s : SessionView). calls_in part s.client) (λ (s : SessionView). length (own_calls s)) end.sessions.items left.sessions.calls in
-    omega (arith, left.sessions.made, busy, seen, sum_by-told (λ (s : SessionView). s.client) (calls_in part) end.sessions.items, calls_in-all (clients_by end) part apart)
+    sum_by-each (λ (s : SessionView). calls_in part s.client) (λ (s : SessionView). length (own_calls s)) end.sessions.items
+    (λ at d within. left.sessions.calls at d within (certain at d within)) in
+    omega (arith, left.sessions.made unmarked, busy, seen, sum_by-told (λ (s : SessionView). s.client) (calls_in part) end.sessions.items, calls_in-all (clients_by end) part apart)
 
 pub AreFew-left : (clients : List Client) (extra : ℕ) (nodes : List NodeView) (ends : List End) (clerks : List ClerkView)
     → length clerks ≡ length nodes
     → length ends ≡ length nodes
     → AreLeft nodes ends clerks
+    → AreUnmarked ends
+    → AreCertain ends
     → AreBusy clients extra ends
     → AreApart ends
     → AreFew clients extra clerks
-AreFew-left clients extra nodes ends clerks size count left busy apart = λ replica none within.
+AreFew-left clients extra nodes ends clerks size count left unmarked certain busy apart = λ replica none within.
     let there : replica < length ends = omega (arith, size, count, within) in
     let node : NodeView = some_element nodes replica (omega (arith, size, within)) in
     let end : End = some_element ends replica there in
     IsFew-left (items_of clients replica) extra (get_or nodes replica node) (get_or ends replica end) (get_or clerks replica none)
-    (left replica node end none within) (apart replica end there) (busy replica end there)
+    (left replica node end none within) (unmarked replica end there) (certain replica end there) (apart replica end there) (busy unmarked replica end there)
 
 -- the first clerk has seen more
 pub AreFew-heard : (clients : List Client) (extra : ℕ) (clerks : List ClerkView) (after : ClerkView)

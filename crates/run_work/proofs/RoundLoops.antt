@@ -7,7 +7,9 @@ use Rattle.link_faults.specs.declared.plan.TheConstants.{INBOX_MAX}
 use Rattle.run_model.specs.declared.entry.Entry.{Entry}
 use Rattle.run_model.specs.declared.entry.Message.{Message}
 use Rattle.run_work.specs.Rounds.{AreStill, HasMadeOne, HasReached, HasSeenAt, HasSeenTaking, HasSentAll, HasSentTo, HasTaken, HaveArrived, HaveCome, HaveSentAll, made_at, waiting_at}
+use Rattle.run_work.specs.Ends.{AreUnmarked}
 use Rattle.run_work.specs.Settling.{HaveGoneOn, SettlingView}
+use Rattle.run_work.proofs.Settled.{AreUnmarked-on}
 use Rattle.run_work.proofs.RoundSteps.{HasSeenAt-on, HasSeenSending-map, HasSeenTaking-map, lose_at-on, made-same, waiting-same}
 
 -- A replica sends to another: it makes an entry, and the message comes there, or there is no memory for it.
@@ -19,8 +21,8 @@ pub HasSentTo-put : (from to : ℕ) (before between after : SettlingView)
 HasSentTo-put from to before between after made ends come =
     let same : (replica : ℕ) → waiting_at between replica ≡ waiting_at before replica = λ replica. waiting-same before between replica made.inboxes in
     record {
-      mine = omega (arith, made.mine, made-same between after from ends);
-      others = λ other apart. omega (arith, made.others other apart, made-same between after other ends);
+      mine = λ unmarked. omega (arith, made.mine (subst AreUnmarked ends unmarked), made-same between after from ends);
+      others = λ unmarked other apart. omega (arith, made.others (subst AreUnmarked ends unmarked) other apart, made-same between after other ends);
       come = record {
         count = omega (arith, come.count, ap length (same to));
         kept = λ message waits. come.kept message (subst (λ ms. Contains ms message) (sym (same to)) waits);
@@ -28,15 +30,21 @@ HasSentTo-put from to before between after made ends come =
       };
     }
 
+-- where nothing comes
+pub HasSentTo-made : (from to : ℕ) (before after : SettlingView) → HasMadeOne from before after → HasSentTo from to before after
+HasSentTo-made from to before after made =
+    HasSentTo-put from to before after after made refl (record { count = omega arith; kept = λ message waits. waits; others = λ other apart. refl })
+
 pub HasSentTo-still : (from to : ℕ) (before between after : SettlingView)
     → HasSentTo from to before between
+    → HaveGoneOn between after
     → AreStill between after
     → HasSentTo from to before after
-HasSentTo-still from to before between after sent still =
+HasSentTo-still from to before between after sent on still =
     let same : (replica : ℕ) → waiting_at after replica ≡ waiting_at between replica = λ replica. waiting-same between after replica still.inboxes in
     record {
-      mine = omega (arith, sent.mine, still.made from);
-      others = λ other apart. omega (arith, sent.others other apart, still.made other);
+      mine = λ unmarked. omega (arith, sent.mine (AreUnmarked-on between after on unmarked), still.made from);
+      others = λ unmarked other apart. omega (arith, sent.others (AreUnmarked-on between after on unmarked) other apart, still.made other);
       come = record {
         count = omega (arith, sent.come.count, ap length (same to));
         kept = λ message waits. subst (λ ms. Contains ms message) (sym (same to)) (sent.come.kept message waits);
@@ -46,9 +54,9 @@ HasSentTo-still from to before between after sent still =
 
 -- A replica has sent to each other below a number.
 pub record HasSentSome (from below : ℕ) (begun now : SettlingView) : Type 0 where
-  pub mine : made_at now from ≤ made_at begun from + below
-  pub passed : from < below → made_at now from + 1 ≤ made_at begun from + below
-  pub others : (other : ℕ) → other ≢ from → made_at now other ≤ made_at begun other
+  pub mine : AreUnmarked now.ends → made_at now from ≤ made_at begun from + below
+  pub passed : from < below → AreUnmarked now.ends → made_at now from + 1 ≤ made_at begun from + below
+  pub others : AreUnmarked now.ends → (other : ℕ) → other ≢ from → made_at now other ≤ made_at begun other
   pub none : waiting_at now from ≡ waiting_at begun from
   pub rest : (to : ℕ) → below ≤ to → waiting_at now to ≡ waiting_at begun to
   pub count : (to : ℕ) → length (waiting_at now to) ≤ length (waiting_at begun to) + 2
@@ -56,9 +64,9 @@ pub record HasSentSome (from below : ℕ) (begun now : SettlingView) : Type 0 wh
 
 pub HasSentSome-none : (from : ℕ) (begun : SettlingView) → HasSentSome from 0 begun begun
 HasSentSome-none from begun = record {
-  mine = omega (arith);
-  passed = λ below. absurd (omega (arith, below));
-  others = λ other apart. omega (arith);
+  mine = λ unmarked. omega (arith);
+  passed = λ below unmarked. absurd (omega (arith, below));
+  others = λ unmarked other apart. omega (arith);
   none = refl;
   rest = λ to past. refl;
   count = λ to. omega (arith);
@@ -70,8 +78,8 @@ pub HasSentSome-skip : (from below : ℕ) (begun now : SettlingView)
     → HasSentSome from below begun now
     → HasSentSome from (below + 1) begun now
 HasSentSome-skip from below begun now same sending = record {
-  mine = omega (arith, sending.mine);
-  passed = λ passed. omega (arith, sending.mine);
+  mine = λ unmarked. omega (arith, sending.mine unmarked);
+  passed = λ passed unmarked. omega (arith, sending.mine unmarked);
   others = sending.others;
   none = sending.none;
   rest = λ to past. sending.rest to (omega (arith, past));
@@ -92,12 +100,14 @@ kept-come to before after come other message waits =
 pub HasSentSome-more : (from below : ℕ) (begun now after : SettlingView)
     → below ≢ from
     → HasSentSome from below begun now
+    → HaveGoneOn now after
     → HasSentTo from below now after
     → HasSentSome from (below + 1) begun after
-HasSentSome-more from below begun now after apart sending sent = record {
-  mine = omega (arith, sending.mine, sent.mine);
-  passed = λ passed. omega (arith, sent.mine, sending.passed (omega (arith, passed, apart)));
-  others = λ other other_is. omega (arith, sending.others other other_is, sent.others other other_is);
+HasSentSome-more from below begun now after apart sending on sent = record {
+  mine = λ unmarked. omega (arith, sending.mine (AreUnmarked-on now after on unmarked), sent.mine unmarked);
+  passed = λ passed unmarked. omega (arith, sent.mine unmarked, sending.passed (omega (arith, passed, apart)) (AreUnmarked-on now after on unmarked));
+  others = λ unmarked other other_is.
+      omega (arith, sending.others (AreUnmarked-on now after on unmarked) other other_is, sent.others unmarked other other_is);
   none = sent.come.others from (λ same. apart (sym same)) ∙ sending.none;
   rest = λ to past. sent.come.others to (λ same. absurd (omega (arith, same, past))) ∙ sending.rest to (omega (arith, past));
   count = λ to.
@@ -115,9 +125,9 @@ pub HasSentSome-all : (from below : ℕ) (begun now : SettlingView)
     → HasSentSome from below begun now
     → HasSentAll from begun now
 HasSentSome-all from below begun now within most sending = record {
-  mine =
-      ⊎_elim (λ (passed : from < below). omega (arith, sending.passed passed, most))
-      (λ (before : below ≤ from). omega (arith, sending.mine, before, within))
+  mine = λ unmarked.
+      ⊎_elim (λ (passed : from < below). omega (arith, sending.passed passed unmarked, most))
+      (λ (before : below ≤ from). omega (arith, sending.mine unmarked, before, within))
       (cases_lt from below);
   others = sending.others;
   none = sending.none;
@@ -127,15 +137,15 @@ HasSentSome-all from below begun now within most sending = record {
 
 -- Each replica below a number has sent to each other.
 pub record HaveSentSome (below : ℕ) (begun now : SettlingView) : Type 0 where
-  pub made : (replica : ℕ) → replica < below → made_at now replica + 1 ≤ made_at begun replica + length begun.nodes
-  pub made_rest : (replica : ℕ) → below ≤ replica → made_at now replica ≤ made_at begun replica
+  pub made : AreUnmarked now.ends → (replica : ℕ) → replica < below → made_at now replica + 1 ≤ made_at begun replica + length begun.nodes
+  pub made_rest : AreUnmarked now.ends → (replica : ℕ) → below ≤ replica → made_at now replica ≤ made_at begun replica
   pub count : (to : ℕ) → to < below → length (waiting_at now to) + 2 ≤ length (waiting_at begun to) + 2 * below
   pub count_rest : (to : ℕ) → below ≤ to → length (waiting_at now to) ≤ length (waiting_at begun to) + 2 * below
 
 pub HaveSentSome-none : (begun : SettlingView) → HaveSentSome 0 begun begun
 HaveSentSome-none begun = record {
-  made = λ replica below. absurd (omega (arith, below));
-  made_rest = λ replica past. omega (arith);
+  made = λ unmarked replica below. absurd (omega (arith, below));
+  made_rest = λ unmarked replica past. omega (arith);
   count = λ to below. absurd (omega (arith, below));
   count_rest = λ to past. omega (arith);
 }
@@ -143,15 +153,23 @@ HaveSentSome-none begun = record {
 pub HaveSentSome-more : (below : ℕ) (begun now after : SettlingView)
     → length now.nodes ≡ length begun.nodes
     → HaveSentSome below begun now
+    → HaveGoneOn now after
     → HasSentAll below now after
     → HaveSentSome (below + 1) begun after
-HaveSentSome-more below begun now after size sending sent = record {
-  made = λ replica within.
+HaveSentSome-more below begun now after size sending on sent = record {
+  made = λ unmarked replica within.
+      let was = AreUnmarked-on now after on unmarked in
       ⊎_elim (λ (same : replica ≡ below).
-      subst (λ r. made_at after r + 1 ≤ made_at begun r + length begun.nodes) (sym same) (omega (arith, size, sent.mine, sending.made_rest below (omega arith))))
-      (λ (apart : replica ≢ below). omega (arith, sent.others replica apart, sending.made replica (omega (arith, within, apart))))
+      subst (λ r. made_at after r + 1 ≤ made_at begun r + length begun.nodes) (sym same)
+      (omega (arith, size, sent.mine unmarked, sending.made_rest was below (omega arith))))
+      (λ (apart : replica ≢ below). omega (arith, sent.others unmarked replica apart, sending.made was replica (omega (arith, within, apart))))
       (cases_eq replica below);
-  made_rest = λ replica past. omega (arith, sent.others replica (λ same. absurd (omega (arith, same, past))), sending.made_rest replica (omega (arith, past)));
+  made_rest = λ unmarked replica past.
+      omega (
+        arith,
+        sent.others unmarked replica (λ same. absurd (omega (arith, same, past))),
+        sending.made_rest (AreUnmarked-on now after on unmarked) replica (omega (arith, past)),
+      );
   count = λ to within.
       ⊎_elim (λ (same : to ≡ below).
       subst (λ r. length (waiting_at after r) + 2 ≤ length (waiting_at begun r) + 2 * (below + 1)) (sym same)
@@ -179,9 +197,9 @@ pub HaveSentSome-all : (below : ℕ) (begun now : SettlingView)
     → HaveSentSome below begun now
     → HaveSentAll begun now
 HaveSentSome-all below begun now most eight sending = record {
-  made = λ replica within.
-      ⊎_elim (λ (inside : replica < below). omega (arith, sending.made replica inside, eight))
-      (λ (past : below ≤ replica). omega (arith, sending.made_rest replica past))
+  made = λ unmarked replica within.
+      ⊎_elim (λ (inside : replica < below). omega (arith, sending.made unmarked replica inside, eight))
+      (λ (past : below ≤ replica). omega (arith, sending.made_rest unmarked replica past))
       (cases_lt replica below);
   count = λ to within.
       ⊎_elim (λ (inside : to < below). omega (arith, sending.count to inside, most, eight))
@@ -191,8 +209,8 @@ HaveSentSome-all below begun now most eight sending = record {
 
 -- A replica has taken so many of what waited for it.
 pub record HasTakenSome (replica count : ℕ) (begun now : SettlingView) : Type 0 where
-  pub mine : made_at now replica ≤ made_at begun replica + count
-  pub others : (other : ℕ) → other ≢ replica → made_at now other ≤ made_at begun other
+  pub mine : AreUnmarked now.ends → made_at now replica ≤ made_at begun replica + count
+  pub others : AreUnmarked now.ends → (other : ℕ) → other ≢ replica → made_at now other ≤ made_at begun other
   pub stayed : (other : ℕ) → other ≢ replica → waiting_at now other ≡ waiting_at begun other
   pub left : length (waiting_at now replica) + count ≤ length (waiting_at begun replica)
   pub taken : (message : Message) → Contains (waiting_at begun replica) message
@@ -200,8 +218,8 @@ pub record HasTakenSome (replica count : ℕ) (begun now : SettlingView) : Type 
 
 pub HasTakenSome-none : (replica : ℕ) (begun : SettlingView) → HasTakenSome replica 0 begun begun
 HasTakenSome-none replica begun = record {
-  mine = omega (arith);
-  others = λ other apart. omega (arith);
+  mine = λ unmarked. omega (arith);
+  others = λ unmarked other apart. omega (arith);
   stayed = λ other apart. refl;
   left = omega (arith);
   taken = λ message waits. inl waits;
@@ -211,24 +229,25 @@ module _ (replica count : ℕ) (begun now next : SettlingView) (message : Messag
     (taking : HasTakenSome replica count begun now) (ends : next.ends ≡ now.ends)
     (first : waiting_at now replica ≡ message ∷ waiting_at next replica)
     (others : (other : ℕ) → other ≢ replica → waiting_at next other ≡ waiting_at now other)
-    (after : SettlingView) (made : HasMadeOne replica next after) where
+    (after : SettlingView) (on_after : HaveGoneOn next after) (made : HasMadeOne replica next after) where
   waiting-after : (other : ℕ) → waiting_at after other ≡ waiting_at next other
   waiting-after other = waiting-same next after other made.inboxes
 
-  pub mine-more : made_at after replica ≤ made_at begun replica + (count + 1)
-  mine-more = omega (arith, made.mine, made-same now next replica ends, taking.mine)
+  unmarked-now : AreUnmarked after.ends → AreUnmarked now.ends
+  unmarked-now unmarked = subst AreUnmarked ends (AreUnmarked-on next after on_after unmarked)
 
-  pub others-more : (other : ℕ) → other ≢ replica → made_at after other ≤ made_at begun other
-  others-more other apart = omega (arith, made.others other apart, made-same now next other ends, taking.others other apart)
+  pub mine-more : AreUnmarked after.ends → made_at after replica ≤ made_at begun replica + (count + 1)
+  mine-more unmarked = omega (arith, made.mine unmarked, made-same now next replica ends, taking.mine (unmarked-now unmarked))
+
+  pub others-more : AreUnmarked after.ends → (other : ℕ) → other ≢ replica → made_at after other ≤ made_at begun other
+  others-more unmarked other apart =
+      omega (arith, made.others unmarked other apart, made-same now next other ends, taking.others (unmarked-now unmarked) other apart)
 
   pub stayed-more : (other : ℕ) → other ≢ replica → waiting_at after other ≡ waiting_at begun other
   stayed-more other apart = waiting-after other ∙ others other apart ∙ taking.stayed other apart
 
-  pub HasTakenSome-more : HaveGoneOn now next
-      → HaveGoneOn next after
-      → HasSeenTaking (HasSeenAt after replica) replica message
-      → HasTakenSome replica (count + 1) begun after
-  HasTakenSome-more on_next on_after took = record {
+  pub HasTakenSome-more : HaveGoneOn now next → HasSeenTaking (HasSeenAt after replica) replica message → HasTakenSome replica (count + 1) begun after
+  HasTakenSome-more on_next took = record {
     mine = mine-more;
     others = others-more;
     stayed = stayed-more;
@@ -246,7 +265,7 @@ module _ (replica count : ℕ) (begun now next : SettlingView) (message : Messag
 
   pub HasTaken-more : HasTaken replica begun after
   HasTaken-more = record {
-    mine = omega (arith, mine-more, taking.left, ap length first);
+    mine = λ unmarked. omega (arith, mine-more unmarked, taking.left, ap length first);
     others = others-more;
     stayed = stayed-more;
   }
@@ -260,8 +279,8 @@ pub HasTakenSome-none_next : (replica count : ℕ) (begun now next : SettlingVie
     → ((other : ℕ) → other ≢ replica → waiting_at next other ≡ waiting_at now other)
     → HasTakenSome replica count begun next
 HasTakenSome-none_next replica count begun now next taking on ends first others = record {
-  mine = omega (arith, taking.mine, made-same now next replica ends);
-  others = λ other apart. omega (arith, taking.others other apart, made-same now next other ends);
+  mine = λ unmarked. omega (arith, taking.mine (subst AreUnmarked ends unmarked), made-same now next replica ends);
+  others = λ unmarked other apart. omega (arith, taking.others (subst AreUnmarked ends unmarked) other apart, made-same now next other ends);
   stayed = λ other apart. others other apart ∙ taking.stayed other apart;
   left = omega (arith, taking.left, ap length first);
   taken = λ message waited.
@@ -273,7 +292,7 @@ HasTakenSome-none_next replica count begun now next taking on ends first others 
 
 pub HasTaken-some : (replica count : ℕ) (begun now : SettlingView) → HasTakenSome replica count begun now → HasTaken replica begun now
 HasTaken-some replica count begun now taking = record {
-  mine = omega (arith, taking.mine, taking.left);
+  mine = λ unmarked. omega (arith, taking.mine unmarked, taking.left);
   others = taking.others;
   stayed = taking.stayed;
 }
@@ -297,38 +316,46 @@ HasTakenSome-empty replica count begun now taking all = nil_from_length (waiting
 
 -- Each replica below a number has taken what waited for it.
 pub record HaveTakenSome (below : ℕ) (begun now : SettlingView) : Type 0 where
-  pub made : (replica : ℕ) → made_at now replica ≤ made_at begun replica + length (waiting_at begun replica)
-  pub few : (replica : ℕ) → made_at now replica ≤ made_at begun replica + INBOX_MAX
-  pub made_rest : (replica : ℕ) → below ≤ replica → made_at now replica ≤ made_at begun replica
+  pub made : AreUnmarked now.ends → (replica : ℕ) → made_at now replica ≤ made_at begun replica + length (waiting_at begun replica)
+  pub few : AreUnmarked now.ends → (replica : ℕ) → made_at now replica ≤ made_at begun replica + INBOX_MAX
+  pub made_rest : AreUnmarked now.ends → (replica : ℕ) → below ≤ replica → made_at now replica ≤ made_at begun replica
   pub rest : (replica : ℕ) → below ≤ replica → waiting_at now replica ≡ waiting_at begun replica
 
 pub HaveTakenSome-none : (begun : SettlingView) → HaveTakenSome 0 begun begun
 HaveTakenSome-none begun = record {
-  made = λ replica. omega (arith);
-  few = λ replica. omega (arith);
-  made_rest = λ replica past. omega (arith);
+  made = λ unmarked replica. omega (arith);
+  few = λ unmarked replica. omega (arith);
+  made_rest = λ unmarked replica past. omega (arith);
   rest = λ replica past. refl;
 }
 
 pub HaveTakenSome-more : (below : ℕ) (begun now after : SettlingView)
     → HaveTakenSome below begun now
+    → HaveGoneOn now after
     → HasTaken below now after
     → length (waiting_at now below) ≤ INBOX_MAX
     → HaveTakenSome (below + 1) begun after
-HaveTakenSome-more below begun now after taking took small = record {
-  made = λ replica.
+HaveTakenSome-more below begun now after taking on took small = record {
+  made = λ unmarked replica.
+      let was = AreUnmarked-on now after on unmarked in
       ⊎_elim (λ (same : replica ≡ below).
       subst (λ r. made_at after r ≤ made_at begun r + length (waiting_at begun r)) (sym same)
-      (omega (arith, took.mine, taking.made_rest below (omega arith), ap length (taking.rest below (omega arith)))))
-      (λ (apart : replica ≢ below). omega (arith, took.others replica apart, taking.made replica))
+      (omega (arith, took.mine unmarked, taking.made_rest was below (omega arith), ap length (taking.rest below (omega arith)))))
+      (λ (apart : replica ≢ below). omega (arith, took.others unmarked replica apart, taking.made was replica))
       (cases_eq replica below);
-  few = λ replica.
+  few = λ unmarked replica.
+      let was = AreUnmarked-on now after on unmarked in
       ⊎_elim (λ (same : replica ≡ below).
       subst (λ r. made_at after r ≤ made_at begun r + INBOX_MAX) (sym same)
-      (omega (arith, small, took.mine, taking.made_rest below (omega arith))))
-      (λ (apart : replica ≢ below). omega (arith, took.others replica apart, taking.few replica))
+      (omega (arith, small, took.mine unmarked, taking.made_rest was below (omega arith))))
+      (λ (apart : replica ≢ below). omega (arith, took.others unmarked replica apart, taking.few was replica))
       (cases_eq replica below);
-  made_rest = λ replica past. omega (arith, took.others replica (λ same. absurd (omega (arith, same, past))), taking.made_rest replica (omega (arith, past)));
+  made_rest = λ unmarked replica past.
+      omega (
+        arith,
+        took.others unmarked replica (λ same. absurd (omega (arith, same, past))),
+        taking.made_rest (AreUnmarked-on now after on unmarked) replica (omega (arith, past)),
+      );
   rest = λ replica past. took.stayed replica (λ same. absurd (omega (arith, same, past))) ∙ taking.rest replica (omega (arith, past));
 }
 

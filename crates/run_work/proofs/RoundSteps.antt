@@ -1,9 +1,10 @@
 -- What the steps of a round keep and do, over the whole of the replicas.
-use Rattle.std.proofs.Common.{◌≡◌, ◌≢◌, IfOk, Result, Ok, Err, ℕ, ◌+◌, ◌<◌, ◌≤◌, List, [], ◌∷◌, ◌++◌, Contains, inl, inr, get_or, get_or-set_other, get_or-set_same, length, map, set, refl, sym, ap, ◌∙◌, subst, ⊎_elim, arith}
+use Rattle.std.proofs.Common.{◌≡◌, ◌≢◌, All, Bool, IfErr, IfOk, IfSome, Option, None, Some, Result, Ok, Err, ℕ, ◌+◌, ◌<◌, ◌≤◌, List, [], ◌∷◌, ◌++◌, Contains, inl, inr, get_or, get_or-set_other, get_or-set_same, length, map, set, refl, sym, ap, ◌∙◌, subst, ⊎_elim, arith}
 use Rattle.std.proofs.lemmas.Bool.{cases_eq, cases_lt}
-use Rattle.std.proofs.lemmas.List.{get_or-map, get_or_past, length-map, map-set}
+use Rattle.std.proofs.lemmas.List.{get_or-map, get_or_past, length-map, length-set, map-set}
 use Rattle.std.specs.List.{sum_by}
 use Rattle.std.proofs.lemmas.List.Sums.{sum_by-cons}
+use Rattle.run_history.specs.Seats.{DeskView}
 use Rattle.run_model.specs.declared.entry.Entry.{Entry}
 use Rattle.run_model.specs.declared.entry.Message.{Message}
 use Rattle.link_faults.specs.Inboxes.{InboxState}
@@ -12,9 +13,11 @@ use Rattle.link_faults.specs.declared.plan.LinkPlan.{LinkPlan}
 use Rattle.locked_replica.specs.Parcels.{ParcelView}
 use Rattle.replica_lock.specs.Sessions.{NodeView, SessionView}
 use Rattle.run_work.specs.Rounds.{AreStill, HasMadeOne, HasReached, HasSeen, HasSeenAt, HasSeenSending, HasSeenTaking, HaveSeen, lose_at, made_at, messages_in, waiting_at}
-use Rattle.run_work.specs.Ends.{made_by}
+use Rattle.run_work.specs.Ends.{AreFaultless, AreUnmarked, IsFaultlessEnd, IsKeptStop, IsUnmarkedEnd, made_by}
 use Rattle.run_work.specs.Settling.{HasGoneOn, HasSeated, HaveGoneOn, IsSettling, SettlingView}
+use Rattle.run_work.specs.declared.leaving.Stop.{Stop}
 use Rattle.run_work.specs.declared.seat.End.{End}
+use Rattle.run_work.proofs.Stopped.{IsKeptStop-less}
 use Rattle.run_work.proofs.Leads.{HasSeen-on}
 use Rattle.run_work.proofs.Settled.{some_element}
 use Rattle.run_work.proofs.Zips.{AllZip-at, AllZip-size}
@@ -113,6 +116,17 @@ node_at : {settling now : SettlingView} {replica : ℕ} {node : NodeView}
 node_at {replica = replica} {node = node} is sound within there =
     ap (λ (n : NodeView). n.replica) there ∙ (sound.node replica node (omega (arith, within, ap (λ (s : SettlingView). length s.nodes) is))).1
 
+desk_at : {settling now : SettlingView} {replica : ℕ} {node : NodeView}
+    → settling ≡ now
+    → IsSettling settling
+    → replica < length now.nodes
+    → node ≡ get_or settling.nodes replica node
+    → node.desk ≡ now.desk
+desk_at {replica = replica} {node = node} is sound within there =
+    ap (λ (n : NodeView). n.desk) there
+    ∙ (sound.node replica node (omega (arith, within, ap (λ (s : SettlingView). length s.nodes) is))).0
+    ∙ ap (λ (s : SettlingView). s.desk) is
+
 -- One replica's end is another.
 module _ {settling now : SettlingView} {replica : ℕ} {before : End} (is : settling ≡ now) (sound : IsSettling settling) (within : replica < length now.nodes)
     (there : before ≡ get_or settling.ends replica before) (after : End) where
@@ -125,11 +139,12 @@ module _ {settling now : SettlingView} {replica : ℕ} {before : End} (is : sett
   pub HasSeenAt-set : (front : List Entry) → HasSeen after front → HasSeenAt other_end replica front
   HasSeenAt-set front seen none = subst (λ (e : End). HasSeen e front) (sym (get_or-set_same settling.ends replica after none at_ends)) seen
 
-  pub HasSeenSending-set : {node : NodeView} (at : node ≡ get_or settling.nodes replica node) (to : ℕ) {E : Type 0} (sent : Result ParcelView E)
-      → IfOk sent (λ (parcel : ParcelView). (front : List Entry) → HasSeen before front → HasSeenSending (HasSeen after) front node.replica to parcel.message)
-      → IfOk sent (λ (parcel : ParcelView). (front : List Entry) → HasSeenAt now replica front → HasSeenSending (HasSeenAt other_end replica) front replica to parcel.message)
-  HasSeenSending-set at to (Err stop) seen = seen
-  HasSeenSending-set at to (Ok parcel) seen = λ front was.
+  pub HasSeenSending-set : {node : NodeView} (at : node ≡ get_or settling.nodes replica node) (to : ℕ) {E : Type 0} (sent : Result (Option ParcelView) E)
+      → IfOk sent (λ one. IfSome one (λ (parcel : ParcelView). (front : List Entry) → HasSeen before front → HasSeenSending (HasSeen after) front node.replica to parcel.message))
+      → IfOk sent (λ one. IfSome one (λ (parcel : ParcelView). (front : List Entry) → HasSeenAt now replica front → HasSeenSending (HasSeenAt other_end replica) front replica to parcel.message))
+  HasSeenSending-set at to (Err stop) seen = tt
+  HasSeenSending-set at to (Ok None) seen = tt
+  HasSeenSending-set at to (Ok (Some parcel)) seen = λ front was.
       subst (λ (from : ℕ). HasSeenSending (HasSeenAt other_end replica) front from to parcel.message) (node_at is sound within at)
       (HasSeenSending-map (HasSeen after) (HasSeenAt other_end replica) front _ to parcel.message HasSeenAt-set (seen front (HasSeenAt-there replica is there front was)))
 
@@ -153,12 +168,36 @@ module _ {settling now : SettlingView} {replica : ℕ} {before : End} (is : sett
       ap (λ counts. get_or counts other 0) (map-set made_by settling.ends replica after)
       ∙ get_or-set_other (map made_by settling.ends) replica other (made_by after) 0 apart
 
-  pub HasMadeOne-set : made_by after ≤ made_by before + 1 → HasMadeOne replica now other_end
+  -- its marks are those of one of the replicas
+  mine-all : (P : End → Type 0) → All P other_end.ends → P after
+  mine-all P all =
+      subst P (get_or-set_same settling.ends replica after after at_ends) (all replica after (omega (arith, at_ends, length-set settling.ends replica after)))
+
+  pub HasMadeOne-set : (IsUnmarkedEnd after → made_by after ≤ made_by before + 1) → HasMadeOne replica now other_end
   HasMadeOne-set most = subst (λ s. HasMadeOne replica s other_end) is (record {
     inboxes = refl;
-    mine = omega (arith, most, made-there, made-mine);
-    others = λ other apart. omega (arith, made-others other apart);
+    mine = λ unmarked. omega (arith, most (mine-all IsUnmarkedEnd unmarked), made-there, made-mine);
+    others = λ unmarked other apart. omega (arith, made-others other apart);
   })
+
+  pub marked-set : {E : Type 0} (sent : Result (Option ParcelView) E)
+      → IfOk sent (λ one. one ≡ None → IsUnmarkedEnd after → ⊥)
+      → IfOk sent (λ one. one ≡ None → AreUnmarked other_end.ends → ⊥)
+  marked-set (Err stop) marked = tt
+  marked-set (Ok one) marked = λ none unmarked. marked none (mine-all IsUnmarkedEnd unmarked)
+
+  pub IsKeptStop-set : {node : NodeView} (at : node ≡ get_or settling.nodes replica node) (tells : Bool) (stop : Stop)
+      → IsKeptStop tells node.desk (IsFaultlessEnd after) stop
+      → IsKeptStop tells now.desk (AreFaultless other_end.ends) stop
+  IsKeptStop-set at tells stop told =
+      subst (λ (desk : DeskView). IsKeptStop tells desk (AreFaultless other_end.ends) stop) (desk_at is sound within at)
+      (IsKeptStop-less tells _ (IsFaultlessEnd after) (AreFaultless other_end.ends) stop (mine-all IsFaultlessEnd) told)
+
+  pub stops-set : {node : NodeView} (at : node ≡ get_or settling.nodes replica node) (tells : Bool) {X : Type 0} (answer : Result X Stop)
+      → IfErr answer (IsKeptStop tells node.desk (IsFaultlessEnd after))
+      → IfErr answer (IsKeptStop tells now.desk (AreFaultless other_end.ends))
+  stops-set at tells (Ok given) told = tt
+  stops-set at tells (Err stop) told = IsKeptStop-set at tells stop told
 
   pub AreStill-set : made_by after ≤ made_by before → AreStill now other_end
   AreStill-set most = subst (λ s. AreStill s other_end) is (record {

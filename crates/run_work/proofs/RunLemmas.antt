@@ -1,5 +1,5 @@
 -- What a closed history is of a plan: by what its clerks drew and what its clients' notes have seen.
-use Rattle.std.proofs.Common.{◌≡◌, ℕ, ◌<◌, ◌≤◌, zero, suc, false, List, [], ◌∷◌, All, IfSome, Option, Some, None, filter, get_or, length, map, take, refl, sym, ap, ◌∙◌, subst, ⊎_elim, arith}
+use Rattle.std.proofs.Common.{◌≡◌, ◌⊎◌, ℕ, ◌<◌, ◌≤◌, zero, suc, Bool, true, false, List, [], ◌∷◌, All, IfSome, Option, Some, None, filter, get_or, length, map, take, refl, sym, ap, ◌∙◌, subst, inl, inr, ⊎_elim, arith}
 use Rattle.std.specs.Prelude.{IfErr, IfOk, Result, Ok, Err}
 use Rattle.std.specs.List.{AllZip, list_any}
 use Rattle.std.proofs.lemmas.Bool.{cases_lt, cond-true, cond-false, or_parts}
@@ -7,6 +7,7 @@ use Rattle.std.proofs.lemmas.List.{nil_from_length}
 use Rattle.std.proofs.lemmas.List.Elements.{All-weaker}
 use Rattle.tact_base.specs.Setup.{Setup}
 use Rattle.tact_base.specs.declared.limits.TheConstants.{CLIENTS, HISTORY_MAX}
+use Rattle.tact_io.specs.Faults.{HasRisen}
 use Rattle.run_model.specs.Histories.{IsPrefix, calls_in, calls_of, is_call_of, part_of}
 use Rattle.run_model.specs.Promises.{IsKept}
 use Rattle.run_model.specs.Runs.{IsRun}
@@ -16,8 +17,8 @@ use Rattle.run_model.proofs.PrefixLemmas.{IsPrefix-trans}
 use Rattle.run_history.specs.Seats.{ClerkView, DeskView, NoteView, fresh_clerk}
 use Rattle.run_history.specs.Closing.{AreAllThere}
 use Rattle.run_history.specs.Ticks.{drawn_by, entries_of}
-use Rattle.locked_replica.specs.declared.fault.NodeFault.{NodeFault}
-use Rattle.locked_replica.specs.declared.fault.NodeFault.TheVariants as node
+use Rattle.locked_replica.specs.declared.fault.RestartFault.{RestartFault}
+use Rattle.locked_replica.specs.declared.fault.RestartFault.TheVariants as node
 use Rattle.work_load.specs.Attempts.{Attempts, Begun, reach}
 use Rattle.work_load.specs.Clients.{is_of}
 use Rattle.work_load.specs.Entries.{EachAfter}
@@ -25,14 +26,16 @@ use Rattle.work_load.specs.Ranges.{IsClientAfter}
 use Rattle.work_load.specs.Workloads.{Workload}
 use Rattle.work_load.specs.declared.plan.Client.{Client}
 use Rattle.work_load.specs.declared.plan.Item.{Item}
-use Rattle.run_work.specs.Ends.{AreDrawn, HaveEnded, HasNoted, noted_calls}
-use Rattle.run_work.specs.Finished.{HasFinished, IsFaultBy, IsFaultOf, IsHeard, IsStopHeard}
-use Rattle.run_work.specs.Runs.{IsDoneRun, IsFullRun, IsRunOf, IsStoppedRun}
-use Rattle.run_work.specs.Stops.{IsStopBy}
+use Rattle.run_work.specs.Ends.{AreDrawn, HaveDrawn, HaveEnded, HasNoted, LosesNone, noted_calls}
+use Rattle.run_work.specs.Finished.{HasFinished, IsFaultOf, IsHeard, IsStopHeard, fault_for}
+use Rattle.run_work.specs.Runs.{ArePutBack, IsDoneRun, IsFullRun, IsRunOf, IsStoppedRun}
+use Rattle.run_work.specs.Shelves.{IsOpenFault, IsStored, IsSure, ShelfEnd}
+use Rattle.run_work.specs.Stops.{IsStopBy, is_failure}
 use Rattle.run_work.specs.declared.closing.Drawn.{Drawn}
 use Rattle.run_work.specs.declared.leaving.Stop.{Stop}
 use Rattle.run_work.specs.declared.run.Finished.{Finished}
 use Rattle.run_work.specs.declared.run.RunFault.{RunFault}
+use Rattle.run_work.specs.declared.run.RunFault.TheVariants as fault
 use Rattle.run_work.proofs.Closed.{calls_of-none, calls_of-stored, entries_of-drawn, part_of-full, part_of-none}
 use Rattle.run_work.proofs.Ending.{each_at}
 use Rattle.run_work.proofs.Noted.{is_of-itself, noted_calls-none}
@@ -65,25 +68,32 @@ pub record IsClosed (setup : Setup) (clerks : List ClerkView) (history : List En
   pub parts : All (λ (clerk : ClerkView). clerk.pairs ≡ drawn_by history clerk.replica) clerks
   pub seen : All (λ (clerk : ClerkView). IsPrefix clerk.seen history) clerks
 
-module _ (clients : List Client) (notes : List NoteView) (desk : DeskView) (drawn : Drawn) (history : List Entry)
-    (are : AreDrawn clients notes desk drawn) (is : IsClosed desk.setup drawn.clerks.items history) where
+module _ (desk : DeskView) (drawn : Drawn) (history : List Entry) (are : AreDrawn desk drawn) (is : IsClosed desk.setup drawn.clerks.items history) where
   -- what the clerk of a replica drew
   abbrev pairs_at : ℕ → List (ℕ × Entry)
   pairs_at replica = (get_or drawn.clerks.items replica (fresh_clerk desk.table 0)).pairs
 
-  stored_at : (replica : ℕ) → replica < desk.setup.replicas → part_of history replica ≡ entries_of (pairs_at replica)
+  pub stored_at : (replica : ℕ) → replica < desk.setup.replicas → part_of history replica ≡ entries_of (pairs_at replica)
   stored_at replica below =
       let none : ClerkView = fresh_clerk desk.table 0 in
       let within : replica < length drawn.clerks.items = omega (arith, below, are.count) in
       sym (entries_of-drawn history (pairs_at replica) replica
-      (is.parts replica none within ∙ ap (drawn_by history) (are.each replica none within).replica_is))
+      (is.parts replica none within ∙ ap (drawn_by history) (are.replica_is replica none within)))
+
+module _ (clients : List Client) (notes : List NoteView) (desk : DeskView) (drawn : Drawn) (history : List Entry)
+    (are : AreDrawn desk drawn) (counted : HaveDrawn clients notes drawn) (is : IsClosed desk.setup drawn.clerks.items history) where
+  abbrev drawn_at : ℕ → List (ℕ × Entry)
+  drawn_at replica = pairs_at desk drawn history are is replica
+
+  kept_at : (replica : ℕ) → replica < desk.setup.replicas → part_of history replica ≡ entries_of (drawn_at replica)
+  kept_at = stored_at desk drawn history are is
 
   calls_at : (replica number : ℕ) → replica < desk.setup.replicas → number < CLIENTS
-      → calls_in (entries_of (pairs_at replica)) number ≡ length (noted_calls clients notes replica number)
+      → calls_in (entries_of (drawn_at replica)) number ≡ length (noted_calls clients notes replica number)
   calls_at replica number below few =
       let none : ClerkView = fresh_clerk desk.table 0 in
       let within : replica < length drawn.clerks.items = omega (arith, below, are.count) in
-      (are.each replica none within).calls number few
+      counted replica number none within few
 
   -- the history has the calls that a client's note has seen
   calls_seen : (note : NoteView) (replica number : ℕ)
@@ -93,7 +103,7 @@ module _ (clients : List Client) (notes : List NoteView) (desk : DeskView) (draw
       → noted_calls clients notes replica number ≡ calls_of note.seen replica number
       → calls_of history replica number ≡ calls_of note.seen replica number
   calls_seen note replica number below few front noted =
-      calls_of-stored note.seen history (pairs_at replica) replica number front (stored_at replica below)
+      calls_of-stored note.seen history (drawn_at replica) replica number front (kept_at replica below)
       (calls_at replica number below few ∙ ap length noted)
 
   -- and none of a client that isn't there
@@ -106,7 +116,7 @@ module _ (clients : List Client) (notes : List NoteView) (desk : DeskView) (draw
       ⊎_elim
       (λ (below : replica < desk.setup.replicas).
       nil_from_length (calls_of history replica number)
-      (ap (λ (part : List Entry). calls_in part number) (stored_at replica below)
+      (ap (λ (part : List Entry). calls_in part number) (kept_at replica below)
       ∙ calls_at replica number below few ∙ ap length (noted_calls-none clients notes replica number other)))
       (λ past. ap (filter (λ (entry : Entry). is_call_of number entry.act)) (part_of-none desk.setup history replica is.run past))
       (cases_lt replica desk.setup.replicas))
@@ -141,17 +151,18 @@ module _ (clients : List Client) (notes : List NoteView) (desk : DeskView) (draw
 IsRunOf-closed : (Made : List Item → List Entry → Type 0) (plan : Workload) (notes : List NoteView) (desk : DeskView) (drawn : Drawn) (history : List Entry)
     → desk.setup ≡ plan.setup
     → EachAfter (IsClientAfter plan.setup.replicas plan.setup.conits) [] plan.clients
-    → AreDrawn plan.clients notes desk drawn
+    → AreDrawn desk drawn
+    → HaveDrawn plan.clients notes drawn
     → IsClosed desk.setup drawn.clerks.items history
     → AllZip (λ (client : Client). HasNoted (Made client.items) client) plan.clients notes
     → All (λ (note : NoteView). IsPrefix note.seen history) notes
     → IsRunOf Made plan history
-IsRunOf-closed Made plan notes desk drawn history setup each are is zip heard = record {
+IsRunOf-closed Made plan notes desk drawn history setup each are counted is zip heard = record {
   run = subst (λ (s : Setup). IsRun s history) setup is.run;
   promised = subst (λ (s : Setup). IsKept s history) setup is.kept;
-  clients = clients_made plan.clients notes desk drawn history are is Made
+  clients = clients_made plan.clients notes desk drawn history are counted is Made
       (subst (λ (s : Setup). EachAfter (IsClientAfter s.replicas s.conits) [] plan.clients) (sym setup) each) zip heard;
-  others = no_calls plan.clients notes desk drawn history are is;
+  others = no_calls plan.clients notes desk drawn history are counted is;
 }
 
 -- what the first clerk has seen the history has seen
@@ -164,11 +175,11 @@ heard_in setup clerks history note some is heard =
     let none : ClerkView = fresh_clerk note.table 0 in
     IsPrefix-trans note.seen (get_or clerks 0 none).seen history (heard none) (is.seen 0 none some)
 
-module _ (plan : Workload) (tries : ℕ) (desk : DeskView) (finished : Finished) (history : List Entry)
+module _ (shelf : ShelfEnd) (plan : Workload) (tries : ℕ) (desk : DeskView) (finished : Finished) (history : List Entry)
     (setup : desk.setup ≡ plan.setup)
     (each : EachAfter (IsClientAfter plan.setup.replicas plan.setup.conits) [] plan.clients)
     (some : 0 < length finished.drawn.clerks.items)
-    (has : HasFinished plan tries desk finished)
+    (has : HasFinished shelf plan tries desk finished)
     (is : IsClosed desk.setup finished.drawn.clerks.items history) where
   heard_all : All (λ (note : NoteView). IsPrefix note.seen history) has.notes
   heard_all =
@@ -180,94 +191,109 @@ module _ (plan : Workload) (tries : ℕ) (desk : DeskView) (finished : Finished)
       let none : ClerkView = fresh_clerk desk.table 0 in
       IsPrefix-trans seen (get_or finished.drawn.clerks.items 0 none).seen history (heard none) (is.seen 0 none some)
 
+  -- what a replica drew is its part, and its pieces are stored where no journal failed
+  part_at : (replica : ℕ) → replica < desk.setup.replicas → part_of history replica ≡ entries_of (pairs_at desk finished.drawn history has.drawn is replica)
+  part_at = stored_at desk finished.drawn history has.drawn is
+
+  within_at : (replica : ℕ) → replica < desk.setup.replicas → replica < length finished.drawn.clerks.items
+  within_at replica below = omega (arith, below, has.drawn.count)
+
+  put_back : IsSure shelf → ArePutBack shelf plan history
+  put_back sure = λ replica below.
+      let here : replica < desk.setup.replicas = omega (arith, below, ap (λ (s : Setup). s.replicas) setup) in
+      subst (IsStored shelf.stored replica) (sym (part_at replica here)) (has.pieces sure replica (fresh_clerk desk.table 0) (within_at replica here))
+
   -- a run that did not stop is done
-  pub IsDoneRun-closed : finished.stop ≡ None → IsDoneRun plan tries history
+  pub IsDoneRun-closed : finished.stop ≡ None → IsDoneRun shelf plan tries history
   IsDoneRun-closed none =
       let at_desk = subst (λ (s : Setup). EachAfter (IsClientAfter s.replicas s.conits) [] plan.clients) (sym setup) each in
+      let counted : HaveDrawn plan.clients has.notes finished.drawn = has.counted (subst LosesNone (sym none) tt) in
       record {
-        run = IsRunOf-closed (Attempts tries) plan has.notes desk finished.drawn history setup each has.drawn is
+        run = IsRunOf-closed (Attempts tries) plan has.notes desk finished.drawn history setup each has.drawn counted is
             (subst (HaveEnded tries plan.clients has.notes) none has.ended) heard_all;
-        served = IsServed-noted plan history has.notes (record { table = desk.table; seen = [] })
-            (λ at no_client no_note within noted. calls_noted plan.clients has.notes desk finished.drawn history has.drawn is at_desk heard_all at no_client no_note within noted)
-            (no_calls plan.clients has.notes desk finished.drawn history has.drawn is)
+        served = λ sure.
+            IsServed-noted plan history has.notes (record { table = desk.table; seen = [] })
+            (λ at no_client no_note within noted. calls_noted plan.clients has.notes desk finished.drawn history has.drawn counted is at_desk heard_all at no_client no_note within noted)
+            (no_calls plan.clients has.notes desk finished.drawn history has.drawn counted is)
             heard_all
-            (subst (λ (s : Setup). AllZip (λ (client : Client) (note : NoteView). IsClientServed s client note.seen) plan.clients has.notes) setup (has.served none))
-            (λ some.
-            let all = has.met none some in
+            (subst (λ (s : Setup). AllZip (λ (client : Client) (note : NoteView). IsClientServed s client note.seen) plan.clients has.notes) setup (has.served sure none))
+            (λ rounds.
+            let all = has.met sure none rounds in
             (all.front, all.history, all.noted, heard_seen all.history all.heard, all.met));
+        put_back = put_back;
       }
 
   -- a full replica could reach as many entries
-  reached_at : (replica : ℕ) → length (part_of history replica) ≡ HISTORY_MAX → HISTORY_MAX ≤ reach plan history replica
-  reached_at replica full =
+  reached_at : IsSure shelf → LosesNone finished.stop → (replica : ℕ) → length (part_of history replica) ≡ HISTORY_MAX → HISTORY_MAX ≤ reach plan history replica
+  reached_at sure kept replica full =
       ⊎_elim
       (λ (below : replica < desk.setup.replicas).
-      reached_by plan history (entries_of (pairs_at plan.clients has.notes desk finished.drawn history has.drawn is replica)) replica
-      (stored_at plan.clients has.notes desk finished.drawn history has.drawn is replica below) full
-      (has.few replica (fresh_clerk desk.table 0) (omega (arith, below, has.drawn.count))))
+      reached_by plan history (entries_of (pairs_at desk finished.drawn history has.drawn is replica)) replica (part_at replica below) full
+      (has.few sure kept replica (fresh_clerk desk.table 0) (within_at replica below)))
       (λ past. absurd (omega (arith, full, ap length (part_of-none desk.setup history replica is.run past))))
       (cases_lt replica desk.setup.replicas)
 
-  -- and one that stopped is full, if it is not for memory
+  -- and one that stopped is full, where no call is lost
   full_run : (stop : Stop) (count stamp : ℕ)
       → finished.stop ≡ Some stop
+      → stop.ending.lost ≡ false
       → IsPrefix stop.note.seen history
-      → IsStopBy (node.Full count stamp) (part_of stop.note.seen stop.replica)
-      → IsFullRun plan tries stop.replica count stamp history
-  full_run stop count stamp stopped front told =
+      → IsStopBy shelf.tells (node.Full count stamp) (part_of stop.note.seen stop.replica)
+      → IsFullRun shelf plan tries stop.replica count stamp history
+  full_run stop count stamp stopped kept front told =
       let part : part_of history stop.replica ≡ part_of stop.note.seen stop.replica = part_of-full desk.setup stop.note.seen history stop.replica is.run front told.0 in
+      let none_lost : IsKept finished.stop = subst LosesNone (sym stopped) kept in
+      let begun : HaveEnded tries plan.clients has.notes (Some stop) = subst (HaveEnded tries plan.clients has.notes) stopped has.ended in
       record {
-        run = IsRunOf-closed (Begun tries) plan has.notes desk finished.drawn history setup each has.drawn is
-            (subst (HaveEnded tries plan.clients has.notes) stopped has.ended) heard_all;
+        run = IsRunOf-closed (Begun tries) plan has.notes desk finished.drawn history setup each has.drawn (has.counted none_lost) is (begun kept) heard_all;
         full = ap length part ∙ told.0;
         count_is = told.1;
         clock_is = told.2 ∙ ap clock (sym part);
-        reached = reached_at stop.replica (ap length part ∙ told.0);
+        reached = λ sure. reached_at sure none_lost stop.replica (ap length part ∙ told.0);
+        put_back = put_back;
       }
 
-  pub IsStoppedRun-closed : (told : RunFault) → IsFaultOf history finished.stop told → IsStoppedRun plan tries told
+  pub IsStoppedRun-closed : (told : RunFault) → IsFaultOf history finished.stop told → IsStoppedRun shelf plan tries told
   IsStoppedRun-closed told of = go finished.stop refl of has.stop
     where
-      by_fault : (stop : Stop) (why : NodeFault)
+      by_fault : (stop : Stop) (why : RestartFault) (lost : Bool)
           → finished.stop ≡ Some stop
+          → stop.ending.lost ≡ lost
           → IsPrefix stop.note.seen history
-          → IsStopBy why (part_of stop.note.seen stop.replica)
-          → IsFaultBy history stop why told
-          → IsStoppedRun plan tries told
-      by_fault stop (node.Full count stamp) stopped front full is_told = subst (IsStoppedRun plan tries) (sym is_told) (full_run stop count stamp stopped front full)
-      by_fault stop node.NoMemory stopped front full is_told = subst (IsStoppedRun plan tries) (sym is_told) tt
-      by_fault stop other stopped front full is_told = absurd full
+          → IsStopBy shelf.tells why (part_of stop.note.seen stop.replica)
+          → ((is_failure why ≡ true) ⊎ (lost ≡ true) → HasRisen shelf.before shelf.after)
+          → IsStoppedRun shelf plan tries (fault_for stop.replica why lost history)
+      by_fault stop (node.Full count stamp) false stopped kept front full failed = full_run stop count stamp stopped kept front full
+      by_fault stop (node.Full count stamp) true stopped kept front full failed = failed (inr refl)
+      by_fault stop node.JournalFault lost stopped kept front full failed = failed (inl refl)
+      by_fault stop node.JournalReadFault lost stopped kept front full failed = failed (inl refl)
+      by_fault stop (node.Foreign place) lost stopped kept front full failed = full
+      by_fault stop node.NoMemory lost stopped kept front full failed = tt
 
       go : (stop : Option Stop)
           → finished.stop ≡ stop
           → IsFaultOf history stop told
-          → IfSome stop (IsStopHeard desk finished.drawn.clerks.items)
-          → IsStoppedRun plan tries told
+          → IfSome stop (IsStopHeard shelf finished.drawn.clerks.items)
+          → IsStoppedRun shelf plan tries told
       go None same of heard = absurd of
       go (Some stop) same of heard =
-          by_fault stop stop.fault same (heard_in desk.setup finished.drawn.clerks.items history stop.note some is heard.1) heard.0.1 of
-
--- where a run stopped, some part tells why
-pub some_part : (desk : DeskView) (clerks : List ClerkView) (stop : Option Stop)
-    → IfSome stop (IsStopHeard desk clerks)
-    → IfSome stop (λ (stop : Stop). (part : List Entry) × IsStopBy stop.fault part)
-some_part desk clerks None heard = tt
-some_part desk clerks (Some stop) heard = (part_of stop.note.seen stop.replica, heard.0.1)
+          subst (IsStoppedRun shelf plan tries) (sym of)
+          (by_fault stop stop.ending.fault stop.ending.lost same refl (heard_in desk.setup finished.drawn.clerks.items history stop.note some is heard.heard) heard.cause heard.failed)
 
 -- what a run's end gives of each outcome
-pub done_by : (plan : Workload) (tries : ℕ) (run : List Entry) (stop : Option Stop) (result : Result (List Entry) RunFault)
-    → (stop ≡ None → IsDoneRun plan tries run)
+pub done_by : (shelf : ShelfEnd) (plan : Workload) (tries : ℕ) (run : List Entry) (stop : Option Stop) (result : Result (List Entry) RunFault)
+    → (stop ≡ None → IsDoneRun shelf plan tries run)
     → IfOk result (λ (ended : List Entry). (ended ≡ run) × (stop ≡ None))
-    → IfOk result (IsDoneRun plan tries)
-done_by plan tries run stop (Ok ended) done is = subst (IsDoneRun plan tries) (sym is.0) (done is.1)
-done_by plan tries run stop (Err told) done is = is
+    → IfOk result (IsDoneRun shelf plan tries)
+done_by shelf plan tries run stop (Ok ended) done is = subst (IsDoneRun shelf plan tries) (sym is.0) (done is.1)
+done_by shelf plan tries run stop (Err told) done is = is
 
-pub stopped_by : (plan : Workload) (tries : ℕ) (run : List Entry) (stop : Option Stop) (result : Result (List Entry) RunFault)
-    → ((told : RunFault) → IsFaultOf run stop told → IsStoppedRun plan tries told)
+pub stopped_by : (shelf : ShelfEnd) (plan : Workload) (tries : ℕ) (run : List Entry) (stop : Option Stop) (result : Result (List Entry) RunFault)
+    → ((told : RunFault) → IsFaultOf run stop told → IsStoppedRun shelf plan tries told)
     → IfErr result (IsFaultOf run stop)
-    → IfErr result (IsStoppedRun plan tries)
-stopped_by plan tries run stop (Ok ended) stopped is = is
-stopped_by plan tries run stop (Err told) stopped is = stopped told is
+    → IfErr result (IsStoppedRun shelf plan tries)
+stopped_by shelf plan tries run stop (Ok ended) stopped is = is
+stopped_by shelf plan tries run stop (Err told) stopped is = stopped told is
 
 -- what a function tells of an element stands at its place among what it tells of all
 map_at : {A B : Type 0} (f : A → B) (xs : List A) (at : ℕ) (d : A) (e : B)
@@ -280,11 +306,20 @@ map_at f (x ∷ xs) (suc at) d e within =
     (omega (arith, rest.0), rest.1)
 
 -- there is a clerk of each replica of the desk
-pub clerks_are : (clients : List Client) (notes : List NoteView) (desk : DeskView) (drawn : Drawn)
-    → AreDrawn clients notes desk drawn
+pub clerks_are : (desk : DeskView) (drawn : Drawn)
+    → AreDrawn desk drawn
     → AreAllThere desk.setup.replicas drawn.clerks.items
-clerks_are clients notes desk drawn are = λ replica below.
+clerks_are desk drawn are = λ replica below.
     let none : ClerkView = fresh_clerk desk.table 0 in
     let within : replica < length drawn.clerks.items = omega (arith, below, are.count) in
     let there = map_at (λ (clerk : ClerkView). clerk.replica) drawn.clerks.items replica none replica within in
-    (replica, there.0, there.1 ∙ (are.each replica none within).replica_is)
+    (replica, there.0, there.1 ∙ are.replica_is replica none within)
+
+-- a run that didn't begin, or had to end
+pub stopped_open : (shelf : ShelfEnd) (plan : Workload) (tries : ℕ) (told : RunFault)
+    → IsOpenFault shelf.before shelf.after told
+    → IsStoppedRun shelf plan tries told
+stopped_open shelf plan tries (fault.JournalFault replica) is = is
+stopped_open shelf plan tries fault.NoMemory is = tt
+stopped_open shelf plan tries (fault.Full replica count clock run) is = absurd is
+stopped_open shelf plan tries (fault.JournalForeign replica place) is = absurd is

@@ -79,6 +79,18 @@ module _ {X : Type 0} (R : X → X → Type 0) where
   All-zip P keeps (x ∷ xs) (y ∷ ys) zip all =
       All-cons P y ys (keeps x y zip.0 (All-head P x xs all)) (All-zip P keeps xs ys zip.1 (All-tail P x xs all))
 
+  pub All-zip_back : (P : X → Type 0)
+      → ((x y : X) → R x y → P y → P x)
+      → (xs ys : List X)
+      → AllZip R xs ys
+      → All P ys
+      → All P xs
+  All-zip_back P keeps [] [] zip all = All-nil P
+  All-zip_back P keeps [] (y ∷ ys) zip all = absurd zip
+  All-zip_back P keeps (x ∷ xs) [] zip all = absurd zip
+  All-zip_back P keeps (x ∷ xs) (y ∷ ys) zip all =
+      All-cons P x xs (keeps x y zip.0 (All-head P y ys all)) (All-zip_back P keeps xs ys zip.1 (All-tail P y ys all))
+
   pub map-zip : {Y : Type 0} (f : X → Y)
       → ((x y : X) → R x y → f y ≡ f x)
       → (xs ys : List X)

@@ -18,7 +18,7 @@ use Rattle.postbox.specs.Posts.{PostboxView}
 use Rattle.atomic_table.specs.Seated.{TableId}
 use Rattle.run_work.specs.Serving.{IsClientServed}
 use Rattle.run_work.specs.Sites.{SitesView}
-use Rattle.run_work.specs.Stops.{IsStopBy, is_failure}
+use Rattle.run_work.specs.Stops.{IsFailed, IsStopBy}
 use Rattle.run_work.specs.Working.{WorkerView}
 use Rattle.run_work.specs.declared.closing.Drawn.{Drawn}
 use Rattle.run_work.specs.declared.leaving.Stop.{Stop}
@@ -50,6 +50,17 @@ pub record AreEnds (seated back : List Client) (notes : List NoteView) (sites : 
   pub count : length ends ≡ length sites.nodes
   pub each : (replica : ℕ) (no_node : NodeView) (no_end : End) → replica < length ends
       → IsEnd seated back notes replica (get_or sites.nodes replica no_node) (get_or ends replica no_end)
+
+-- what ends a node that nobody has a session of; and the roster of each node is in its end
+pub record IsNewEnd (node : NodeView) (end : End) : Type 0 where
+  pub roster : IsRosterOf node end.roster
+  pub clients : end.roster.clients ≡ []
+  pub sessions : end.sessions.items ≡ []
+
+pub record HaveRosters (nodes : List NodeView) (ends : List End) : Type 0 where
+  pub count : length ends ≡ length nodes
+  pub each : (replica : ℕ) (no_node : NodeView) (no_end : End) → replica < length ends
+      → IsRosterOf (get_or nodes replica no_node) (get_or ends replica no_end).roster
 
 -- a session came back to the end of a node
 pub record HasCome (session : SessionView) (at : ℕ) (before after : List End) : Type 0 where
@@ -96,14 +107,14 @@ AreCertain ends = All (λ (end : End). All (λ (session : SessionView). session.
 pub record IsStop (tells : Bool) (desk : DeskView) (Faultless : Type 0) (stop : Stop) : Type 0 where
   pub table : stop.note.table ≡ desk.table
   pub cause : IsStopBy tells stop.ending.fault (part_of stop.note.seen stop.replica)
-  pub failed : is_failure stop.ending.fault ≡ true → Faultless → ⊥
+  pub failed : IsFailed stop.ending → Faultless → ⊥
 
 abbrev pub IsKeptStop : Bool → DeskView → Type 0 → Stop → Type 0
 IsKeptStop tells desk Faultless stop = IsStop tells desk Faultless stop × (stop.ending.lost ≡ false)
 
 -- no call is lost where a run stopped, if it did
-abbrev pub IsKept : Option Stop → Type 0
-IsKept stop = IfSome stop (λ stop. stop.ending.lost ≡ false)
+abbrev pub LosesNone : Option Stop → Type 0
+LosesNone stop = IfSome stop (λ stop. stop.ending.lost ≡ false)
 
 -- what a worker's session has seen, and where its worker stopped
 abbrev pub note_of : WorkerView → NoteView
@@ -111,10 +122,6 @@ note_of worker = record { table = worker.node.desk.table; seen = worker.session.
 
 abbrev pub stop_of : WorkerView → Ending → Stop
 stop_of worker ending = record { replica = worker.client.replica; client = worker.client.client; ending = ending; note = note_of worker }
-
--- of a stop that there was and another it is one
-abbrev pub IsOneOf : Option Stop → Stop → Option Stop → Type 0
-IsOneOf before other after = (stop : Stop) × (after ≡ Some stop) × ((before ≡ Some stop) ⊎ (stop ≡ other))
 
 -- Which of two stops comes first: one whose call is lost, and of two such, or of two others, the first by replica and then
 -- by client; the other, where they are of one client.
@@ -136,11 +143,6 @@ stop_with worker (Some ending) before = Some (first_of before (stop_of worker en
 
 abbrev pub first_stop : List WorkerView → Option Stop
 first_stop workers = fold (λ before (worker : WorkerView). stop_with worker worker.end before) None workers
-
--- a worker that ended before its last item stopped, and no other
-abbrev pub HasStopped : WorkerView → Option Ending → Option Stop → Option Stop → Type 0
-HasStopped worker None before after = after ≡ before
-HasStopped worker (Some ending) before after = IsOneOf before (stop_of worker ending) after
 
 -- what clients' notes have seen of their calls, if no worker stopped and if one did: all items done, or begun, if no call is
 -- lost
@@ -181,13 +183,13 @@ calls_by end = sum_by (λ (session : SessionView). length (own_calls session)) e
 abbrev pub items_of : List Client → ℕ → ℕ
 items_of clients replica = sum_by (λ (client : Client). length client.items) (filter (λ (client : Client). client.replica == replica) clients)
 
--- while an end's sessions are unmarked, at most 24 entries were made for them of each item of the replica's clients and of each call, and so many
--- more; and so at each replica
+-- at most 24 entries were made for an end's sessions of each item of the replica's clients and of each call, and so many
+-- more; and so at each replica, while all sessions are unmarked
 abbrev pub IsBusy : ℕ → ℕ → End → Type 0
-IsBusy items extra end = IsUnmarkedEnd end → made_by end ≤ 24 * (items + calls_by end) + extra
+IsBusy items extra end = made_by end ≤ 24 * (items + calls_by end) + extra
 
 abbrev pub AreBusy : List Client → ℕ → List End → Type 0
-AreBusy clients extra ends = (replica : ℕ) (none : End) → replica < length ends → IsBusy (items_of clients replica) extra (get_or ends replica none)
+AreBusy clients extra ends = AreUnmarked ends → (replica : ℕ) (none : End) → replica < length ends → IsBusy (items_of clients replica) extra (get_or ends replica none)
 
 -- no two sessions of an end are of one client
 abbrev pub AreApart : List End → Type 0

@@ -8,6 +8,7 @@ pub mod Placing
 pub mod Ends
 pub mod Served
 pub mod Serving
+pub mod Shelves
 pub mod Runs
 pub mod Settling
 pub mod Rounds

@@ -1,6 +1,7 @@
 -- The nodes of a run and the inboxes of their replicas.
-use Rattle.std.specs.Prelude.{◌≡◌, ℕ, ◌<◌, List, length, get_or}
+use Rattle.std.specs.Prelude.{◌≡◌, ℕ, ◌<◌, ◌≤◌, List, length, get_or}
 use Rattle.tact_base.specs.Setup.{IsSetup}
+use Rattle.tact_base.specs.declared.limits.TheConstants.{REPLICAS_MAX}
 use Rattle.run_history.specs.Seats.{DeskView}
 use Rattle.link_faults.specs.Inboxes.{InboxState}
 use Rattle.link_faults.specs.Plans.{no_faults}
@@ -29,6 +30,11 @@ pub record AreSites (sites : SitesView) : Type 0 where
   pub inboxes_are : length sites.inboxes ≡ sites.desk.setup.replicas
   pub node : (replica : ℕ) (none : NodeView) → replica < length sites.nodes → IsNodeAt sites.desk replica (get_or sites.nodes replica none)
   pub inbox : (replica : ℕ) (none : PostboxView) → replica < length sites.inboxes → IsInboxAt sites.desk replica (get_or sites.inboxes replica none)
+
+-- nodes of replicas in the order of their numbers
+pub record AreNumbered (nodes : List NodeView) : Type 0 where
+  pub few : length nodes ≤ REPLICAS_MAX
+  pub number : (replica : ℕ) (none : NodeView) → replica < length nodes → (get_or nodes replica none).replica ≡ replica
 
 -- each inbox has the plan of its replica's link
 abbrev pub HavePlans : Workload → List PostboxView → Type 0

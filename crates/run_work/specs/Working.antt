@@ -1,5 +1,5 @@
 -- What a worker keeps, and what it has done.
-use Rattle.std.specs.Prelude.{◌≡◌, ℕ, ◌+◌, ◌*◌, ◌≤◌, Bool, false, List, All, length, get_or, [], ◌<◌, Option, Some, None}
+use Rattle.std.specs.Prelude.{◌≡◌, ◌≢◌, ℕ, ◌+◌, ◌*◌, ◌≤◌, Bool, false, List, All, length, get_or, [], ◌<◌, Option, Some, None, true}
 use Rattle.tact_base.specs.Setup.{IsSetup}
 use Rattle.run_history.specs.Seats.{DeskView}
 use Rattle.replica_lock.specs.Allowances.{AllowanceView}
@@ -39,9 +39,18 @@ pub record IsReady (worker : WorkerView) : Type 0 where
   pub session : IsSessionOf worker.node worker.session
   pub held : Holds worker.node (own_calls worker.session) worker.allowances
 
--- why a worker ends; and why it does where no call is lost
-abbrev pub IsEnding : Bool → SessionView → Ending → Type 0
-IsEnding tells session ending = IsCause tells session ending.fault × (ending.lost ≡ false → session.doubt ≡ false)
+-- where the last call of a session is lost, it marked that the journal failed
+abbrev pub IsMarkedLost : SessionView → Ending → Type 0
+IsMarkedLost session ending = ending.lost ≡ true → session.faults ≢ 0
+
+-- Why a worker ends. Where its last call isn't lost, the session isn't in doubt; where it is, the session marked that the
+-- journal failed.
+pub record IsEnding (tells : Bool) (session : SessionView) (ending : Ending) : Type 0 where
+  pub cause : IsCause tells session ending.fault
+  pub certain : ending.lost ≡ false → session.doubt ≡ false
+  pub marked : IsMarkedLost session ending
+
+-- why it does where no call is lost
 
 abbrev pub IsKeptEnd : Bool → SessionView → Ending → Type 0
 IsKeptEnd tells session ending = IsCause tells session ending.fault × (ending.lost ≡ false)

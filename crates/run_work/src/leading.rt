@@ -1,17 +1,20 @@
 //! What a replica does on behalf of its least client, when its workers have ended.
-ghost use Rattle.std.specs.Prelude.{◌≡◌, ◌≢◌, ◌<◌, ◌≤◌, ◌+◌, Bool, IfErr, IfOk, IfSome, List, None, OnOk, length, map};
+ghost use Rattle.std.specs.Prelude.{◌≡◌, ◌≢◌, ◌<◌, ◌≤◌, ◌+◌, Bool, IfErr, IfOk, IfSome, List, None, OnOk, false, length, map};
 ghost use Rattle.run_model.specs.Histories.{IsPrefix};
 ghost use Rattle.run_model.specs.declared.entry.Entry.{Entry};
-ghost use Rattle.replica_lock.specs.Sessions.{IsSessionOf};
+ghost use Rattle.replica_lock.specs.Sessions.{IsSessionOf, own_calls};
 ghost use Rattle.postbox.specs.Posts.{IsFor};
+ghost use Rattle.steady_node.specs.Endings.{IsTold};
+ghost use Rattle.steady_node.specs.Going.{IsUnmarked};
+ghost use Rattle.steady_node.specs.Taken.{HasTaken};
 ghost use Rattle.run_work.specs.Ends.{IsFaultlessEnd, IsKeptStop, IsUnmarkedEnd, made_by};
 ghost use Rattle.run_work.specs.Rounds.{HasSeen, HasSeenSending, HasSeenTaking, IsLead};
-ghost use Rattle.run_work.specs.Settling.{HasGoneOn, HasSeated, IsEndOf};
+ghost use Rattle.run_work.specs.Settling.{HasGoneOn, HasSeated, HasStayed, IsEndOf};
 ghost use Rattle.run_work.specs.Working.{IsKeptEnd};
 
 use crate::leaving::Stop;
 use crate::seat::{End, session_of};
-use replica_lock::{Node, Parcel, Session};
+use replica_lock::{Node, NodeFault, Parcel, Session};
 use run_history::Note;
 use std::sync::Wait;
 use steady_node::{Ending, mend, moment, no_memory, take};
@@ -20,7 +23,10 @@ use tact_io::{Clock, Gate, Journal};
 
 impl End {
     /// A session of client 0 where there is none. `NoMemory` is the only error.
-    pub(crate) fn seat<J: Journal, G: Gate>(&mut self, node: &Node<'_, J, G>) -> Result<(), NoMemory>
+    pub(crate) fn seat<J: Journal, G: Gate>(
+        &mut self,
+        node: &Node<'_, J, G>,
+    ) -> Result<(), NoMemory>
         requires end { IsEndOf node.now self.old }
         requires whole { map (λ session. session.client) self.old.sessions.items ≡ self.old.roster.clients }
         ensures end { IsEndOf node.now self.new }
@@ -69,13 +75,12 @@ impl End {
     {
         let lead = self.lead();
         let session = &mut self.sessions[lead];
-        let answer = match node.send(rt, session, moment(clock), to) {
-            Ok(parcel) => return Ok(Some(parcel)),
-            Err(fault) => mend(rt, clock, node, session, fault),
-        };
-        match answer {
-            Ok(()) => Ok(None),
-            Err(ending) => Err(stop(node, session, ending)),
+        match node.send(rt, session, moment(clock), to) {
+            Ok(parcel) => Ok(Some(parcel)),
+            Err(fault) => {
+                mend_for(rt, clock, node, session, fault)?;
+                Ok(None)
+            }
         }
     }
 
@@ -96,11 +101,7 @@ impl End {
         ensures stop { IfErr result (IsKeptStop J.tells node.now.desk (IsFaultlessEnd self.new)) }
     {
         let lead = self.lead();
-        let session = &mut self.sessions[lead];
-        match take(rt, clock, node, session, parcel) {
-            Ok(()) => Ok(()),
-            Err(ending) => Err(stop(node, session, ending)),
-        }
+        take_for(rt, clock, node, &mut self.sessions[lead], parcel)
     }
 
     /// Hears what a note has seen.
@@ -147,15 +148,66 @@ impl End {
     }
 }
 
-// Where a session's replica stopped, and what the session has seen.
-fn stop<J: Journal, G: Gate>(
+// Tells that a session has seen as many calls as it counts, and changes nothing.
+fn stand(session: &Session)
+    ensures { session.now.doubt ≡ false → session.now.calls ≡ length (own_calls session.now) }
+{
+    let _calls = session.calls();
+}
+
+// Takes a parcel for a session, and tells where its replica stopped, if it did.
+fn take_for<R: Wait, C: Clock, J: Journal, G: Gate>(
+    rt: &R,
+    clock: &C,
     node: &Node<'_, J, G>,
     session: &mut Session,
-    ending: Ending,
-) -> Stop
+    parcel: Parcel,
+) -> Result<(), Stop>
+    requires session { IsSessionOf node.now session.old }
+    requires parcel { IsFor node.now.desk.table node.now.replica parcel }
+    ensures stayed { HasStayed session.old session.new }
+    ensures few { IsUnmarked session.new → session.new.made ≤ session.old.made + 1 }
+    ensures taken { OnOk result (HasTaken node.now session.old session.new parcel) }
+    ensures stop { IfErr result (IsKeptStop J.tells node.now.desk (session.new.faults ≡ 0)) }
+{
+    stand(session);
+    let answer = take(rt, clock, node, session, parcel);
+    stand(session);
+    match answer {
+        Ok(()) => Ok(()),
+        Err(ending) => Err(stop(node, session, ending)),
+    }
+}
+
+// Goes on after a session was told a fault: where its node is halted, or its journal failed, the node is begun anew.
+fn mend_for<R: Wait, C: Clock, J: Journal, G: Gate>(
+    rt: &R,
+    clock: &C,
+    node: &Node<'_, J, G>,
+    session: &mut Session,
+    fault: NodeFault,
+) -> Result<(), Stop>
+    requires session { IsSessionOf node.now session.old }
+    requires told { IsTold fault session.old }
+    ensures stayed { HasStayed session.old session.new }
+    ensures few { IsUnmarked session.new → session.new.made ≤ session.old.made + 1 }
+    ensures marked { OnOk result (IsUnmarked session.new → ⊥) }
+    ensures stop { IfErr result (IsKeptStop J.tells node.now.desk (session.new.faults ≡ 0)) }
+{
+    stand(session);
+    let answer = mend(rt, clock, node, session, fault);
+    stand(session);
+    match answer {
+        Ok(()) => Ok(()),
+        Err(ending) => Err(stop(node, session, ending)),
+    }
+}
+
+// Where a session's replica stopped, and what the session has seen.
+fn stop<J: Journal, G: Gate>(node: &Node<'_, J, G>, session: &mut Session, ending: Ending) -> Stop
     requires session { IsSessionOf node.now session.old }
     ensures session { session.new ≡ session.old }
-    ensures stop { (tells : Bool) → IsKeptEnd tells session.old ending → IsKeptStop tells node.now.desk (session.old.faults ≡ 0) result }
+    ensures stop { (tells : Bool) → IsKeptEnd tells session.old ending → IsKeptStop tells node.now.desk (session.new.faults ≡ 0) result }
 {
     Stop {
         replica: session.replica(),

@@ -1,6 +1,6 @@
 //! What the workers leave when all have ended.
 ghost use Rattle.std.specs.Prelude.{◌≡◌, ◌<◌, ◌++◌, ◌∷◌, [], All, IfOk, IfSome, OnOk, length, map, Some};
-ghost use Rattle.run_work.specs.Ends.{AreBusy, AreCertain, AreEnds, AreFaultless, AreUnmarked, HasCome, HasStopped, HaveEnded, HaveServed, IsKept, IsOneOf, IsStop, first_of, first_stop, note_of, is_before, stop_with};
+ghost use Rattle.run_work.specs.Ends.{AreBusy, AreCertain, AreEnds, AreFaultless, AreUnmarked, HasCome, HaveEnded, HaveServed, LosesNone, IsStop, first_of, first_stop, note_of, is_before, stop_with};
 ghost use Rattle.run_work.specs.Working.{HasWorked};
 ghost use Rattle.work_load.specs.Entries.{EachAfter};
 ghost use Rattle.work_load.specs.Ranges.{IsClientAfter};
@@ -45,11 +45,13 @@ pub(crate) fn leave_all<J: Journal, G: Gate>(
     ensures ends { IfOk result (λ left. AreEnds (map (λ worker. worker.client) workers.entry.items) (map (λ worker. worker.client) workers.entry.items) left.notes.items sites.now ends.new) }
     ensures ended { IfOk result (λ left. HaveEnded tries (map (λ worker. worker.client) workers.entry.items) left.notes.items left.stop) }
     ensures served { IfOk result (λ left. AreUnmarked ends.new → HaveServed sites.now.desk.setup (map (λ worker. worker.client) workers.entry.items) left.notes.items left.stop) }
-    ensures certain { IfOk result (λ left. IsKept left.stop → AreCertain ends.new) }
+    ensures certain { IfOk result (λ left. LosesNone left.stop → AreCertain ends.new) }
     ensures notes { IfOk result (λ left. All (λ note. note.table ≡ sites.now.desk.table) left.notes.items) }
+    ensures count { IfOk result (λ left. length left.notes.items ≡ length workers.entry.items) }
     ensures stop { IfOk result (λ left. IfSome left.stop (IsStop J.tells sites.now.desk (AreFaultless ends.new))) }
     ensures first { IfOk result (λ left. left.stop ≡ first_stop workers.entry.items) }
     ensures busy { OnOk result (AreBusy (map (λ worker. worker.client) workers.entry.items) 0 ends.new) }
+    ensures rosters { map (λ end. end.roster) ends.new ≡ map (λ end. end.roster) ends.old }
 {
     stand(sites);
     let mut left = Left {
@@ -70,9 +72,9 @@ fn leave<J: Journal, G: Gate>(
 ) -> Result<(), NoMemory>
     requires replica { worker.client.replica < length ends.old }
     ensures note { OnOk result (left.new.notes.items ≡ left.old.notes.items ++ note_of worker.entry ∷ []) }
-    ensures stop { OnOk result (HasStopped worker.entry worker.entry.end left.old.stop left.new.stop) }
-    ensures first { OnOk result (left.new.stop ≡ stop_with worker.entry worker.entry.end left.old.stop) }
+    ensures stop { OnOk result (left.new.stop ≡ stop_with worker.entry worker.entry.end left.old.stop) }
     ensures end { OnOk result (HasCome worker.entry.session worker.entry.client.replica ends.old ends.new) }
+    ensures rosters { map (λ end. end.roster) ends.new ≡ map (λ end. end.roster) ends.old }
 {
     let Worker {
         node,
@@ -97,8 +99,7 @@ fn leave<J: Journal, G: Gate>(
 
 // Of two stops the first: one whose call is lost, else by replica and then by client.
 fn earlier(one: Option<Stop>, other: Stop) -> Option<Stop>
-    ensures one_of { IsOneOf one other result }
-    ensures first { result ≡ Some (first_of one other) }
+    ensures { result ≡ Some (first_of one other) }
 {
     match one {
         Some(one) if is_before(&one, &other) => Some(one),

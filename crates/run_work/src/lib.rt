@@ -5,6 +5,7 @@ mod closing;
 mod leading;
 mod leaving;
 mod merge;
+mod room;
 mod run;
 mod seat;
 mod settling;

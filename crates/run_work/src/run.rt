@@ -1,19 +1,19 @@
 //! The run of a plan.
-ghost use Rattle.std.specs.Prelude.{◌≡◌, ◌≢◌, ◌<◌, [], All, IfErr, IfOk, IfSome, List, None, OnOk, ℕ, length, map};
+ghost use Rattle.std.specs.Prelude.{◌≡◌, ◌≢◌, ◌<◌, ◌≤◌, [], All, IfErr, IfOk, IfSome, List, None, OnOk, ℕ, length, map};
 ghost use Rattle.run_model.specs.Histories.{IsPrefix};
-ghost use Rattle.run_model.specs.declared.entry.Entry.{Entry};
 ghost use Rattle.run_history.specs.Seats.{fresh_clerks, NoteView};
 ghost use Rattle.work_load.specs.Attempts.{settling as settled_most};
 ghost use Rattle.work_load.specs.Workloads.{IsWorkload};
 ghost use Rattle.work_load.specs.declared.plan.Client.{Client};
-ghost use Rattle.run_work.specs.Ends.{AreBusy, AreCertain, AreEnds, AreFaultless, AreUnmarked, AreWhole, HaveEnded, HaveServed, IsKept, IsStop};
-ghost use Rattle.run_work.specs.Finished.{HasFinished, IsFaultOf};
+ghost use Rattle.run_work.specs.Ends.{AreBusy, AreCertain, AreEnds, AreFaultless, AreUnmarked, AreWhole, HaveEnded, HaveRosters, HaveServed, LosesNone, IsStop};
+ghost use Rattle.run_work.specs.Finished.{HasFinished, IsFaultOf, fault_by};
 ghost use Rattle.run_work.specs.Runs.{IsDoneRun, IsStoppedRun};
 ghost use Rattle.run_work.specs.Settling.{AreSettled, HaveMet, IsSettling};
-ghost use Rattle.run_work.specs.Stops.{IsSureStop};
+ghost use Rattle.run_work.specs.Shelves.{IsOpenFault};
+ghost use Rattle.run_work.specs.Sites.{AreNumbered};
 ghost use Rattle.run_work.specs.Working.{HasWorked, IsFresh};
 
-use crate::closing::{Drawn, end_inboxes, finish_all};
+use crate::closing::{Drawn, end_inboxes, finish_all, give_up};
 use crate::leaving::{Left, Stop, leave_all};
 use crate::merge::in_order;
 use crate::seat::{End, Opened, open, seat_all, stand};
@@ -29,8 +29,9 @@ use std::marker::Model;
 use std::sync::Wait;
 use std::thread;
 use std::thread::Threads;
+use steady_node::Ending;
 use tact_base::NoMemory;
-use tact_io::{Clock, Gate, Journal, SureJournal};
+use tact_io::{Clock, Gate, Journal, Shelf};
 use work_load::Plan;
 
 /// A run that has ended: its history, and the entries of this in order of ticks.
@@ -72,6 +73,16 @@ pub enum RunFault {
         clock: u64,
         run: Run,
     },
+    /// The journal of this replica failed, or of its shelf, and what was asked for last wasn't found out. Or the replica is
+    /// full, and a call of its client was lost before.
+    JournalFault {
+        replica: u32,
+    },
+    /// The journal of this replica gave another piece at this place than the one that was appended there.
+    JournalForeign {
+        replica: u32,
+        place: u64,
+    },
     /// An allocation was refused.
     NoMemory,
 }
@@ -97,12 +108,12 @@ struct Unsettled<'d, 'g, J: Journal, G: Gate> {
     stop: Option<Stop>,
 }
 
-// And after the rounds that settle them.
+// And after the rounds that settle them, unless there was no memory for these.
 #[derive(Drop)]
 struct Settled<'d, 'g, J: Journal, G: Gate> {
     nodes: Vec<Node<'d, J, &'g G>>,
     ends: Vec<End>,
-    stop: Option<Stop>,
+    stop: Result<Option<Stop>, NoMemory>,
 }
 
 // What is left of a run when its nodes have ended.
@@ -113,22 +124,30 @@ struct Finished {
 }
 
 /// Runs a plan: a worker for each client does its items in order, each tried until its reply is final, at most `tries`
-/// times. When all have ended without a refusal, the plan's rounds settle the replicas. A run in which a replica became
-/// full comes back in the fault, as far as it went; where memory was refused, none comes back.
-pub fn run_plan<R: Threads + Wait + Sync, C: Clock + Sync, G: Gate + Sync>(
+/// times. When all have ended without a refusal, the plan's rounds settle the replicas. Each replica keeps a journal out of
+/// the shelf; where that fails, the replica begins anew from it, and what was asked for goes on. A run in which a replica
+/// became full comes back in the fault, as far as it went; with any other fault none comes back. Each journal that was
+/// fetched is back on the shelf, whatever the answer.
+pub fn run_plan<R: Threads + Wait + Sync, C: Clock + Sync, G: Gate + Sync, B: Shelf>(
     rt: &R,
     alloc: Global,
     plan: &Plan,
     tries: u64,
     clock: &C,
     gate: &G,
+    shelf: &mut B,
 ) -> Result<Run, RunFault>
+where
+    B::J: Drop + Send,
     requires tries { 0 < tries }
-    ensures done { IfOk result (IsDoneRun plan.now tries) }
-    ensures full { IfErr result (IsStoppedRun plan.now tries) }
+    ensures done { IfOk result (IsDoneRun (record { tells = B.J.tells; before = B.faults shelf.old; after = B.faults shelf.new; stored = B.stored shelf.new }) plan.now tries) }
+    ensures stopped { IfErr result (IsStoppedRun (record { tells = B.J.tells; before = B.faults shelf.old; after = B.faults shelf.new; stored = B.stored shelf.new }) plan.now tries) }
+    ensures never_falls { B.faults shelf.old ≤ B.faults shelf.new }
 {
     let (desk, clerks) = Desk::new(alloc, plan.config())?;
-    let Finished { drawn, stop } = run_on(rt, alloc, &desk, plan, clerks, tries, clock, gate)?;
+    let Finished { drawn, stop } = run_on(
+        rt, alloc, &desk, plan, clerks, tries, clock, gate, shelf,
+    )?;
     let history = desk.close(drawn.clerks);
     let entries = in_order(alloc, &history, drawn.parts)?;
     end_run(Run { history, entries }, stop)
@@ -136,29 +155,42 @@ pub fn run_plan<R: Threads + Wait + Sync, C: Clock + Sync, G: Gate + Sync>(
 
 // A run, or why it stopped.
 fn end_run(run: Run, stop: Option<Stop>) -> Result<Run, RunFault>
-    requires stop { IfSome stop (λ stop. (part : List Entry) × IsSureStop stop.ending.fault part) }
     ensures done { IfOk result (λ ended. (ended ≡ run) × (stop ≡ None)) }
     ensures stopped { IfErr result (IsFaultOf run stop) }
 {
     match stop {
         None => Ok(run),
-        Some(Stop {
-            replica, ending, ..
-        }) => match ending.fault {
-            RestartFault::Full { count, clock } => Err(RunFault::Full {
+        Some(
+            Stop {
                 replica,
-                count,
-                clock,
-                run,
-            }),
-            RestartFault::NoMemory => Err(RunFault::NoMemory),
-            _ => unreachable!(),
+                ending,
+                ..
+            },
+        ) => Err(fault_of(replica, ending, run)),
+    }
+}
+
+// Why a run isn't done that stopped at a replica.
+fn fault_of(replica: u32, ending: Ending, run: Run) -> RunFault
+    ensures { result ≡ fault_by replica ending run }
+{
+    match ending.fault {
+        RestartFault::Full { count, clock } if !ending.lost => RunFault::Full {
+            replica,
+            count,
+            clock,
+            run,
         },
+        RestartFault::Full { .. } | RestartFault::JournalFault | RestartFault::JournalReadFault => {
+            RunFault::JournalFault { replica }
+        }
+        RestartFault::Foreign { place } => RunFault::JournalForeign { replica, place },
+        RestartFault::NoMemory => RunFault::NoMemory,
     }
 }
 
 // Runs a plan on a desk whose clerks drew nothing.
-fn run_on<R: Threads + Wait + Sync, C: Clock + Sync, G: Gate + Sync>(
+fn run_on<R: Threads + Wait + Sync, C: Clock + Sync, G: Gate + Sync, B: Shelf>(
     rt: &R,
     alloc: Global,
     desk: &Desk,
@@ -167,59 +199,56 @@ fn run_on<R: Threads + Wait + Sync, C: Clock + Sync, G: Gate + Sync>(
     tries: u64,
     clock: &C,
     gate: &G,
-) -> Result<Finished, NoMemory>
+    shelf: &mut B,
+) -> Result<Finished, RunFault>
+where
+    B::J: Drop + Send,
     requires tries { 0 < tries }
     requires plan { IsWorkload plan.now }
     requires setup { desk.now.setup ≡ plan.now.setup }
     requires clerks { clerks.items ≡ fresh_clerks desk.now }
-    ensures { IfOk result (HasFinished plan.now tries desk.now) }
+    ensures finished { IfOk result (HasFinished (record { tells = B.J.tells; before = B.faults shelf.old; after = B.faults shelf.new; stored = B.stored shelf.new }) plan.now tries desk.now) }
+    ensures fault { IfErr result (IsOpenFault (B.faults shelf.old) (B.faults shelf.new)) }
+    ensures never_falls { B.faults shelf.old ≤ B.faults shelf.new }
 {
-    let journals = sure_journals(alloc, plan.config().replicas())?;
     let Opened {
         sites,
         mut ends,
         keys,
-    } = open(alloc, desk, plan, clerks, journals, gate)?;
-    let Left { notes, stop } = work_all(
-        rt,
-        alloc,
-        &sites,
-        ends.as_mut_slice(),
-        plan,
-        tries,
-        clock,
-    )?;
-    let mut note = join_all(desk, notes);
+    } = open(rt, alloc, desk, plan, clerks, gate, shelf)?;
+    let left = work_all(rt, alloc, &sites, ends.as_mut_slice(), plan, tries, clock);
     stand(&sites);
     let Sites { nodes, inboxes, .. } = sites;
-    let inboxes = end_inboxes(rt, alloc, inboxes, keys)?;
-    let settling = Unsettled {
+    let Ok(Left { notes, stop }) = left else {
+        give_up(rt, nodes, ends, shelf);
+        return Err(RunFault::NoMemory);
+    };
+    let Ok(inboxes) = end_inboxes(rt, alloc, inboxes, keys) else {
+        give_up(rt, nodes, ends, shelf);
+        return Err(RunFault::NoMemory);
+    };
+    let mut note = join_all(desk, notes);
+    let unsettled = Unsettled {
         desk,
         nodes,
         ends,
         inboxes,
         stop,
     };
-    let Settled {
-        nodes,
-        ends,
-        mut stop,
-    } = settle_after(rt, clock, settling, plan.settle(), &mut note)?;
-    let mut drawn = finish_all(rt, alloc, nodes, ends)?;
+    let Settled { nodes, ends, stop } = settle_after(
+        rt,
+        clock,
+        unsettled,
+        plan.settle(),
+        &mut note,
+    );
+    let Ok(mut stop) = stop else {
+        give_up(rt, nodes, ends, shelf);
+        return Err(RunFault::NoMemory);
+    };
+    let mut drawn = finish_all(rt, alloc, nodes, ends, shelf)?;
     learn_first(&mut drawn.clerks[0], desk, note, &mut stop);
     Ok(Finished { drawn, stop })
-}
-
-// Journals that never fail, one for each replica.
-fn sure_journals(alloc: Global, count: u32) -> Result<Vec<SureJournal>, NoMemory>
-    ensures count { IfOk result (λ journals. length journals.items ≡ count) }
-    ensures empty { IfOk result (λ journals. All (λ journal. journal.pieces ≡ []) journals.items) }
-{
-    let mut journals = Vec::new(alloc);
-    for _replica in 0..count {
-        journals.push(SureJournal::new(alloc))?;
-    }
-    Ok(journals)
 }
 
 // Settles the replicas by so many rounds, where the workers did not stop.
@@ -229,21 +258,24 @@ fn settle_after<'d, 'g, R: Wait, C: Clock, J: Journal + Drop, G: Gate>(
     unsettled: Unsettled<'d, 'g, J, G>,
     rounds: u64,
     note: &mut Note,
-) -> Result<Settled<'d, 'g, J, G>, NoMemory>
+) -> Settled<'d, 'g, J, G>
     requires whole { (clients : List Client) × (noted : List NoteView) × AreWhole clients noted unsettled.nodes.items unsettled.ends.items }
-    requires settling { IsSettling (record { desk = unsettled.desk.now; nodes = unsettled.nodes.items; ends = unsettled.ends.items; inboxes = unsettled.inboxes.items }) }
-    requires certain { IsKept unsettled.stop → AreCertain unsettled.ends.items }
+    requires numbered { AreNumbered unsettled.nodes.items }
+    requires settling { unsettled.stop ≡ None → IsSettling (record { desk = unsettled.desk.now; nodes = unsettled.nodes.items; ends = unsettled.ends.items; inboxes = unsettled.inboxes.items }) }
+    requires certain { LosesNone unsettled.stop → AreCertain unsettled.ends.items }
     requires note { note.old.table ≡ unsettled.desk.now.table }
     requires stop { IfSome unsettled.stop (IsStop J.tells unsettled.desk.now (AreFaultless unsettled.ends.items)) }
     ensures note { (note.new.table ≡ note.old.table) × IsPrefix note.old.seen note.new.seen }
-    ensures met { IfOk result (λ settled. settled.stop ≡ None → rounds ≢ 0 → AreUnmarked settled.ends.items → HaveMet (record { desk = unsettled.entry.desk.now; nodes = unsettled.entry.nodes.items; ends = unsettled.entry.ends.items; inboxes = unsettled.entry.inboxes.items }) note.old.seen note.new.seen) }
-    ensures settled { IfOk result (λ settled. AreSettled (record { desk = unsettled.entry.desk.now; nodes = unsettled.entry.nodes.items; ends = unsettled.entry.ends.items; inboxes = unsettled.entry.inboxes.items }) (record { desk = unsettled.entry.desk.now; nodes = settled.nodes.items; ends = settled.ends.items; inboxes = unsettled.entry.inboxes.items })) }
-    ensures stop { IfOk result (λ settled. IfSome settled.stop (IsStop J.tells unsettled.entry.desk.now (AreFaultless settled.ends.items))) }
-    ensures kept { IfOk result (λ settled. IsKept settled.stop → AreCertain settled.ends.items) }
-    ensures first { IfOk result (λ settled. settled.stop ≡ None → unsettled.entry.stop ≡ None) }
+    ensures numbered { AreNumbered result.nodes.items }
+    ensures rosters { HaveRosters result.nodes.items result.ends.items }
+    ensures met { IfOk result.stop (λ stop. stop ≡ None → rounds ≢ 0 → AreUnmarked result.ends.items → HaveMet (record { desk = unsettled.entry.desk.now; nodes = unsettled.entry.nodes.items; ends = unsettled.entry.ends.items; inboxes = unsettled.entry.inboxes.items }) note.old.seen note.new.seen) }
+    ensures settled { OnOk result.stop (AreSettled (record { desk = unsettled.entry.desk.now; nodes = unsettled.entry.nodes.items; ends = unsettled.entry.ends.items; inboxes = unsettled.entry.inboxes.items }) (record { desk = unsettled.entry.desk.now; nodes = result.nodes.items; ends = result.ends.items; inboxes = unsettled.entry.inboxes.items })) }
+    ensures stop { IfOk result.stop (λ stop. IfSome stop (IsStop J.tells unsettled.entry.desk.now (AreFaultless result.ends.items))) }
+    ensures kept { IfOk result.stop (λ stop. LosesNone stop → AreCertain result.ends.items) }
+    ensures first { IfOk result.stop (λ stop. stop ≡ None → unsettled.entry.stop ≡ None) }
     ensures ended { (tries : ℕ) (clients : List Client) (noted : List NoteView)
-        → HaveEnded tries clients noted unsettled.entry.stop → IfOk result (λ settled. HaveEnded tries clients noted settled.stop) }
-    ensures busy { (clients : List Client) → AreBusy clients 0 unsettled.entry.ends.items → IfOk result (λ settled. AreBusy clients (settled_most rounds) settled.ends.items) }
+        → HaveEnded tries clients noted unsettled.entry.stop → IfOk result.stop (HaveEnded tries clients noted) }
+    ensures busy { (clients : List Client) → AreBusy clients 0 unsettled.entry.ends.items → OnOk result.stop (AreBusy clients (settled_most rounds) result.ends.items) }
 {
     let Unsettled {
         desk,
@@ -253,7 +285,11 @@ fn settle_after<'d, 'g, R: Wait, C: Clock, J: Journal + Drop, G: Gate>(
         stop,
     } = unsettled;
     if stop.is_some() || rounds == 0 {
-        return Ok(Settled { nodes, ends, stop });
+        return Settled {
+            nodes,
+            ends,
+            stop: Ok(stop),
+        };
     }
     let mut settling = Settling {
         desk,
@@ -261,9 +297,9 @@ fn settle_after<'d, 'g, R: Wait, C: Clock, J: Journal + Drop, G: Gate>(
         ends,
         inboxes,
     };
-    let stop = settling.settle(rt, clock, rounds, note)?;
+    let stop = settling.settle(rt, clock, rounds, note);
     let Settling { nodes, ends, .. } = settling;
-    Ok(Settled { nodes, ends, stop })
+    Settled { nodes, ends, stop }
 }
 
 // A note of what all notes have seen, of which there is one at least.
@@ -325,10 +361,12 @@ fn work_all<R: Threads + Wait + Sync, C: Clock + Sync, J: Journal + Drop + Send,
     ensures ends { IfOk result (λ left. AreEnds plan.now.clients plan.now.clients left.notes.items sites.now ends.new) }
     ensures ended { IfOk result (λ left. HaveEnded tries plan.now.clients left.notes.items left.stop) }
     ensures served { IfOk result (λ left. AreUnmarked ends.new → HaveServed sites.now.desk.setup plan.now.clients left.notes.items left.stop) }
-    ensures certain { IfOk result (λ left. IsKept left.stop → AreCertain ends.new) }
+    ensures certain { IfOk result (λ left. LosesNone left.stop → AreCertain ends.new) }
     ensures notes { IfOk result (λ left. All (λ note. note.table ≡ sites.now.desk.table) left.notes.items) }
+    ensures count { IfOk result (λ left. length left.notes.items ≡ length plan.now.clients) }
     ensures stop { IfOk result (λ left. IfSome left.stop (IsStop J.tells sites.now.desk (AreFaultless ends.new))) }
     ensures busy { OnOk result (AreBusy plan.now.clients 0 ends.new) }
+    ensures rosters { HaveRosters sites.now.nodes ends.new }
 {
     let mut workers = seat_all(alloc, sites, ends, plan.clients())?;
     work_each(rt, sites, tries, clock, workers.as_mut_slice());

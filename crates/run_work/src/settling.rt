@@ -313,7 +313,7 @@ impl<'d, 'g, J: Journal, G: Gate> Settling<'d, 'g, J, G> {
         ensures on { HaveGoneOn self.old self.new }
         ensures ready { AreReady self.new }
         ensures made { AreUnmarked self.new.ends → (replica : ℕ) → made_at self.new replica ≤ made_at self.old replica + length (waiting_at self.old replica) }
-        ensures few { (replica : ℕ) → made_at self.new replica ≤ made_at self.old replica + INBOX_MAX }
+        ensures few { AreUnmarked self.new.ends → (replica : ℕ) → made_at self.new replica ≤ made_at self.old replica + INBOX_MAX }
         ensures empty { OnOk result (AreEmpty self.new) }
         ensures taken { OnOk result ((replica : ℕ) (message : Message) → replica < length self.old.nodes → Contains (waiting_at self.old replica) message
             → HasSeenTaking (HasSeenAt self.new replica) replica message) }

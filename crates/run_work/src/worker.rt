@@ -9,7 +9,7 @@ ghost use Rattle.work_load.specs.Ranges.{IsAmountOf, IsItemOf, IsWeightOf};
 ghost use Rattle.work_load.specs.declared.plan.Item.TheVariants as item;
 ghost use Rattle.run_work.specs.Serving.{IsObeyed, Owes};
 ghost use Rattle.run_work.specs.Trying.{HasAsked, HasTried, IsLoanTold, is_refused, tried_by};
-ghost use Rattle.run_work.specs.Working.{IsReady};
+ghost use Rattle.run_work.specs.Working.{IsMarkedLost, IsReady};
 ghost use Rattle.run_work.specs.declared.trying.Tried.TheVariants.{Final};
 
 use crate::site::Sites;
@@ -89,6 +89,7 @@ impl<'s, 'd, 'g, J: Journal, G: Gate> Worker<'s, 'd, 'g, J, G> {
         ensures owes { IfOk result (λ tried. Owes self.old.node.desk.setup tried self.old.session self.new.session) }
         ensures obeyed { OnOk result (IsObeyed self.old.node.desk.setup item.now self.old.session self.new.session) }
         ensures ending { IfErr result (HasEnded J.tells self.old.session self.new.session) }
+        ensures marked { IfErr result (IsMarkedLost self.new.session) }
     {
         match *item {
             Item::Write { weights, op } => self.ask(rt, clock, &Request::Write { weights, op }),
@@ -141,6 +142,7 @@ impl<'s, 'd, 'g, J: Journal, G: Gate> Worker<'s, 'd, 'g, J, G> {
         ensures untouched { is_refused answer ≡ false → self.new.session ≡ self.old.session }
         ensures marked { is_refused answer ≡ true → OnOk result (IsUnmarked self.new.session → ⊥) }
         ensures ending { IfErr result (HasEnded J.tells self.old.session self.new.session) }
+        ensures marked { IfErr result (IsMarkedLost self.new.session) }
     {
         if let Err(NodeLoanFault::Node(fault)) = answer {
             mend(rt, clock, self.node, &mut self.session, fault)?;
@@ -164,6 +166,7 @@ impl<'s, 'd, 'g, J: Journal, G: Gate> Worker<'s, 'd, 'g, J, G> {
         ensures tried { IfOk result (λ tried. HasAsked request.now tried (own_calls self.old.session) (own_calls self.new.session)) }
         ensures owes { IfOk result (λ tried. Owes self.old.node.desk.setup tried self.old.session self.new.session) }
         ensures ending { IfErr result (HasEnded J.tells self.old.session self.new.session) }
+        ensures marked { IfErr result (IsMarkedLost self.new.session) }
     {
         let reply = call(rt, clock, self.node, &mut self.session, request)?;
         Ok(tried(&reply))
@@ -186,6 +189,7 @@ impl<'s, 'd, 'g, J: Journal, G: Gate> Worker<'s, 'd, 'g, J, G> {
         ensures tried { IfOk result (λ tried. HasTried (item.Held weight op) tried (own_calls self.old.session) (own_calls self.new.session)) }
         ensures owes { IfOk result (λ tried. Owes self.old.node.desk.setup tried self.old.session self.new.session) }
         ensures ending { IfErr result (HasEnded J.tells self.old.session self.new.session) }
+        ensures marked { IfErr result (IsMarkedLost self.new.session) }
     {
         let held = &mut self.allowances[weight.conit as usize];
         if held.amount() < weight.nweight.unsigned_abs() {
@@ -214,6 +218,7 @@ impl<'s, 'd, 'g, J: Journal, G: Gate> Worker<'s, 'd, 'g, J, G> {
         ensures tried { IfOk result (λ tried. HasTried (item.Reserve conit amount) tried (own_calls self.old.session) (own_calls self.new.session)) }
         ensures owes { IfOk result (λ tried. Owes self.old.node.desk.setup tried self.old.session self.new.session) }
         ensures ending { IfErr result (HasEnded J.tells self.old.session self.new.session) }
+        ensures marked { IfErr result (IsMarkedLost self.new.session) }
     {
         match reserve(rt, clock, self.node, &mut self.session, conit, amount)? {
             Reserving::Granted(granted) => {
@@ -242,6 +247,7 @@ impl<'s, 'd, 'g, J: Journal, G: Gate> Worker<'s, 'd, 'g, J, G> {
         ensures tried { IfOk result (λ tried. HasTried (item.Release conit) tried (own_calls self.old.session) (own_calls self.new.session)) }
         ensures owes { IfOk result (λ tried. Owes self.old.node.desk.setup tried self.old.session self.new.session) }
         ensures ending { IfErr result (HasEnded J.tells self.old.session self.new.session) }
+        ensures marked { IfErr result (IsMarkedLost self.new.session) }
     {
         let held = &mut self.allowances[conit as usize];
         release(rt, clock, self.node, &mut self.session, held)?;

@@ -2,3 +2,4 @@ pub mod Goings
 pub mod Sames
 pub mod Mends
 pub mod Tries
+pub mod Losses

@@ -1,21 +1,18 @@
 -- What a call that was refused leaves of a session, and what comes back of it when the node has begun anew.
-use Rattle.std.proofs.Common.{◌≡◌, ◌≢◌, ◌⊎◌, ℕ, ◌+◌, ◌<◌, Bool, true, false, List, [], ◌∷◌, ◌++◌, Option, length, take, refl, sym, ap, ◌∙◌, subst, inl, inr, arith}
+use Rattle.std.proofs.Common.{◌≡◌, ◌≢◌, ◌⊎◌, ℕ, ◌+◌, ◌<◌, true, false, List, [], ◌∷◌, ◌++◌, Option, length, take, refl, sym, ap, ◌∙◌, inl, inr, arith}
 use Rattle.tact_base.specs.Setup.{Setup}
-use Rattle.run_model.specs.Histories.{IsPrefix}
-use Rattle.run_model.specs.declared.call.Reply.{Reply}
-use Rattle.run_model.specs.declared.call.Request.{Request}
 use Rattle.run_model.specs.declared.entry.Act.TheVariants as act
 use Rattle.run_model.specs.declared.entry.Entry.{Entry}
 use Rattle.locked_replica.specs.declared.fault.NodeFault.{NodeFault}
 use Rattle.locked_replica.specs.declared.fault.NodeFault.TheVariants as fault
-use Rattle.replica_lock.specs.Resuming.{HasFallen, HasResumed, HasStood}
+use Rattle.replica_lock.specs.Resuming.{HasResumed}
 use Rattle.replica_lock.specs.Allowances.{AllowanceView, lost_with}
 use Rattle.replica_lock.specs.Sessions.{HasHeard, HasMade, IsFaultSeen, SessionView, failed_by, own_calls}
 use Rattle.replica_lock.specs.declared.resuming.Resumed.{Resumed}
 use Rattle.replica_lock.specs.declared.resuming.Resumed.TheVariants as resumed
 use Rattle.steady_node.specs.Endings.{IsTold}
 use Rattle.steady_node.specs.Going.{GoesOn, IsUnmarked, entries_left}
-use Rattle.steady_node.specs.Settled.{HasCallMore, HasComeBack, IsRefused, is_doubtful}
+use Rattle.steady_node.specs.Settled.{HasComeBack, IsRefused, is_doubtful}
 use Rattle.steady_node.proofs.Goings.{GoesOn-made, GoesOn-marked, GoesOn-trans, client-on, first_calls, going, left-made, left-on, replica-on, risen-some, unmarked-before}
 
 module _ (setup : Setup) (before after : SessionView) where

@@ -1,7 +1,7 @@
 -- Requests that a test takes for the same.
-use Rattle.std.proofs.Common.{◌≡◌, true, refl, sym, subst, ap₂, arith}
+use Rattle.std.proofs.Common.{◌≡◌, ◌≢◌, ◌&&◌, true, false, refl, sym, ◌∙◌, subst, ap₂, arith}
 use Rattle.std.specs.Prelude.{Decides}
-use Rattle.std.proofs.lemmas.Bool.{and_parts, false≢true}
+use Rattle.std.proofs.lemmas.Bool.{and_parts, eq-eqb, false≢true}
 use Rattle.std.proofs.lemmas.Bool.Decides.{nat_tests, Decides-int_eq}
 use Rattle.std.proofs.lemmas.Slice.Eq.{slice_eq-Decides}
 use Rattle.tact_base.specs.contracts.conit_list.NeedPartialEq.TheImpl.{eq-value as need-eq}
@@ -75,3 +75,22 @@ same_request (request.Read key needs) (request.Read key' needs') agrees =
     let keys : key ≡ key' = grind (arith, nat_tests) in
     ap₂ request.Read keys ((slice_eq-Decides decides_need needs needs' _ refl).0 parts.1)
 same_request (request.Read key needs) other agrees = absurd (false≢true agrees)
+
+op_itself : (one : Op) → op-eq.it one one ≡ true
+op_itself (op.Put key value) = ap₂ (λ x y. x && y) (eq-eqb key key refl) ((Decides-int_eq value value).1 refl)
+op_itself (op.Add key delta) = ap₂ (λ x y. x && y) (eq-eqb key key refl) ((Decides-int_eq delta delta).1 refl)
+op_itself (op.Shift from to amount) = grind (arith, nat_tests)
+
+-- and a request is the same as itself
+request_itself : (one : Request) → request-eq.it one one ≡ true
+request_itself (request.Write weights done) =
+    ap₂ (λ x y. x && y) ((slice_eq-Decides decides_weight weights weights _ refl).1 refl) (op_itself done)
+request_itself (request.Held weight done) = ap₂ (λ x y. x && y) (weight_itself weight) (op_itself done)
+request_itself (request.Reserve conit amount) = grind (arith, nat_tests)
+request_itself (request.Release conit amount) = grind (arith, nat_tests)
+request_itself (request.Read key needs) =
+    ap₂ (λ x y. x && y) (eq-eqb key key refl) ((slice_eq-Decides decides_need needs needs _ refl).1 refl)
+
+pub other_request : (one other : Request) → request-eq.it one other ≡ false → one ≢ other
+other_request one other differs same =
+    false≢true (sym differs ∙ subst (λ (r : Request). request-eq.it one r ≡ true) same (request_itself one))

@@ -1,5 +1,5 @@
 -- A call that is tried until it is answered.
-use Rattle.std.proofs.Common.{◌≡◌, ◌⊎◌, ℕ, ◌<◌, Bool, false, List, [], ◌∷◌, ◌++◌, refl, sym, ap, ◌∙◌, subst, inl, inr, ⊎_elim, arith}
+use Rattle.std.proofs.Common.{◌≡◌, ◌⊎◌, ℕ, ◌<◌, Bool, true, false, List, [], ◌∷◌, ◌++◌, refl, sym, ap, ◌∙◌, subst, inl, inr, ⊎_elim, arith}
 use Rattle.tact_base.specs.Setup.{Setup}
 use Rattle.run_model.specs.declared.call.Reply.{Reply}
 use Rattle.run_model.specs.declared.call.Request.{Request}
@@ -8,11 +8,14 @@ use Rattle.run_model.specs.declared.entry.Entry.{Entry}
 use Rattle.locked_replica.specs.declared.fault.NodeFault.{NodeFault}
 use Rattle.replica_lock.specs.Allowances.{AllowanceView}
 use Rattle.replica_lock.specs.Sessions.{HasCalled, HasHeard, IsSessionOf, NodeView, SessionView, call_after, failed_by, own_calls}
+use Rattle.replica_lock.specs.declared.resuming.Resumed.{Resumed}
+use Rattle.replica_lock.specs.declared.resuming.Resumed.TheVariants as resumed
 use Rattle.std.specs.Prelude.{Option, None, Some, Result, Ok, Err, IfOk, option_map}
 use Rattle.steady_node.specs.Answered.{HasFailed, IsAnswered, IsPlain, IsTakenFrom, IsTried}
 use Rattle.steady_node.specs.Endings.{HasEnded}
 use Rattle.steady_node.specs.Going.{GoesOn, IsUnmarked, entries_left}
-use Rattle.steady_node.specs.Settled.{HasCallMore, IsOutcome}
+use Rattle.steady_node.specs.Lost.{HasOtherBack, IsCallLost}
+use Rattle.steady_node.specs.Settled.{HasCallMore, HasComeBack, IsOutcome}
 use Rattle.steady_node.specs.declared.ending.Ending.{Ending}
 use Rattle.steady_node.specs.declared.settling.Outcome.{Outcome}
 use Rattle.steady_node.specs.declared.settling.Outcome.TheVariants as outcome
@@ -51,6 +54,28 @@ HasCallMore-before setup before between after asked given client same more = rec
   promised = more.promised;
 }
 
+-- so it is with what came back of a call, and with one that is lost
+HasComeBack-before : (setup : Setup) (before between after : SessionView) (told : Resumed)
+    → between.client ≡ before.client
+    → own_calls between ≡ own_calls before
+    → HasComeBack setup between after told
+    → HasComeBack setup before after told
+HasComeBack-before setup before between after resumed.Nothing client same back = back
+HasComeBack-before setup before between after (resumed.Stands asked given allowance) client same back =
+    HasCallMore-before setup before between after asked given client same back
+HasComeBack-before setup before between after (resumed.Dropped allowance) client same back = back ∙ same
+
+IsCallLost-before : (node : NodeView) (asked : Request) (before between after : SessionView)
+    → between.client ≡ before.client
+    → own_calls between ≡ own_calls before
+    → IsCallLost node asked between after
+    → IsCallLost node asked before after
+IsCallLost-before node asked before between after client same lost = record { marked = lost.marked; cause = go lost.cause }
+  where
+    go : (after.doubt ≡ true) ⊎ HasOtherBack node asked between after → (after.doubt ≡ true) ⊎ HasOtherBack node asked before after
+    go (inl doubt) = inl doubt
+    go (inr has) = inr (record { told = has.told; back = HasComeBack-before node.desk.setup before between after has.told client same has.back; other = has.other })
+
 -- A call that was refused, and what became of it after the node began anew.
 module _ (node : NodeView) (before refused after : SessionView) (told : NodeFault) (certain : before.doubt ≡ false)
     (heard : HasHeard node.desk.setup before (failed_by told before) refused) where
@@ -69,6 +94,9 @@ module _ (node : NodeView) (before refused after : SessionView) (told : NodeFaul
     certain = ended.certain;
     calls = λ kept. ended.calls kept ∙ heard.calls certain;
   }
+
+  pub IsCallLost-later : (asked : Request) → IsCallLost node asked refused after → IsCallLost node asked before after
+  IsCallLost-later asked lost = IsCallLost-before node asked before refused after (client-on 0 before refused refused-on) (heard.calls certain) lost
 
   pub IsAnswered-later : (asked : Request) (given : Reply) (back : Option AllowanceView)
       → (IsUnmarked after → ⊥)
@@ -161,3 +189,6 @@ module _ (node : NodeView) (before now after : SessionView) (trying : IsTrying n
     certain = ended.certain;
     calls = λ kept. ended.calls kept ∙ trying.calls;
   }
+
+  pub IsCallLost-tried : (asked : Request) → IsCallLost node asked now after → IsCallLost node asked before after
+  IsCallLost-tried asked lost = IsCallLost-before node asked before now after (client-on 0 before now trying.on) trying.calls lost

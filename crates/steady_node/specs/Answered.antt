@@ -1,5 +1,5 @@
 -- Calls that were answered, at once or after the node began anew.
-use Rattle.std.specs.Prelude.{◌≡◌, ◌≢◌, ℕ, ◌<◌, false, Option, None, Some}
+use Rattle.std.specs.Prelude.{◌≡◌, ◌≢◌, ℕ, ◌+◌, ◌<◌, false, Option, None, Some}
 use Rattle.run_model.specs.declared.call.Reply.{Reply}
 use Rattle.run_model.specs.declared.call.Reply.TheVariants as reply
 use Rattle.run_model.specs.declared.call.Request.{Request}
@@ -48,6 +48,10 @@ IsReservingOf came conit amount (Some (reserving.Granted allowance)) =
 IsReservingOf came conit amount (Some (reserving.Waiting given)) = (came ≡ outcome.Stands given None) × (given ≢ reply.Granted)
 IsReservingOf came conit amount None = came ≡ outcome.Dropped None
 
+-- none of these
+abbrev pub IsNoReserving : Outcome → ℕ → ℕ → Type 0
+IsNoReserving came conit amount = (answer : Option Reserving) → IsReservingOf came conit amount answer → ⊥
+
 -- What a call came to that takes no allowance; and one that takes of an allowance, which has so much left where the call
 -- stands, and else all that it had.
 abbrev pub IsPlain : Outcome → Option Reply → Type 0
@@ -62,3 +66,18 @@ IsTakenFrom came before after whole left (Some given) =
     (back : Option AllowanceView) × (came ≡ outcome.Stands given back) × (after ≡ with_amount before left)
 IsTakenFrom came before after whole left None =
     (back : Option AllowanceView) × (came ≡ outcome.Dropped back) × (after ≡ with_amount before whole)
+
+-- what comes back makes up the amount that is due, with what an allowance has: so much where the call stands, and else all
+-- that it had
+abbrev pub MakesUp : AllowanceView → Option AllowanceView → ℕ → Type 0
+MakesUp allowance None due = allowance.amount ≡ due
+MakesUp allowance (Some back) due = (back.conit ≡ allowance.conit) × (allowance.amount + back.amount ≡ due)
+
+abbrev pub IsMadeUp : Outcome → AllowanceView → ℕ → ℕ → Type 0
+IsMadeUp (outcome.Stands given back) allowance whole left = MakesUp allowance back left
+IsMadeUp (outcome.Dropped back) allowance whole left = MakesUp allowance back whole
+
+-- a reply that isn't such
+abbrev pub IsOtherThan : (Reply → Type 0) → Option Reply → Type 0
+IsOtherThan IsSuch (Some given) = IsSuch given → ⊥
+IsOtherThan IsSuch None = ⊥

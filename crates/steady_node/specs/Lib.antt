@@ -1,5 +1,6 @@
 pub mod Going
 pub mod Endings
 pub mod Settled
+pub mod Lost
 pub mod Answered
 pub mod Taken

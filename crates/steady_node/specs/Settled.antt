@@ -1,5 +1,5 @@
 -- What became of a call that was refused.
-use Rattle.std.specs.Prelude.{◌≡◌, ℕ, Bool, true, false, List, [], ◌∷◌, ◌++◌, length, Option, None}
+use Rattle.std.specs.Prelude.{◌≡◌, ◌≢◌, ◌⊎◌, ℕ, Bool, true, false, [], ◌∷◌, ◌++◌, length, Option, None}
 use Rattle.tact_base.specs.Setup.{Setup}
 use Rattle.run_model.specs.Promises.{IsKept}
 use Rattle.run_model.specs.Runs.{IsRun}
@@ -50,10 +50,13 @@ IsResumedAs wanted (resumed.Stands asked given allowance) (outcome.Stands reply 
 IsResumedAs wanted (resumed.Dropped allowance) (outcome.Dropped back) = back ≡ allowance
 IsResumedAs wanted told other = ⊥
 
--- what became of a call, by what the session has seen
+-- what became of a call, as what came back with just its request; and by what the session has seen
+abbrev pub told_of : Request → Outcome → Resumed
+told_of asked (outcome.Stands given back) = resumed.Stands asked given back
+told_of asked (outcome.Dropped back) = resumed.Dropped back
+
 abbrev pub IsOutcome : Setup → Request → SessionView → SessionView → Outcome → Type 0
-IsOutcome setup asked before after (outcome.Stands given back) = HasCallMore setup before after asked given
-IsOutcome setup asked before after (outcome.Dropped back) = own_calls after ≡ own_calls before
+IsOutcome setup asked before after came = HasComeBack setup before after (told_of asked came)
 
 -- the allowance that comes back, if there is one; a call that wasn't made and of which nothing comes back
 abbrev pub back_in : Outcome → Option AllowanceView
@@ -62,3 +65,8 @@ back_in (outcome.Dropped back) = back
 
 abbrev pub nothing_back : Outcome
 nothing_back = outcome.Dropped None
+
+-- and by the fault that it was refused with: where the node was halted it wasn't made; or the journal failed, which the
+-- session has marked
+abbrev pub IsOutcomeOf : NodeFault → SessionView → Outcome → Type 0
+IsOutcomeOf told after came = ((told ≡ fault.Halted) × (came ≡ nothing_back)) ⊎ ((told ≡ fault.JournalFault) × (after.faults ≢ 0))

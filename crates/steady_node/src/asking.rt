@@ -1,5 +1,5 @@
 //! Calls of clients.
-ghost use Rattle.std.specs.Prelude.{◌≡◌, ◌≢◌, ◌-◌, ◌<◌, ◌≤◌, unsigned_abs, false, IfErr, IfOk, IfSome, IsTrue, OnOk, None, option_map, length};
+ghost use Rattle.std.specs.Prelude.{◌≡◌, ◌≢◌, ◌-◌, ◌<◌, ◌≤◌, unsigned_abs, true, false, IfErr, IfOk, IfSome, IsTrue, OnOk, None, option_map, length};
 ghost use Rattle.tact_base.specs.declared.limits.TheConstants.{AMOUNT_MAX};
 ghost use Rattle.run_model.specs.Ranges.{IsOpInRange, IsRequestInRange, IsWeightInRange};
 ghost use Rattle.run_model.specs.declared.call.Reply.TheVariants as reply;
@@ -8,10 +8,11 @@ ghost use Rattle.locked_replica.specs.Locks.{IsWriteOrRead};
 ghost use Rattle.locked_replica.specs.declared.fault.RestartFault.TheVariants as restart_fault;
 ghost use Rattle.replica_lock.specs.Allowances.{IsAllowanceOf};
 ghost use Rattle.replica_lock.specs.Sessions.{IsAtNode, IsSessionOf, own_calls};
-ghost use Rattle.steady_node.specs.Answered.{IsAnswered, IsPlain, IsReservedBy, IsReservedOnce, IsReservingOf, IsTakenFrom, IsTried, with_amount};
+ghost use Rattle.steady_node.specs.Answered.{IsAnswered, IsMadeUp, IsNoReserving, IsOtherThan, IsPlain, IsReservedBy, IsReservedOnce, IsReservingOf, IsTakenFrom, IsTried, MakesUp, with_amount};
 ghost use Rattle.steady_node.specs.Endings.{HasEnded, IsLost};
 ghost use Rattle.steady_node.specs.Going.{GoesOn};
-ghost use Rattle.steady_node.specs.Settled.{back_in, nothing_back};
+ghost use Rattle.steady_node.specs.Lost.{IsCallLost, IsDone, IsReleased};
+ghost use Rattle.steady_node.specs.Settled.{back_in};
 
 use crate::ending::Ending;
 use crate::mending::{moment, no_memory};
@@ -55,6 +56,7 @@ pub fn call<R: Wait, C: Clock, J: Journal, G: Gate>(
     ensures on { GoesOn 1 session.old session.new }
     ensures at { IsAtNode node.now session.new }
     ensures answered { IfOk result (IsAnswered node.now session.old session.new asked.now) }
+    ensures lost { IfErr result (λ ending. ending.lost ≡ true → IsCallLost node.now asked.now session.old session.new) }
     ensures ending { IfErr result (HasEnded J.tells session.old session.new) }
 {
     loop {
@@ -78,6 +80,7 @@ fn call_once<R: Wait, C: Clock, J: Journal, G: Gate>(
     ensures on { GoesOn 1 session.old session.new }
     ensures at { IsAtNode node.now session.new }
     ensures tried { IfOk result (IsTried node.now asked.now session.old session.new) }
+    ensures lost { IfErr result (λ ending. ending.lost ≡ true → IsCallLost node.now asked.now session.old session.new) }
     ensures ending { IfErr result (HasEnded J.tells session.old session.new) }
 {
     let copy = copied(asked)?;
@@ -91,7 +94,7 @@ fn call_once<R: Wait, C: Clock, J: Journal, G: Gate>(
 // What a call came to that takes no allowance.
 fn plain(came: Outcome) -> Result<Option<Reply>, Ending>
     ensures plain { IfOk result (IsPlain came) }
-    ensures other { IfErr result (λ ending. IsLost ending × (came ≢ nothing_back)) }
+    ensures other { IfErr result (λ ending. IsLost ending × (back_in came ≢ None)) }
 {
     let (reply, back) = match came {
         Outcome::Stands { reply, back } => (Some(reply), back),
@@ -125,6 +128,7 @@ pub fn write_held<R: Wait, C: Clock, J: Journal, G: Gate>(
     ensures answered { IfOk result (λ accepted. IsAnswered node.now session.old session.new (request.Held weight op) (reply.Done accepted.index accepted.stamp)) }
     ensures allowance { OnOk result (allowance.new ≡ with_amount allowance.old (allowance.old.amount - unsigned_abs weight.nweight)) }
     ensures left { IfErr result (λ ending. ending.lost ≡ false → allowance.new ≡ allowance.old) }
+    ensures lost { IfErr result (λ ending. ending.lost ≡ true → IsCallLost node.now (request.Held weight op) session.old session.new) }
     ensures ending { IfErr result (HasEnded J.tells session.old session.new) }
 {
     loop {
@@ -156,6 +160,7 @@ fn held_once<R: Wait, C: Clock, J: Journal, G: Gate>(
     ensures allowance { IfOk result (λ tried. IfSome tried (λ accepted. allowance.new ≡ with_amount allowance.old (allowance.old.amount - unsigned_abs weight.nweight))) }
     ensures same { IfOk result (λ tried. tried ≡ None → allowance.new ≡ allowance.old) }
     ensures left { IfErr result (λ ending. ending.lost ≡ false → allowance.new ≡ allowance.old) }
+    ensures lost { IfErr result (λ ending. ending.lost ≡ true → IsCallLost node.now (request.Held weight op) session.old session.new) }
     ensures ending { IfErr result (HasEnded J.tells session.old session.new) }
 {
     let whole = allowance.amount();
@@ -177,7 +182,7 @@ fn held_once<R: Wait, C: Clock, J: Journal, G: Gate>(
 // A held write that was accepted, by its reply; none where it wasn't made.
 fn accepted(tried: Option<Reply>) -> Result<Option<Accepted>, Ending>
     ensures same { IfOk result (λ found. option_map (λ accepted. reply.Done accepted.index accepted.stamp) found ≡ tried) }
-    ensures other { IfErr result (λ ending. IsLost ending × (tried ≢ None)) }
+    ensures other { IfErr result (λ ending. IsLost ending × IsOtherThan IsDone tried) }
 {
     match tried {
         Some(Reply::Done { index, stamp }) => Ok(Some(Accepted { index, stamp })),
@@ -203,6 +208,7 @@ pub fn release<R: Wait, C: Clock, J: Journal, G: Gate>(
     ensures answered { OnOk result (IsAnswered node.now session.old session.new (request.Release allowance.old.conit allowance.old.amount) reply.Released) }
     ensures allowance { OnOk result (allowance.new ≡ with_amount allowance.old 0) }
     ensures left { IfErr result (λ ending. ending.lost ≡ false → allowance.new ≡ allowance.old) }
+    ensures lost { IfErr result (λ ending. ending.lost ≡ true → IsCallLost node.now (request.Release allowance.old.conit allowance.old.amount) session.old session.new) }
     ensures ending { IfErr result (HasEnded J.tells session.old session.new) }
 {
     loop {
@@ -229,6 +235,7 @@ fn release_once<R: Wait, C: Clock, J: Journal, G: Gate>(
     ensures allowance { IfOk result (λ tried. IfSome tried (λ amount. allowance.new ≡ with_amount allowance.old 0)) }
     ensures same { IfOk result (λ tried. tried ≡ None → allowance.new ≡ allowance.old) }
     ensures left { IfErr result (λ ending. ending.lost ≡ false → allowance.new ≡ allowance.old) }
+    ensures lost { IfErr result (λ ending. ending.lost ≡ true → IsCallLost node.now (request.Release allowance.old.conit allowance.old.amount) session.old session.new) }
     ensures ending { IfErr result (HasEnded J.tells session.old session.new) }
 {
     let whole = allowance.amount();
@@ -253,7 +260,7 @@ fn release_once<R: Wait, C: Clock, J: Journal, G: Gate>(
 fn released(tried: Option<Reply>, amount: u64) -> Result<Option<u64>, Ending>
     ensures same { IfOk result (λ found. option_map (λ given. reply.Released) found ≡ tried) }
     ensures amount { IfOk result (λ found. IfSome found (λ given. given ≡ amount)) }
-    ensures other { IfErr result (λ ending. IsLost ending × (tried ≢ None)) }
+    ensures other { IfErr result (λ ending. IsLost ending × IsOtherThan IsReleased tried) }
 {
     match tried {
         Some(Reply::Released) => Ok(Some(amount)),
@@ -274,7 +281,7 @@ fn taken<J: Journal, G: Gate>(
     requires allowance { IsAllowanceOf node.now allowance.old }
     requires back { IfSome (back_in came) (IsAllowanceOf node.now) }
     ensures taken { IfOk result (IsTakenFrom came allowance.old allowance.new whole left) }
-    ensures other { IfErr result (λ ending. IsLost ending × (came ≡ nothing_back → allowance.old.amount ≢ whole)) }
+    ensures other { IfErr result (λ ending. IsLost ending × (IsMadeUp came allowance.old whole left → ⊥)) }
 {
     let (reply, back, due) = match came {
         Outcome::Stands { reply, back } => (Some(reply), back, left),
@@ -296,7 +303,7 @@ fn is_restored<J: Journal, G: Gate>(
     requires allowance { IsAllowanceOf node.now allowance.old }
     requires back { IfSome back (IsAllowanceOf node.now) }
     ensures restored { IsTrue result → allowance.new ≡ with_amount allowance.old due }
-    ensures none { back ≡ None → allowance.old.amount ≡ due → IsTrue result }
+    ensures made_up { MakesUp allowance.old back due → IsTrue result }
 {
     if let Some(back) = back {
         if node.join(allowance, back).is_err() {
@@ -321,6 +328,7 @@ pub fn reserve<R: Wait, C: Clock, J: Journal, G: Gate>(
     ensures on { GoesOn 1 session.old session.new }
     ensures at { IsAtNode node.now session.new }
     ensures reserved { IfOk result (IsReservedBy node.now conit amount (IsAnswered node.now session.old session.new (request.Reserve conit amount))) }
+    ensures lost { IfErr result (λ ending. ending.lost ≡ true → IsCallLost node.now (request.Reserve conit amount) session.old session.new) }
     ensures ending { IfErr result (HasEnded J.tells session.old session.new) }
 {
     loop {
@@ -345,6 +353,7 @@ fn reserve_once<R: Wait, C: Clock, J: Journal, G: Gate>(
     ensures on { GoesOn 1 session.old session.new }
     ensures at { IsAtNode node.now session.new }
     ensures tried { IfOk result (IsReservedOnce node.now conit amount session.old session.new) }
+    ensures lost { IfErr result (λ ending. ending.lost ≡ true → IsCallLost node.now (request.Reserve conit amount) session.old session.new) }
     ensures ending { IfErr result (HasEnded J.tells session.old session.new) }
 {
     stand(session);
@@ -352,11 +361,11 @@ fn reserve_once<R: Wait, C: Clock, J: Journal, G: Gate>(
         Ok(reserving) => Ok(Some(reserving)),
         Err(fault) => {
             let asked = Request::Reserve { conit, amount };
-            reserving(
-                came_of(rt, clock, node, session, &asked, fault)?,
-                conit,
-                amount,
-            )
+            let came = match came_of(rt, clock, node, session, &asked, fault) {
+                Ok(came) => came,
+                Err(ending) => return Err(ending),
+            };
+            reserving(came, conit, amount)
         }
     }
 }
@@ -364,7 +373,7 @@ fn reserve_once<R: Wait, C: Clock, J: Journal, G: Gate>(
 // What a reserve of an amount on a conit came to; none where it wasn't made.
 fn reserving(came: Outcome, conit: u32, amount: u64) -> Result<Option<Reserving>, Ending>
     ensures came { IfOk result (IsReservingOf came conit amount) }
-    ensures other { IfErr result (λ ending. IsLost ending × (came ≢ nothing_back)) }
+    ensures other { IfErr result (λ ending. IsLost ending × IsNoReserving came conit amount) }
 {
     match came {
         Outcome::Stands {

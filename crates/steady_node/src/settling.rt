@@ -1,12 +1,12 @@
 //! What became of a call that was refused.
-ghost use Rattle.std.specs.Prelude.{◌≡◌, ◌≢◌, ◌⊎◌, ◌<◌, true, false, IfErr, IfOk, IfSome, OnOk, None, length};
-ghost use Rattle.locked_replica.specs.declared.fault.NodeFault.TheVariants as node_fault;
+ghost use Rattle.std.specs.Prelude.{◌≡◌, ◌≢◌, ◌<◌, true, false, IfErr, IfOk, IfSome, OnErr, OnOk, length};
 ghost use Rattle.replica_lock.specs.Allowances.{IsAllowanceOf};
 ghost use Rattle.replica_lock.specs.Resuming.{allowance_in};
-ghost use Rattle.replica_lock.specs.Sessions.{IsAtNode, own_calls};
+ghost use Rattle.replica_lock.specs.Sessions.{IsAtNode, NodeView, own_calls};
 ghost use Rattle.steady_node.specs.Endings.{HasEnded, IsLost};
 ghost use Rattle.steady_node.specs.Going.{GoesOn, IsUnmarked, entries_left};
-ghost use Rattle.steady_node.specs.Settled.{HasComeBack, IsOutcome, IsRefused, IsResumedAs, back_in, is_doubtful, nothing_back};
+ghost use Rattle.steady_node.specs.Lost.{IsCallLost, IsDueBack};
+ghost use Rattle.steady_node.specs.Settled.{HasComeBack, IsOutcome, IsOutcomeOf, IsRefused, IsResumedAs, back_in, is_doubtful};
 
 use crate::ending::Ending;
 use crate::mending::{mend, restart};
@@ -56,8 +56,9 @@ pub(crate) fn came_of<R: Wait, C: Clock, J: Journal, G: Gate>(
     ensures certain { OnOk result (session.new.doubt ≡ false) }
     ensures outcome { IfOk result (IsOutcome node.now.desk.setup asked.now session.old session.new) }
     ensures allowance { IfOk result (λ came. IfSome (back_in came) (IsAllowanceOf node.now)) }
-    ensures failed { IfOk result (λ came. ((fault ≡ node_fault.Halted) × (came ≡ nothing_back)) ⊎ ((fault ≡ node_fault.JournalFault) × (session.new.faults ≢ 0))) }
+    ensures failed { IfOk result (IsOutcomeOf fault session.new) }
     ensures lost { IfErr result (λ ending. ending.lost ≡ is_doubtful fault) }
+    ensures cause { IfErr result (λ ending. ending.lost ≡ true → IsCallLost node.now asked.now session.old session.new) }
     ensures ending { IfErr result (HasEnded J.tells session.old session.new) }
 {
     if let NodeFault::JournalFault = fault {
@@ -87,7 +88,9 @@ fn resume<R: Wait, C: Clock, J: Journal, G: Gate>(
     ensures nearer { OnOk result (entries_left session.new < entries_left session.old) }
     ensures back { IfOk result (HasComeBack node.now.desk.setup session.old session.new) }
     ensures allowance { IfOk result (λ told. IfSome (allowance_in told) (IsAllowanceOf node.now)) }
+    ensures marked { session.new.faults ≢ 0 }
     ensures lost { IfErr result (λ ending. ending.lost ≡ true) }
+    ensures doubtful { OnErr result (session.new.doubt ≡ true) }
     ensures ending { IfErr result (HasEnded J.tells session.old session.new) }
 {
     loop {
@@ -101,7 +104,7 @@ fn resume<R: Wait, C: Clock, J: Journal, G: Gate>(
 // A call that came back, if it is the one that was asked for.
 fn as_asked(asked: &Request, resumed: Resumed) -> Result<Outcome, Ending>
     ensures same { IfOk result (IsResumedAs asked.now resumed) }
-    ensures other { IfErr result IsLost }
+    ensures other { IfErr result (λ ending. IsLost ending × ((node : NodeView) → IsDueBack node asked.now resumed → ⊥)) }
 {
     match resumed {
         Resumed::Stands {

@@ -192,6 +192,7 @@ impl Shelf for MemShelf {
         ensures same { self.new.fails ≡ self.old.fails }
 
         // What each shelf ensures of its count.
+        ensures never_falls { self.old.faults ≤ self.new.faults }
         ensures sound { journal.schedule.faults ≡ 0 → self.new.faults ≡ self.old.faults }
         ensures failed { journal.schedule.faults ≢ 0 → HasRisen self.old.faults self.new.faults }
     {

@@ -30,6 +30,7 @@ pub trait Shelf {
         requires { replica < REPLICAS_MAX }
         ensures put { IsTrue Self.J.tells → stored self.new replica ≡ Some (Self.J.pieces journal) }
         ensures others { (of : ℕ) → IsTrue Self.J.tells → of ≢ replica → stored self.new of ≡ stored self.old of }
+        ensures never_falls { faults self.old ≤ faults self.new }
         ensures sound { Self.J.faults journal ≡ 0 → faults self.new ≡ faults self.old }
         ensures failed { Self.J.faults journal ≢ 0 → HasRisen (faults self.old) (faults self.new) };
 }

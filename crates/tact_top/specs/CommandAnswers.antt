@@ -1,5 +1,6 @@
 -- What each command that reads an input makes of it, and what each that draws writes.
 use Rattle.std.specs.Prelude.{ℕ, List}
+use Rattle.run_work.specs.Shelves.{ShelfEnd}
 use Rattle.tact_top.specs.declared.words.Drawing.{Drawing}
 use Rattle.tact_top.specs.declared.words.Drawing.TheVariants.{Drill, Primary, Roam, Sales}
 use Rattle.tact_top.specs.declared.words.Reading.{Reading}
@@ -10,17 +11,17 @@ use Rattle.tact_top.specs.DrillText.{drill_text}
 use Rattle.tact_top.specs.PrimaryText.{primary_text}
 use Rattle.tact_top.specs.RecordForms.{IsByteFault, IsPacked, IsRecordFault, IsTextFault, IsUnpacked}
 use Rattle.tact_top.specs.RoamText.{roam_text}
-use Rattle.tact_top.specs.Running.{IsLoadFault, IsRan}
+use Rattle.tact_top.specs.Running.{AsksOfRun, IsLoadFault}
 use Rattle.tact_top.specs.SalesText.{sales_text}
 use Rattle.tact_top.specs.ScriptForm.{IsPlayed, IsScriptFault}
 
--- what an input asks of it
-abbrev pub asks : Reading → Asking
-asks Play = IsPlayed
-asks Check = IsChecked
-asks Pack = IsPacked
-asks Unpack = IsUnpacked
-asks (Run tries) = IsRan tries
+-- what an input asks of it, by what the shelf came to
+abbrev pub asks : ShelfEnd → Reading → Asking
+asks shelf Play = IsPlayed
+asks shelf Check = IsChecked
+asks shelf Pack = IsPacked
+asks shelf Unpack = IsUnpacked
+asks shelf (Run tries) = AsksOfRun shelf tries
 
 -- where an input isn't in its grammar
 abbrev pub faults : Reading → Faulting

@@ -102,3 +102,11 @@ IfReads other Fact = Unit {0}
 abbrev pub IfDraws : Result Command UsageKind → (Drawing → ℕ → Type 0) → Type 0
 IfDraws (Ok (Draw drawing number)) Fact = Fact drawing number
 IfDraws other Fact = Unit {0}
+
+-- this is true where the words don't ask for a run
+abbrev pub UnlessRun : Result Command UsageKind → Type 0 → Type 0
+UnlessRun (Ok (Read (Run tries))) Fact = Unit {0}
+UnlessRun other Fact = Fact
+
+abbrev pub UnlessRuns : Reading → Type 0 → Type 0
+UnlessRuns reading Fact = UnlessRun (Ok (Read reading)) Fact

@@ -1,8 +1,8 @@
 //! Workloads are run on threads.
-ghost use Rattle.std.specs.Prelude.{◌≡◌, ◌≤◌, ◌<◌, IfErr, IfOk};
+ghost use Rattle.std.specs.Prelude.{◌≡◌, ◌⊎◌, ◌≤◌, ◌<◌, IfErr, IfOk};
+ghost use Rattle.run_model.specs.declared.status.Status.TheVariants as answer;
 ghost use Rattle.tact_top.specs.Answers.{Completes, HasCause, IsEnd, Writes};
-ghost use Rattle.tact_top.specs.Refusals.{IsRefusalBy};
-ghost use Rattle.tact_top.specs.Running.{HasEndedBy, IsLoadFault, IsRan};
+ghost use Rattle.tact_top.specs.Running.{AsksOfRun, HasEndedBy, HasFailedBy, IsLoadFault, IsRan, IsUnwritten};
 
 use crate::job::{Output, Refusal, written};
 use crate::reading::read_plan;
@@ -12,13 +12,13 @@ use run_work::{Run, RunFault, run_plan};
 use std::alloc::Global;
 use std::sync::Wait;
 use std::thread::Threads;
-use tact_base::{Bytes, INPUT_MAX, NoMemory};
-use tact_io::{Clock, Gate, ReadEnd, Sink, Source, read_all};
+use tact_base::{Bytes, INPUT_MAX};
+use tact_io::{Clock, Gate, ReadEnd, Shelf, Sink, Source, read_all};
 use work_load::Plan;
 
-/// Reads a workload to its end, runs it, each item tried so often at most, and writes the record of the run as text,
-/// without comments.
-pub(crate) fn run<R: Threads + Wait + Sync, C: Clock + Sync, G: Gate + Sync, S: Source, K: Sink>(
+/// Reads a workload to its end, runs it over journals out of a shelf, each item tried so often at most, and writes the
+/// record of the run as text, without comments.
+pub(crate) fn run<R: Threads + Wait + Sync, C: Clock + Sync, G: Gate + Sync, S: Source, K: Sink, B: Shelf>(
     rt: &R,
     alloc: Global,
     tries: u64,
@@ -26,15 +26,19 @@ pub(crate) fn run<R: Threads + Wait + Sync, C: Clock + Sync, G: Gate + Sync, S: 
     sink: &mut K,
     clock: &C,
     gate: &G,
+    shelf: &mut B,
 ) -> Status
+where
+    B::J: Drop + Send,
     requires tries { 0 < tries }
-    ensures cause { HasCause (IsRan tries) IsLoadFault result (S.left source.old) (S.left source.new)
+    ensures cause { HasCause (AsksOfRun (record { tells = B.J.tells; before = B.faults shelf.old; after = B.faults shelf.new; stored = B.stored shelf.new }) tries) IsLoadFault result (S.left source.old) (S.left source.new)
         (S.faults source.old) (S.faults source.new) (K.faults sink.old) (K.faults sink.new) }
-    ensures written { Writes (IsRan tries) result (S.left source.old) (K.written sink.old) (K.written sink.new) }
-    ensures complete { Completes (IsRan tries) IsLoadFault result (S.left source.old)
+    ensures written { Writes (AsksOfRun (record { tells = B.J.tells; before = B.faults shelf.old; after = B.faults shelf.new; stored = B.stored shelf.new }) tries) result (S.left source.old) (K.written sink.old) (K.written sink.new) }
+    ensures complete { Completes (AsksOfRun (record { tells = B.J.tells; before = B.faults shelf.old; after = B.faults shelf.new; stored = B.stored shelf.new }) tries) IsLoadFault result (S.left source.old)
         (S.faults source.old) (S.faults source.new) (K.faults sink.old) (K.faults sink.new) }
     ensures reads_never_fall { S.faults source.old ≤ S.faults source.new }
     ensures writes_never_fall { K.faults sink.old ≤ K.faults sink.new }
+    ensures shelf_never_falls { B.faults shelf.old ≤ B.faults shelf.new }
 {
     let input = match read_all(alloc, source, INPUT_MAX) {
         Ok(input) => input,
@@ -42,33 +46,45 @@ pub(crate) fn run<R: Threads + Wait + Sync, C: Clock + Sync, G: Gate + Sync, S: 
         Err(ReadEnd::Fault) => return Status::ReadFault,
         Err(ReadEnd::NoMemory) => return Status::NoMemory,
     };
-    match record_of(rt, alloc, input, tries, clock, gate) {
+    match record_of(rt, alloc, input, tries, clock, gate, shelf) {
         Ok(output) => written(output, sink),
-        Err(Refusal::Bad { place, kind }) => Status::BadInput { place, kind },
-        Err(Refusal::NoMemory) => Status::NoMemory,
+        Err(status) => status,
     }
 }
 
-// The record of a run of the workload that an input is, and the status once that is written. The input is given up
-// before the run.
-fn record_of<R: Threads + Wait + Sync, C: Clock + Sync, G: Gate + Sync>(
+// The record of a run of the workload that an input is, and the status once that is written; or the status where none is.
+// The input is given up before the run.
+fn record_of<R: Threads + Wait + Sync, C: Clock + Sync, G: Gate + Sync, B: Shelf>(
     rt: &R,
     alloc: Global,
     input: Bytes,
     tries: u64,
     clock: &C,
     gate: &G,
-) -> Result<Output, Refusal>
+    shelf: &mut B,
+) -> Result<Output, Status>
+where
+    B::J: Drop + Send,
     requires tries { 0 < tries }
-    ensures asked { IfOk result (λ output. IsRan tries input output.status output.text) }
+    ensures asked { IfOk result (λ output. IsRan (record { tells = B.J.tells; before = B.faults shelf.old; after = B.faults shelf.new; stored = B.stored shelf.new }) tries input output.status output.text) }
     ensures ends { IfOk result (λ output. IsEnd output.status) }
-    ensures refused { IfErr result (λ refusal. IsRefusalBy IsLoadFault input refusal) }
+    ensures unwritten { IfErr result (IsUnwritten (record { tells = B.J.tells; before = B.faults shelf.old; after = B.faults shelf.new; stored = B.stored shelf.new }) input) }
+    ensures never_falls { B.faults shelf.old ≤ B.faults shelf.new }
 {
-    let plan = read_plan(alloc, input.items())?;
+    let plan = match read_plan(alloc, input.items()) {
+        Ok(plan) => plan,
+        Err(Refusal::Bad { place, kind }) => return Err(Status::BadInput { place, kind }),
+        Err(Refusal::NoMemory) => return Err(Status::NoMemory),
+    };
     drop(input);
-    let Ended { run, status } = run_on(rt, alloc, &plan, tries, clock, gate)?;
+    let Ended { run, status } = match run_on(rt, alloc, &plan, tries, clock, gate, shelf) {
+        Ok(ended) => ended,
+        Err(status) => return Err(status),
+    };
     let mut text = Bytes::new(alloc);
-    text_of(plan.config(), run.entries(), &mut text)?;
+    if text_of(plan.config(), run.entries(), &mut text).is_err() {
+        return Err(Status::NoMemory);
+    }
     Ok(Output { text, status })
 }
 
@@ -79,20 +95,25 @@ struct Ended {
     status: Status,
 }
 
-// Runs a plan to its end, or until a replica is full. `NoMemory` is the only error.
-fn run_on<R: Threads + Wait + Sync, C: Clock + Sync, G: Gate + Sync>(
+// Runs a plan to its end, or until a replica is full; or the status where there is no run.
+fn run_on<R: Threads + Wait + Sync, C: Clock + Sync, G: Gate + Sync, B: Shelf>(
     rt: &R,
     alloc: Global,
     plan: &Plan,
     tries: u64,
     clock: &C,
     gate: &G,
-) -> Result<Ended, NoMemory>
+    shelf: &mut B,
+) -> Result<Ended, Status>
+where
+    B::J: Drop + Send,
     requires tries { 0 < tries }
-    ensures ended { IfOk result (λ ended. HasEndedBy plan.now tries ended.run ended.status) }
+    ensures ended { IfOk result (λ ended. HasEndedBy (record { tells = B.J.tells; before = B.faults shelf.old; after = B.faults shelf.new; stored = B.stored shelf.new }) plan.now tries ended.run ended.status) }
     ensures ends { IfOk result (λ ended. IsEnd ended.status) }
+    ensures failed { IfErr result (λ status. (status ≡ answer.NoMemory) ⊎ HasFailedBy (record { tells = B.J.tells; before = B.faults shelf.old; after = B.faults shelf.new; stored = B.stored shelf.new }) status) }
+    ensures never_falls { B.faults shelf.old ≤ B.faults shelf.new }
 {
-    match run_plan(rt, alloc, plan, tries, clock, gate) {
+    match run_plan(rt, alloc, plan, tries, clock, gate, shelf) {
         Ok(run) => Ok(Ended {
             run,
             status: Status::Done,
@@ -112,6 +133,10 @@ fn run_on<R: Threads + Wait + Sync, C: Clock + Sync, G: Gate + Sync>(
                 clock,
             },
         }),
-        Err(RunFault::NoMemory) => Err(NoMemory),
+        Err(RunFault::JournalFault { replica }) => Err(Status::JournalFault { replica }),
+        Err(RunFault::JournalForeign { replica, place }) => {
+            Err(Status::JournalForeign { replica, place })
+        }
+        Err(RunFault::NoMemory) => Err(Status::NoMemory),
     }
 }

@@ -2,7 +2,7 @@
 ghost use Rattle.std.specs.Prelude.{◌≡◌, ◌≤◌, map, IfErr, string_bytes};
 ghost use Rattle.tact_top.specs.Answers.{Completes, HasCause, IsDrawn, Writes};
 ghost use Rattle.tact_top.specs.CommandAnswers.{asks, faults, text_of};
-ghost use Rattle.tact_top.specs.Commands.{IfDraws, IfReads, IsReading, IsUsage, command_of};
+ghost use Rattle.tact_top.specs.Commands.{IfDraws, IfReads, IsReading, IsUsage, UnlessRun, UnlessRuns, command_of};
 
 use crate::checking::check;
 use crate::drilling::drill;
@@ -17,7 +17,7 @@ use run_model::Status;
 use std::alloc::Global;
 use std::sync::Wait;
 use std::thread::Threads;
-use tact_io::{Clock, Gate, Sink, Source};
+use tact_io::{Clock, Gate, Shelf, Sink, Source};
 
 /// Does what the words ask for. The first word is the program's name.
 ///
@@ -27,7 +27,8 @@ use tact_io::{Clock, Gate, Sink, Source};
 /// - `unpack` reads a record as bytes and writes its text, without comments.
 /// - `run` reads a workload, runs it on threads, and writes the record of the run as text, without comments. With
 ///   `--tries` and a number from 1 to 100 it tries each item so often at most, else 20 times. What a call records as
-///   its moment is told by the clock, and each call passes the gate once. It may wait.
+///   its moment is told by the clock, and each call passes the gate once. Each replica keeps a journal out of the shelf,
+///   begins anew from it where it fails, and puts it back at the end. It may wait.
 /// - `drill` with a number plays the script that the number draws and writes a summary. It reads nothing.
 /// - `primary` with a number lets the events happen among peers that the number draws, whose order a primary gives, and
 ///   writes a summary. It reads nothing.
@@ -48,8 +49,14 @@ use tact_io::{Clock, Gate, Sink, Source};
 /// - `Full`: a replica got as many entries as it may, with their count and its clock. The record of the run up to
 ///   there was written.
 /// - `BadInput`: what was read is no workload; the first fault, and 0 or the number of the client that has it.
+/// - `JournalFault`: the journal of a replica failed, or the shelf, and a call was lost, or the replica couldn't begin anew.
+///   The shelf's count rose. Nothing was written.
+/// - `JournalForeign`: the journal of a replica gave another piece at a place than was appended there. It never comes where
+///   journals tell their pieces. Nothing was written.
 /// - `TooLong`, `ReadFault`, `WriteFault` and `NoMemory`: as of [`pack`].
-pub fn tact<R: Threads + Wait + Sync, C: Clock + Sync, G: Gate + Sync, S: Source, K: Sink>(
+///
+/// No other command touches the shelf.
+pub fn tact<R: Threads + Wait + Sync, C: Clock + Sync, G: Gate + Sync, S: Source, K: Sink, B: Shelf>(
     rt: &R,
     alloc: Global,
     words: &[String],
@@ -57,14 +64,17 @@ pub fn tact<R: Threads + Wait + Sync, C: Clock + Sync, G: Gate + Sync, S: Source
     sink: &mut K,
     clock: &C,
     gate: &G,
+    shelf: &mut B,
 ) -> Status
+where
+    B::J: Drop + Send,
     ensures cause { IfReads (command_of (map string_bytes words.now)) (λ reading.
-        HasCause (asks reading) (faults reading) result (S.left source.old) (S.left source.new)
+        HasCause (asks (record { tells = B.J.tells; before = B.faults shelf.old; after = B.faults shelf.new; stored = B.stored shelf.new }) reading) (faults reading) result (S.left source.old) (S.left source.new)
         (S.faults source.old) (S.faults source.new) (K.faults sink.old) (K.faults sink.new)) }
     ensures written { IfReads (command_of (map string_bytes words.now)) (λ reading.
-        Writes (asks reading) result (S.left source.old) (K.written sink.old) (K.written sink.new)) }
+        Writes (asks (record { tells = B.J.tells; before = B.faults shelf.old; after = B.faults shelf.new; stored = B.stored shelf.new }) reading) result (S.left source.old) (K.written sink.old) (K.written sink.new)) }
     ensures complete { IfReads (command_of (map string_bytes words.now)) (λ reading.
-        Completes (asks reading) (faults reading) result (S.left source.old)
+        Completes (asks (record { tells = B.J.tells; before = B.faults shelf.old; after = B.faults shelf.new; stored = B.stored shelf.new }) reading) (faults reading) result (S.left source.old)
         (S.faults source.old) (S.faults source.new) (K.faults sink.old) (K.faults sink.new)) }
     ensures drawn { IfDraws (command_of (map string_bytes words.now)) (λ drawing number. (source.new ≡ source.old)
         × IsDrawn (text_of drawing number) result (K.written sink.old) (K.written sink.new) (K.faults sink.old) (K.faults sink.new)) }
@@ -72,9 +82,11 @@ pub fn tact<R: Threads + Wait + Sync, C: Clock + Sync, G: Gate + Sync, S: Source
         IsUsage kind result × (source.new ≡ source.old) × (sink.new ≡ sink.old)) }
     ensures reads_never_fall { S.faults source.old ≤ S.faults source.new }
     ensures writes_never_fall { K.faults sink.old ≤ K.faults sink.new }
+    ensures shelf_never_falls { B.faults shelf.old ≤ B.faults shelf.new }
+    ensures untouched { UnlessRun (command_of (map string_bytes words.now)) (shelf.new ≡ shelf.old) }
 {
     match command_of(alloc, words) {
-        Ok(Command::Read(reading)) => obey(rt, alloc, reading, source, sink, clock, gate),
+        Ok(Command::Read(reading)) => obey(rt, alloc, reading, source, sink, clock, gate, shelf),
         Ok(Command::Draw { drawing, number }) => match drawing {
             Drawing::Drill => drill(alloc, number, sink),
             Drawing::Primary => primary(alloc, number, sink),
@@ -87,7 +99,7 @@ pub fn tact<R: Threads + Wait + Sync, C: Clock + Sync, G: Gate + Sync, S: Source
 }
 
 // Does what a command that reads an input says.
-fn obey<R: Threads + Wait + Sync, C: Clock + Sync, G: Gate + Sync, S: Source, K: Sink>(
+fn obey<R: Threads + Wait + Sync, C: Clock + Sync, G: Gate + Sync, S: Source, K: Sink, B: Shelf>(
     rt: &R,
     alloc: Global,
     reading: Reading,
@@ -95,21 +107,26 @@ fn obey<R: Threads + Wait + Sync, C: Clock + Sync, G: Gate + Sync, S: Source, K:
     sink: &mut K,
     clock: &C,
     gate: &G,
+    shelf: &mut B,
 ) -> Status
+where
+    B::J: Drop + Send,
     requires reading { IsReading reading }
-    ensures cause { HasCause (asks reading) (faults reading) result (S.left source.old) (S.left source.new)
+    ensures cause { HasCause (asks (record { tells = B.J.tells; before = B.faults shelf.old; after = B.faults shelf.new; stored = B.stored shelf.new }) reading) (faults reading) result (S.left source.old) (S.left source.new)
         (S.faults source.old) (S.faults source.new) (K.faults sink.old) (K.faults sink.new) }
-    ensures written { Writes (asks reading) result (S.left source.old) (K.written sink.old) (K.written sink.new) }
-    ensures complete { Completes (asks reading) (faults reading) result (S.left source.old)
+    ensures written { Writes (asks (record { tells = B.J.tells; before = B.faults shelf.old; after = B.faults shelf.new; stored = B.stored shelf.new }) reading) result (S.left source.old) (K.written sink.old) (K.written sink.new) }
+    ensures complete { Completes (asks (record { tells = B.J.tells; before = B.faults shelf.old; after = B.faults shelf.new; stored = B.stored shelf.new }) reading) (faults reading) result (S.left source.old)
         (S.faults source.old) (S.faults source.new) (K.faults sink.old) (K.faults sink.new) }
     ensures reads_never_fall { S.faults source.old ≤ S.faults source.new }
     ensures writes_never_fall { K.faults sink.old ≤ K.faults sink.new }
+    ensures shelf_never_falls { B.faults shelf.old ≤ B.faults shelf.new }
+    ensures untouched { UnlessRuns reading (shelf.new ≡ shelf.old) }
 {
     match reading {
         Reading::Play => play(alloc, source, sink),
         Reading::Check => check(alloc, source, sink),
         Reading::Pack => pack(alloc, source, sink),
         Reading::Unpack => unpack(alloc, source, sink),
-        Reading::Run { tries } => run(rt, alloc, tries, source, sink, clock, gate),
+        Reading::Run { tries } => run(rt, alloc, tries, source, sink, clock, gate, shelf),
     }
 }

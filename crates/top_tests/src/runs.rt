@@ -1,12 +1,13 @@
 //! Runs of workloads, whose records are checked.
 
-use crate::obeying::obeyed;
+use crate::obeying::{obeyed, obeyed_over};
 use run_model::{InputKind, LoadKind, Status};
 use std::alloc::Global;
 use std::sync::Wait;
 use std::test::Fail;
 use std::thread::Threads;
 use tact_base::Bytes;
+use tact_io::{JournalFail, MemShelf};
 
 const WORKED: &[u8] = br#"{"replicas":3,"conits":1,
  "bounds":[[0,0,200,[0,100,100]],[1,0,200,[100,0,100]],[2,0,200,[100,100,0]]],
@@ -110,5 +111,27 @@ fn the_run_of_a_full_replica_is_written(rt: HostRuntime) -> Result<(), Fail> {
         said(&rt, sink.bytes())?.starts_with("run 20000 calls "),
         true
     );
+    Ok(())
+}
+
+#[test]
+fn a_run_whose_journal_fails_again_writes_nothing(rt: HostRuntime) -> Result<(), Fail> {
+    let input = br#"{"replicas":2,"conits":1,"clients":[[0,0,[["write",["put",1,7],[]]]]]}"#;
+    let once = JournalFail {
+        call: 0,
+        kept: true,
+    };
+    let again = JournalFail {
+        call: 1,
+        kept: true,
+    };
+    let mut shelf = MemShelf::new(rt.alloc(), &[once])?;
+    let (status, sink) = obeyed_over(&rt, "tactcli run", input, &[], &[], &mut shelf)?;
+    assert_eq!(rt; status, Status::Done);
+    assert!(rt; said(&rt, sink.bytes())?.ends_with(" restarts 1\n"));
+    let mut shelf = MemShelf::new(rt.alloc(), &[once, again])?;
+    let (status, sink) = obeyed_over(&rt, "tactcli run", input, &[], &[], &mut shelf)?;
+    assert_eq!(rt; status, Status::JournalFault { replica: 0 });
+    assert_eq!(rt; sink.bytes().is_empty(), true);
     Ok(())
 }

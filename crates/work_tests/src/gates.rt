@@ -6,7 +6,7 @@ use run_work::run_plan;
 use std::sync::atomic::{AtomicBool, AtomicU64, Ordering};
 use std::test::Fail;
 use std::thread;
-use tact_io::{Gate, StepClock};
+use tact_io::{Gate, StepClock, SureShelf};
 use work_load::parse_plan;
 
 const PLAN: &[u8] = br#"{"replicas":2,"conits":1,"clients":[
@@ -97,8 +97,9 @@ fn workers_run_side_by_side_and_send_and_take_between_their_items(
         calls: [AtomicU64::new(0), AtomicU64::new(0)],
         given_up: AtomicBool::new(false),
     };
+    let mut shelf = SureShelf::new(rt.alloc())?;
     let clock = StepClock::new(1, 1);
-    let Ok(run) = run_plan(&rt, rt.alloc(), &plan, 20, &clock, &gate) else {
+    let Ok(run) = run_plan(&rt, rt.alloc(), &plan, 20, &clock, &gate, &mut shelf) else {
         panic!(rt; "it runs to its end")
     };
     assert!(rt;

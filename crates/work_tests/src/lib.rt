@@ -7,3 +7,5 @@ mod gates;
 mod kinds;
 #[cfg(test)]
 mod runs;
+#[cfg(test)]
+mod shelves;

@@ -5,10 +5,10 @@ use run_model::Act;
 use run_work::{RunFault, run_plan};
 use std::test::Fail;
 use tact_base::Bytes;
-use tact_io::{FreeGate, StepClock};
+use tact_io::{FreeGate, StepClock, SureShelf};
 use work_load::parse_plan;
 
-const WORKED: &[u8] = br#"{"replicas":3,"conits":1,
+pub(crate) const WORKED: &[u8] = br#"{"replicas":3,"conits":1,
  "bounds":[[0,0,200,[0,100,100]],[1,0,200,[100,0,100]]],
  "links":[[2,5,7,3]],"settle":4,
  "clients":[
@@ -19,8 +19,9 @@ const WORKED: &[u8] = br#"{"replicas":3,"conits":1,
 #[test]
 fn the_worked_workload_runs_to_its_end(rt: HostRuntime) -> Result<(), Fail> {
     let plan = parse_plan(rt.alloc(), WORKED)?;
+    let mut shelf = SureShelf::new(rt.alloc())?;
     let clock = StepClock::new(1, 1);
-    let Ok(run) = run_plan(&rt, rt.alloc(), &plan, 50, &clock, &FreeGate::new()) else {
+    let Ok(run) = run_plan(&rt, rt.alloc(), &plan, 50, &clock, &FreeGate::new(), &mut shelf) else {
         panic!(rt; "it runs to its end")
     };
     let kinds = kinds_of(run.entries());
@@ -50,8 +51,9 @@ fn a_replica_becomes_full_at_the_moments_of_the_clock(rt: HostRuntime) -> Result
     let mut text = Bytes::new(rt.alloc());
     reads(&mut text)?;
     let plan = parse_plan(rt.alloc(), text.items())?;
+    let mut shelf = SureShelf::new(rt.alloc())?;
     let clock = StepClock::new(7, 0);
-    let ended = run_plan(&rt, rt.alloc(), &plan, 20, &clock, &FreeGate::new());
+    let ended = run_plan(&rt, rt.alloc(), &plan, 20, &clock, &FreeGate::new(), &mut shelf);
     let Err(
         RunFault::Full {
             replica,
@@ -76,8 +78,9 @@ fn sessions_of_replicas_without_clients_settle_a_run(rt: HostRuntime) -> Result<
     let text =
         br#"{"replicas":3,"conits":1,"settle":2,"clients":[[1,4,[["write",["put",1,7],[]],["restart"]]]]}"#;
     let plan = parse_plan(rt.alloc(), text)?;
+    let mut shelf = SureShelf::new(rt.alloc())?;
     let clock = StepClock::new(1, 1);
-    let Ok(run) = run_plan(&rt, rt.alloc(), &plan, 1, &clock, &FreeGate::new()) else {
+    let Ok(run) = run_plan(&rt, rt.alloc(), &plan, 1, &clock, &FreeGate::new(), &mut shelf) else {
         panic!(rt; "it runs to its end")
     };
     let mut calls: u64 = 0;

@@ -4,7 +4,7 @@ use Rattle.tact_base.specs.Setup.{Setup}
 use Rattle.work_load.specs.Entries.{EachAfter}
 use Rattle.work_load.specs.Ranges.{IsClientAfter}
 use Rattle.work_load.specs.declared.plan.Client.{Client}
-use Rattle.run_work.specs.Ends.{AreEnds, HaveEnded, HaveServed, AreBusy}
+use Rattle.run_work.specs.Ends.{AreBusy, AreEnds, AreUnmarked, HaveEnded, HaveServed}
 use Rattle.run_work.specs.Working.{WorkerView}
 use Rattle.run_work.specs.declared.leaving.Left.{Left}
 use Rattle.run_work.proofs.Finishing.{clients_written}
@@ -32,7 +32,7 @@ returns-clause-ends g c =
 
 pub returns-clause-served : goal.returns-clause-served
 returns-clause-served g c =
-    subst (λ (clients : List Client). IfOk c.leave_all.result (λ (left : Left). HaveServed c.args.sites.now.desk.setup clients left.notes.items left.stop))
+    subst (λ (clients : List Client). IfOk c.leave_all.result (λ (left : Left). AreUnmarked c.leave_all.new.ends → HaveServed c.args.sites.now.desk.setup clients left.notes.items left.stop))
     (have_clients g (goal.at.returns-clause-served g c).After-work_each) c.leave_all.ensures.served
 
 pub returns-clause-ended : goal.returns-clause-ended

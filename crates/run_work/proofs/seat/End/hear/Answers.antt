@@ -12,7 +12,7 @@ returns g c =
     let after = c.hear.new.session in
     let there = c.index_mut.ensures.value in
     let of = lead-of end place before c.lead-lead.ensures there c.args.node.now c.requires.end in
-    let stayed = HasStayed-heard c.args.node.now.desk.setup before after of.certain c.hear.ensures.heard in
+    let stayed = HasStayed-heard before after c.args.node.now.desk.setup of.certain c.hear.ensures.heard in
     record {
       on = HasGoneOn-lead end place before c.lead-lead.ensures there after stayed;
       made = made_by-same end place before c.lead-lead.ensures there after (ap (λ (s : SessionView). s.made) c.hear.ensures.heard.value);

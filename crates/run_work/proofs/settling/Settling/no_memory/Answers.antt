@@ -1,4 +1,4 @@
-use Rattle.run_work.proofs.RoundSteps.{AreStill-set}
+use Rattle.run_work.proofs.RoundSteps.{AreStill-set, IsKeptStop-set}
 use Rattle.run_work.proofs.Settled.{HasStepped-set}
 use Rattle.run_work.proofs.settling.Settling.no_memory.Goals as goal
 
@@ -13,3 +13,7 @@ returns-clause-ready g c = (HasStepped-set c.self.view_is c.self.invariant c.req
 
 pub returns-clause-still : goal.returns-clause-still
 returns-clause-still g c = AreStill-set c.self.view_is c.self.invariant c.requires.replica c.index_mut.ensures.value _ c.no_memory.ensures.made
+
+pub returns-clause-stop : goal.returns-clause-stop
+returns-clause-stop g c =
+    IsKeptStop-set c.self.view_is c.self.invariant c.requires.replica c.index_mut.ensures.value _ c.index.ensures _ c.no_memory.result (c.no_memory.ensures.stop _)

@@ -1,7 +1,7 @@
 use Rattle.std.proofs.Common.{arith, ap, length}
 use Rattle.tact_base.proofs.SetupLemmas.{HasCounts-from_IsSetup}
 use Rattle.run_work.specs.Settling.{SettlingView}
-use Rattle.run_work.proofs.RoundSteps.{HasMadeOne-set, HasSeenSending-set}
+use Rattle.run_work.proofs.RoundSteps.{HasMadeOne-set, HasSeenSending-set, marked-set, stops-set}
 use Rattle.run_work.proofs.Settled.{HasStepped-set}
 use Rattle.run_work.proofs.settling.Settling.parcel.Goals as goal
 
@@ -19,6 +19,12 @@ returns-clause-made g c = HasMadeOne-set c.self.view_is c.self.invariant c.requi
 
 pub returns-clause-sent : goal.returns-clause-sent
 returns-clause-sent g c = HasSeenSending-set c.self.view_is c.self.invariant c.requires.from c.index_mut.ensures.value _ c.index.ensures c.args.to c.send.result c.send.ensures.sent
+
+pub returns-clause-none : goal.returns-clause-none
+returns-clause-none g c = marked-set c.self.view_is c.self.invariant c.requires.from c.index_mut.ensures.value _ c.send.result c.send.ensures.none
+
+pub returns-clause-stop : goal.returns-clause-stop
+returns-clause-stop g c = stops-set c.self.view_is c.self.invariant c.requires.from c.index_mut.ensures.value _ c.index.ensures _ c.send.result c.send.ensures.stop
 
 pub overflow_cast-to : goal.overflow_cast-to
 overflow_cast-to g c =

@@ -6,7 +6,7 @@ use Rattle.run_work.specs.Rounds.{HasReached}
 use Rattle.run_work.specs.Settling.{SettlingView}
 use Rattle.run_work.proofs.RoundLoops.{HaveSentSome-all, HaveSentSome-more, HaveSentSome-none, HaveSentSome-room}
 use Rattle.run_work.proofs.RoundSteps.{HasReached-on, HasSeenAt-on}
-use Rattle.run_work.proofs.Settled.{have_gone_on_same, have_gone_on_then}
+use Rattle.run_work.proofs.Settled.{AreUnmarked-on, have_gone_on_same, have_gone_on_then}
 use Rattle.run_work.proofs.settling.Settling.send_all.Goals as goal
 
 pub loop-from-init : goal.loop-from-init
@@ -14,7 +14,7 @@ loop-from-init g c = record {
   on = have_gone_on_same c.args.self.now;
   ready = c.requires.ready;
   sending = HaveSentSome-none c.args.self.now;
-  reached = λ front from to seen below within apart. absurd (omega (arith, below));
+  reached = λ unmarked front from to seen below within apart. absurd (omega (arith, below));
 }
 
 pub send_from-requires-clause-room : goal.send_from-requires-clause-room
@@ -32,7 +32,7 @@ returns-in_err-send_from-clause-all g c =
     let size : length c.self.inside.nodes.items ≡ length c.args.self.now.nodes = ap (λ (s : SettlingView). length s.nodes) c.self.view_is in
     let at : c.loop-from.from < length c.args.self.now.nodes = grind (arith, common_steps) in
     HaveSentSome-all (c.loop-from.from + 1) c.args.self.now c.send_from.new.self (omega (arith, at)) (omega (arith, few, size, c.self.invariant.nodes_are))
-    (HaveSentSome-more c.loop-from.from c.args.self.now c.loop-from.self c.send_from.new.self (ap length c.loop-from.invariant.on.nodes) c.loop-from.invariant.sending c.send_from.ensures.all)
+    (HaveSentSome-more c.loop-from.from c.args.self.now c.loop-from.self c.send_from.new.self (ap length c.loop-from.invariant.on.nodes) c.loop-from.invariant.sending c.send_from.ensures.on c.send_from.ensures.all)
 
 pub loop-from-preserved : goal.loop-from-preserved
 loop-from-preserved g c =
@@ -46,12 +46,12 @@ loop-from-preserved g c =
     record {
       on = have_gone_on_then begun now after invariant.on sent.on;
       ready = sent.ready;
-      sending = HaveSentSome-more at begun now after (ap length invariant.on.nodes) invariant.sending sent.all;
-      reached = λ front from to seen below inside apart.
+      sending = HaveSentSome-more at begun now after (ap length invariant.on.nodes) invariant.sending sent.on sent.all;
+      reached = λ unmarked front from to seen below inside apart.
           ⊎_elim (λ (same : from ≡ at).
           subst (λ from. HasReached front from to after) (sym same)
-          (sent.reached front to (HasSeenAt-on begun now at front invariant.on (seen at within)) (subst (λ n. to < n) (sym (ap length invariant.on.nodes)) inside) (λ is. apart (is ∙ sym same))))
-          (λ (other : from ≢ at). HasReached-on front from to now after sent.on (sent.all.kept to) (invariant.reached front from to seen (omega (arith, below, other)) inside apart))
+          (sent.reached unmarked front to (HasSeenAt-on begun now at front invariant.on (seen at within)) (subst (λ n. to < n) (sym (ap length invariant.on.nodes)) inside) (λ is. apart (is ∙ sym same))))
+          (λ (other : from ≢ at). HasReached-on front from to now after sent.on (sent.all.kept to) (invariant.reached (AreUnmarked-on now after sent.on unmarked) front from to seen (omega (arith, below, other)) inside apart))
           (cases_eq from at);
     }
 

@@ -1,5 +1,5 @@
 use Rattle.std.proofs.lemmas.Result.{on_ok_weaker}
-use Rattle.run_work.proofs.RoundSteps.{HasMadeOne-set, HasSeenTaking-set}
+use Rattle.run_work.proofs.RoundSteps.{HasMadeOne-set, HasSeenTaking-set, stops-set}
 use Rattle.run_work.proofs.Settled.{HasStepped-set}
 use Rattle.run_work.proofs.settling.Settling.take.Goals as goal
 
@@ -20,3 +20,6 @@ returns-clause-taken g c =
     on_ok_weaker c.take.result
     (HasSeenTaking-set c.self.view_is c.self.invariant c.requires.replica c.index_mut.ensures.value _ c.index.ensures c.args.parcel.message)
     c.take.ensures.taken
+
+pub returns-clause-stop : goal.returns-clause-stop
+returns-clause-stop g c = stops-set c.self.view_is c.self.invariant c.requires.replica c.index_mut.ensures.value _ c.index.ensures _ c.take.result c.take.ensures.stop

@@ -15,6 +15,16 @@ loop-replica-init g c = record {
   taken = λ replica message below waits. absurd (omega (arith, below));
 }
 
+pub returns-in_err-take_waiting-clause-made : goal.returns-in_err-take_waiting-clause-made
+returns-in_err-take_waiting-clause-made g c =
+    (HaveTakenSome-more c.loop-replica.replica c.args.self.now c.loop-replica.self c.take_waiting.new.self c.loop-replica.invariant.taking
+    c.take_waiting.ensures.on c.take_waiting.ensures.made c.take_waiting.ensures.few).made
+
+pub returns-in_err-take_waiting-clause-few : goal.returns-in_err-take_waiting-clause-few
+returns-in_err-take_waiting-clause-few g c =
+    (HaveTakenSome-more c.loop-replica.replica c.args.self.now c.loop-replica.self c.take_waiting.new.self c.loop-replica.invariant.taking
+    c.take_waiting.ensures.on c.take_waiting.ensures.made c.take_waiting.ensures.few).few
+
 pub loop-replica-preserved : goal.loop-replica-preserved
 loop-replica-preserved g c =
     let begun = c.args.self.now in
@@ -26,7 +36,7 @@ loop-replica-preserved g c =
     record {
       on = have_gone_on_then begun now after invariant.on took.on;
       ready = took.ready;
-      taking = HaveTakenSome-more at begun now after invariant.taking took.made took.few;
+      taking = HaveTakenSome-more at begun now after invariant.taking took.on took.made took.few;
       empty = λ replica below.
           ⊎_elim (λ (same : replica ≡ at). subst (λ r. waiting_at after r ≡ []) (sym same) took.empty)
           (λ (other : replica ≢ at). took.made.stayed replica other ∙ invariant.empty replica (omega (arith, below, other)))
