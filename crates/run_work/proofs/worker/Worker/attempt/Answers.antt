@@ -91,5 +91,5 @@ returns-in_ok-restart-in-Restart-clause-owes g c =
 
 pub returns-in_ok-restart-in-Restart-clause-obeyed : goal.returns-in_ok-restart-in-Restart-clause-obeyed
 returns-in_ok-restart-in-Restart-clause-obeyed g c =
-    let made = c.in_ok-restart.ensures.made in
+    let made = c.in_ok-restart-in-Restart.ensures.made in
     rw (← c.self-in-Restart.view_is, c.in-Restart.is) (IsObeyed-restarted _ _ _ made.0 made.1)

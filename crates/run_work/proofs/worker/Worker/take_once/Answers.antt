@@ -1,7 +1,6 @@
 use Rattle.std.proofs.Common.{◌≡◌, false, sym, subst}
-use Rattle.locked_replica.specs.Parcels.{ParcelView}
 use Rattle.postbox.specs.Posts.{IsFor}
-use Rattle.replica_lock.specs.Sessions.{IsSessionOf}
+use Rattle.replica_lock.specs.Sessions.{HasHeard, IsSessionOf, marked_by}
 use Rattle.run_work.specs.Working.{WorkerView}
 use Rattle.steady_node.proofs.Goings.{GoesOn-made, GoesOn-trans}
 use Rattle.run_work.proofs.GoingOn.{GoesOn-heard, IsQuiet-heard, IsQuiet-made, IsQuiet-mended, IsSessionOf-quiet, IsTold-heard, left-mended}
@@ -14,24 +13,24 @@ invariant_of-self g c = IsWorker-on _ _ c.self.invariant 1 _ (GoesOn-made _ _ _ 
 pub mend-requires-clause-session : goal.mend-requires-clause-session
 mend-requires-clause-session g c =
     let of = subst (λ (w : WorkerView). IsSessionOf w.node w.session) (sym c.self.view_is) c.requires.session in
-    IsSessionOf-quiet _ 0 _ _ (IsQuiet-heard _ _ _ of.certain 0 c.in-Err.fault c.in-Err.ensures.refused) of
+    IsSessionOf-quiet _ 0 _ _ (IsQuiet-heard _ _ _ of.certain 0 c.in-Err.field-0.fault c.in-Err.ensures.refused) of
 
 pub mend-requires-clause-told : goal.mend-requires-clause-told
-mend-requires-clause-told g c = IsTold-heard _ _ _ c.in-Err.fault c.in-Err.ensures.refused c.in-Err.ensures.fault_seen
+mend-requires-clause-told g c = IsTold-heard _ _ _ c.in-Err.field-0.fault c.in-Err.ensures.refused c.in-Err.ensures.fault_seen
 
 pub invariant_of-self-in_err-mend-in-Err : goal.invariant_of-self-in_err-mend-in-Err
 invariant_of-self-in_err-mend-in-Err g c =
-    IsWorker-on _ _ c.self.invariant 1 _ (GoesOn-trans 0 1 _ _ _ (GoesOn-heard _ _ _ 0 c.in-Err.fault c.in-Err.ensures.refused) c.mend.ensures.on) _
+    IsWorker-on _ _ c.self.invariant 1 _ (GoesOn-trans 0 1 _ _ _ (GoesOn-heard _ _ _ 0 c.in-Err.field-0.fault c.in-Err.ensures.refused) c.mend.ensures.on) _
 
 pub invariant_of-self-in-Err : goal.invariant_of-self-in-Err
 invariant_of-self-in-Err g c =
-    IsWorker-on _ _ c.self.invariant 1 _ (GoesOn-trans 0 1 _ _ _ (GoesOn-heard _ _ _ 0 c.in-Err.fault c.in-Err.ensures.refused) c.mend.ensures.on) _
+    IsWorker-on _ _ c.self.invariant 1 _ (GoesOn-trans 0 1 _ _ _ (GoesOn-heard _ _ _ 0 c.in-Err.field-0.fault c.in-Err.ensures.refused) c.mend.ensures.on) _
 
 pub returns-in_err-mend-in-Err-clause-quiet : goal.returns-in_err-mend-in-Err-clause-quiet
 returns-in_err-mend-in-Err-clause-quiet g c =
     let certain : c.self.inside.session.doubt ≡ false = subst (λ (w : WorkerView). w.session.doubt ≡ false) (sym c.self.view_is) c.requires.session.certain in
     rw (← c.self.view_is)
-    (IsQuiet-mended _ _ _ _ c.in-Err.fault certain c.in-Err.ensures.refused c.mend.ensures.on c.mend.ensures.calls c.mend.ensures.session.certain)
+    (IsQuiet-mended _ _ _ _ c.in-Err.field-0.fault certain c.in-Err.ensures.refused c.mend.ensures.on c.mend.ensures.calls c.mend.ensures.session.certain)
 
 pub returns-in-Ok-clause-quiet : goal.returns-in-Ok-clause-quiet
 returns-in-Ok-clause-quiet g c =
@@ -42,12 +41,15 @@ pub returns-in_ok-mend-in-Err-clause-quiet : goal.returns-in_ok-mend-in-Err-clau
 returns-in_ok-mend-in-Err-clause-quiet g c =
     let certain : c.self.inside.session.doubt ≡ false = subst (λ (w : WorkerView). w.session.doubt ≡ false) (sym c.self.view_is) c.requires.session.certain in
     rw (← c.self.view_is)
-    (IsQuiet-mended _ _ _ _ c.in-Err.fault certain c.in-Err.ensures.refused c.mend.ensures.on c.mend.ensures.calls c.mend.ensures.session.certain)
+    (IsQuiet-mended _ _ _ _ c.in-Err.field-0.fault certain c.in-Err.ensures.refused c.mend.ensures.on c.mend.ensures.calls c.mend.ensures.session.certain)
 
 pub returns-in_ok-mend-in-Err-clause-taking : goal.returns-in_ok-mend-in-Err-clause-taking
 returns-in_ok-mend-in-Err-clause-taking g c =
-    let node = c.args.self.now.node in (
+    let node = c.args.self.now.node in
+    let setup = c.turn-turn.result.node.desk.setup in
+    let before = c.self.inside.session in
+    let heard : HasHeard setup before (marked_by c.in-Err.field-0.fault before) c.take-taken.new.session = c.in-Err.ensures.refused in (
       subst (IsFor node.desk.table node.replica) (sym c.in-Err.ensures.back) c.requires.parcel,
-      c.in_ok-mend.ensures.marked,
-      rw (← c.self.view_is) (left-mended _ _ _ _ c.in-Err.fault c.in-Err.ensures.refused c.in_ok-mend.ensures.nearer),
+      c.in_ok-mend-in-Err.ensures.marked,
+      rw (← c.self.view_is) (left-mended setup before c.take-taken.new.session c.mend.new.session c.in-Err.field-0.fault heard c.in_ok-mend-in-Err.ensures.nearer),
     )

@@ -4,6 +4,7 @@ use Rattle.replica_lock.specs.Sessions.{SessionView}
 use Rattle.steady_node.specs.Going.{IsUnmarked}
 use Rattle.run_work.specs.Holding.{IsQuiet}
 use Rattle.run_work.specs.Serving.{HasSentTo}
+use Rattle.run_work.proofs.GoingOn.{IsQuiet-trans}
 use Rattle.run_work.proofs.Heeding.{HasSentTo-later}
 use Rattle.run_work.proofs.worker.Worker.tend.Goals as goal
 
@@ -21,3 +22,6 @@ pub returns-in-Some-clause-sent : goal.returns-in-Some-clause-sent
 returns-in-Some-clause-sent g c =
     sent_later c.send_to.result c.args.wish c.in-Some.to 16 c.args.self.now.session c.take_some.new.self.session c.send_to.new.self.session
     c.in-Some.is c.take_some.ensures.quiet c.send_to.ensures.sent
+
+pub returns-in-None-clause-quiet : goal.returns-in-None-clause-quiet
+returns-in-None-clause-quiet g c = IsQuiet-trans 16 7 _ _ _ c.take_some.ensures.quiet c.send_due.ensures.quiet
