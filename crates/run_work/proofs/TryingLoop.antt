@@ -1,6 +1,7 @@
 -- A worker at the tries of an item.
-use Rattle.std.proofs.Common.{◌≡◌, ◌⊎◌, ℕ, ◌+◌, ◌*◌, ◌<◌, ◌≤◌, List, length, IfSome, Option, None, Some, refl, sym, ap, ◌∙◌, subst, inl, inr, ⊎_elim, arith}
-use Rattle.std.proofs.lemmas.Bool.{cases_lt}
+use Rattle.std.proofs.Common.{◌≡◌, ◌⊎◌, ℕ, ◌+◌, ◌*◌, ◌<◌, ◌≤◌, Bool, false, List, length, IfSome, Option, None, Some, refl, sym, ap, ◌∙◌, subst, inl, inr, ⊎_elim, arith}
+use Rattle.std.specs.Prelude.{Err, IfErr, Ok, Result}
+use Rattle.std.proofs.lemmas.Bool.{cases_lt, true≢false}
 use Rattle.std.proofs.lemmas.List.{length-append}
 use Rattle.tact_base.specs.Setup.{Setup}
 use Rattle.run_model.specs.declared.entry.Entry.{Entry}
@@ -9,11 +10,12 @@ use Rattle.work_load.specs.declared.plan.Item.{Item}
 use Rattle.replica_lock.specs.Allowances.{AllowanceView}
 use Rattle.replica_lock.specs.Sessions.{SessionView, own_calls}
 use Rattle.steady_node.specs.Going.{GoesOn, IsUnmarked}
+use Rattle.steady_node.specs.declared.ending.Ending.{Ending}
 use Rattle.steady_node.proofs.Goings.{GoesOn-same, GoesOn-trans, client-on, own_calls-on, replica-on, unmarked-before}
 use Rattle.run_work.specs.Holding.{IsQuiet}
 use Rattle.run_work.specs.Serving.{HasSentTo, IsHeededAfter, IsHeededBut, IsObeyed, Owes}
 use Rattle.run_work.specs.Trying.{HasBegun, HasDone, HasTried}
-use Rattle.run_work.specs.Working.{IsBusyFor, IsReady, WorkerView}
+use Rattle.run_work.specs.Working.{IsBusyFor, IsEnding, IsKeptEnd, IsReady, WorkerView}
 use Rattle.run_work.specs.declared.trying.Tried.TheVariants.{Final, Waiting}
 use Rattle.run_work.proofs.GoingOn.{GoesOn-weaker}
 use Rattle.run_work.proofs.Heeding.{IsHeeded-quiet, IsHeeded-sent}
@@ -42,6 +44,18 @@ pub IsSameBut-session : (before after : WorkerView)
     → IsSameBut before after
 IsSameBut-session before after is = record {
   is = is ∙ ap (λ (held : List AllowanceView). gone before after.session held) (sym (ap (λ (w : WorkerView). w.allowances) is));
+}
+
+-- a worker that ends where no call is lost
+pub IsEnding-kept : {A : Type 0} (tells : Bool) (session : SessionView) (answer : Result A Ending)
+    → session.doubt ≡ false
+    → IfErr answer (IsKeptEnd tells session)
+    → IfErr answer (IsEnding tells session)
+IsEnding-kept tells session (Ok given) certain kept = tt
+IsEnding-kept tells session (Err ending) certain kept = record {
+  cause = kept.0;
+  certain = λ not_lost. certain;
+  marked = λ lost. absurd (true≢false (sym lost ∙ kept.1));
 }
 
 -- after so many tries, all of which wait

@@ -142,7 +142,7 @@ impl<'s, 'd, 'g, J: Journal, G: Gate> Worker<'s, 'd, 'g, J, G> {
         ensures untouched { is_refused answer ≡ false → self.new.session ≡ self.old.session }
         ensures marked { is_refused answer ≡ true → OnOk result (IsUnmarked self.new.session → ⊥) }
         ensures ending { IfErr result (HasEnded J.tells self.old.session self.new.session) }
-        ensures marked { IfErr result (IsMarkedLost self.new.session) }
+        ensures lost { IfErr result (IsMarkedLost self.new.session) }
     {
         if let Err(NodeLoanFault::Node(fault)) = answer {
             mend(rt, clock, self.node, &mut self.session, fault)?;

@@ -55,7 +55,11 @@ impl<'s, 'd, 'g, J: Journal, G: Gate> Worker<'s, 'd, 'g, J, G> {
         ensures ending { IfErr result (IsEnding J.tells self.new.session) }
     {
         for _tried in 0..tries {
-            match self.attempt(rt, clock, item)? {
+            let tried = match self.attempt(rt, clock, item) {
+                Ok(tried) => tried,
+                Err(ending) => return Err(ending),
+            };
+            match tried {
                 Tried::Final => return self.tend(rt, clock, None),
                 Tried::Waiting(wish) => self.tend(rt, clock, wish)?,
             }
