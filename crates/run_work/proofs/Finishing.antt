@@ -315,11 +315,7 @@ at_written P nodes taken before items same size is =
 
 -- what holds where an answer is Ok holds of an answer that is
 pub if_ok_at : {A E : Type 0} (P : A → Type 0) (answer : Result A E) (one : A) → answer ≡ Ok one → IfOk answer P → P one
-if_ok_at P answer one is holds =
-    let there : IfOk (Ok one) P = subst (λ (r : Result _ _). IfOk r P) is holds in
-    there
+if_ok_at P answer one is holds = subst (λ r. IfOk r P) is holds
 
 pub on_ok_at : {A E : Type 0} (P : Type 0) (answer : Result A E) (one : A) → answer ≡ Ok one → OnOk answer P → P
-on_ok_at P answer one is holds =
-    let there : OnOk (Ok one) P = subst (λ (r : Result _ _). OnOk r P) is holds in
-    there
+on_ok_at P answer one is holds = subst (λ r. OnOk r P) is holds

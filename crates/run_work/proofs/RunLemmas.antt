@@ -242,7 +242,7 @@ module _ (shelf : ShelfEnd) (plan : Workload) (tries : ℕ) (desk : DeskView) (f
       → IsFullRun shelf plan tries stop.replica count stamp history
   full_run stop count stamp stopped kept front told =
       let part : part_of history stop.replica ≡ part_of stop.note.seen stop.replica = part_of-full desk.setup stop.note.seen history stop.replica is.run front told.0 in
-      let none_lost : IsKept finished.stop = subst LosesNone (sym stopped) kept in
+      let none_lost : LosesNone finished.stop = subst LosesNone (sym stopped) kept in
       let begun : HaveEnded tries plan.clients has.notes (Some stop) = subst (HaveEnded tries plan.clients has.notes) stopped has.ended in
       record {
         run = IsRunOf-closed (Begun tries) plan has.notes desk finished.drawn history setup each has.drawn (has.counted none_lost) is (begun kept) heard_all;

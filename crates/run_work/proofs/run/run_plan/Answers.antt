@@ -28,7 +28,7 @@ there_are g c =
     some_clerk c.args.plan.now.setup c.in_ok-drawn.field-0.drawn.clerks.items c.config.ensures.sound.setup
     (c.in_ok-drawn.ensures.finished.drawn.count ∙ ap (λ (setup : Setup). setup.replicas) (setup_is g c))
 
-shelf_of : (g : _) → In_ok-entries g → ShelfEnd
+abbrev shelf_of : (g : _) → In_ok-entries g → ShelfEnd
 shelf_of g c = record { tells = g.B.J.Journal.tells; before = g.B.Shelf.faults c.args.shelf.now; after = g.B.Shelf.faults c.run_on.new.shelf; stored = g.B.Shelf.stored c.run_on.new.shelf }
 
 is_closed : (g : _) (c : In_ok-entries g) → IsClosed c.in_ok-desk.desk.setup c.in_ok-drawn.field-0.drawn.clerks.items c.close-history.result
