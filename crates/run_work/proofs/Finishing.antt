@@ -293,6 +293,33 @@ on_ok (Ok end) so is = so is
 on_ok (Err fault) so is = tt
 
 -- what a test of an option tells
-pub none_there : {A : Type 0} (found : Option A) (some : Bool) → some ≡ is_some found → some ≡ false → found ≡ None
-none_there None some is no = refl
-none_there (Some one) some is no = absurd (false≢true (sym no ∙ is))
+pub none_there : {A : Type 0} (found : Option A) (answer : Bool) → answer ≡ is_some found → answer ≡ false → found ≡ None
+none_there None answer is off = refl
+none_there (Some one) answer is off = absurd (false≢true (sym off ∙ is))
+
+-- so are those of sites
+pub numbered_sites : (sites : SitesView) → AreSites sites → AreNumbered sites.nodes
+numbered_sites sites are = record {
+  few = omega (arith, are.nodes_are, (HasCounts-from_IsSetup sites.desk.setup are.sound).replicas_high);
+  number = λ replica none within. (are.node replica none within).1;
+}
+
+-- what holds of ends that are written back into a vector, at nodes that are taken out of sites
+pub at_written : {Z : Type 0} (P : List NodeView → List End → Type 0) (nodes taken : List NodeView) (before : Vec End Z) (items : List End)
+    → taken ≡ nodes
+    → length items ≡ before.len
+    → P nodes items
+    → P taken (with_items before items).items
+at_written P nodes taken before items same size is =
+    subst (λ (all : List NodeView). P all (with_items before items).items) (sym same) (subst (P nodes) (sym (with_items_is before items size)) is)
+
+-- what holds where an answer is Ok holds of an answer that is
+pub if_ok_at : {A E : Type 0} (P : A → Type 0) (answer : Result A E) (one : A) → answer ≡ Ok one → IfOk answer P → P one
+if_ok_at P answer one is holds =
+    let there : IfOk (Ok one) P = subst (λ (r : Result _ _). IfOk r P) is holds in
+    there
+
+pub on_ok_at : {A E : Type 0} (P : Type 0) (answer : Result A E) (one : A) → answer ≡ Ok one → OnOk answer P → P
+on_ok_at P answer one is holds =
+    let there : OnOk (Ok one) P = subst (λ (r : Result _ _). OnOk r P) is holds in
+    there

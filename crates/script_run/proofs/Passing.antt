@@ -14,29 +14,29 @@ use Rattle.run_model.proofs.PartLemmas.{part_of-push_same, sent_in-push_some}
 use Rattle.script_text.specs.Fronts.{IsNamed}
 use Rattle.script_run.specs.Stages.{Enters, setup_in, played_in}
 use Rattle.script_run.specs.declared.stage.Stage.{Stage}
-use Rattle.script_run.proofs.Found.{last_is, last_in}
+use Rattle.script_run.proofs.Outboxes.{last_is, last_in}
 
 pub sent_is_named : (old mid : Stage) (from to number : ℕ) (given out out' : List ℕ)
     → Enters old mid (sends (setup_in old) (played_in old) from to given) out out'
-    → number ≡ length (sent_in (part_of old.entries from))
-    → (message : Message) × IsNamed (setup_in mid) mid.entries to from number message
+    → number ≡ length (sent_in (part_of old.history.items from))
+    → (message : Message) × IsNamed (setup_in mid) mid.history.items to from number message
 sent_is_named old mid from to number given out out' enters number_is =
-    let part = part_of old.entries from in
+    let part = part_of old.history.items from in
     let at = moment_at part old.handed in
     let message : Message = message_of (setup_in old) from part at to given in
     let entry : Entry = record { replica = from; moment = at; act = act.Send message } in
-    let entries : mid.entries ≡ old.entries ++ entry ∷ [] = ap (λ (p : Played). p.history) enters.goes.played in
-    let all : sent_in (part_of mid.entries from) ≡ sent_in part ++ message ∷ [] =
+    let entries : mid.history.items ≡ old.history.items ++ entry ∷ [] = ap (λ (p : Played). p.history) enters.goes.played in
+    let all : sent_in (part_of mid.history.items from) ≡ sent_in part ++ message ∷ [] =
     ap (λ (h : List Entry). sent_in (part_of h from)) entries
-    ∙ ap sent_in (part_of-push_same old.entries entry from refl)
+    ∙ ap sent_in (part_of-push_same old.history.items entry from refl)
     ∙ sent_in-push_some part entry message refl in
-    let contains : Contains (sent_in (part_of mid.entries from)) message = subst (λ (ms : List Message). Contains ms message) (sym all) (last_in (sent_in part) message) in (
+    let contains : Contains (sent_in (part_of mid.history.items from)) message = subst (λ (ms : List Message). Contains ms message) (sym all) (last_in (sent_in part) message) in (
       message,
       record {
         found = ap₂ (λ (ms : List Message) (n : ℕ). slice_get ms n) all number_is ∙ last_is (sent_in part) message;
         receiver = refl;
         sender = refl;
-        in_range = All-contains (IsMessageInRange (setup_in mid)) (sent_in (part_of mid.entries from)) message (sent_in_range (setup_in mid) mid.entries enters.goes.keeps.run from) contains;
+        in_range = All-contains (IsMessageInRange (setup_in mid)) (sent_in (part_of mid.history.items from)) message (sent_in_range (setup_in mid) mid.history.items enters.goes.keeps.run from) contains;
         was_sent = contains;
       },
     )

@@ -3,10 +3,11 @@ use Rattle.std.proofs.Common.{◌≡◌, ℕ, ◌+◌, ◌<◌, ◌≤◌, List,
 use Rattle.std.specs.List.{fold}
 use Rattle.std.specs.Prelude.{IfSome}
 use Rattle.std.proofs.lemmas.List.{append-nil, take-append-drop, take_more}
+use Rattle.std.proofs.lemmas.List.Sums.{fold-append}
 use Rattle.tact_base.specs.declared.limits.TheConstants.{SCRIPT_LINES}
 use Rattle.tact_base.specs.Setup.{Setup}
 use Rattle.tact_io.specs.Source.{IsAllOf}
-use Rattle.run_model.specs.ScriptRuns.{Played, after_line, history_of, text_after, lines_text, play_text}
+use Rattle.run_model.specs.ScriptRuns.{Played, after_line, history_of, not_played, played_by, text_after, lines_text, play_text}
 use Rattle.run_model.specs.declared.script_line.Line.{Line}
 use Rattle.run_model.specs.declared.status.Status.{Status}
 use Rattle.run_model.specs.declared.status.Status.TheVariants as status
@@ -25,6 +26,10 @@ lines_text-push setup played [] l = append-nil (text_after setup played l)
 lines_text-push setup played (x ∷ xs) l =
     ap (λ (more : List ℕ). text_after setup played x ++ more) (lines_text-push setup (after_line setup played x) xs l)
     ∙ sym (append_assoc (text_after setup played x) (lines_text setup (after_line setup played x) xs) (text_after setup (fold (after_line setup) (after_line setup played x) xs) l))
+
+pub played_by-push : (setup : Setup) (lines : List Line) (l : Line)
+    → played_by setup (lines ++ l ∷ []) ≡ after_line setup (played_by setup lines) l
+played_by-push setup lines l = fold-append (after_line setup) not_played lines (l ∷ [])
 
 -- the first lines with the next one, and all with those after it
 pub front_is : (lines : List Line) (i : ℕ) (l : Line)

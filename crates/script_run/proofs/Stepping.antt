@@ -33,7 +33,7 @@ pub enters_twice : (old mid new : Stage) (first second : Played) (a b c : List �
     → Enters mid new second b c
     → Enters old new second a c
 enters_twice old mid new first second a b c one two =
-    let mid_entries : mid.entries ≡ old.entries ++ one.made = ap (λ (p : Played). p.history) one.goes.played ∙ one.history in
+    let mid_history : mid.history.items ≡ old.history.items ++ one.made = ap (λ (p : Played). p.history) one.goes.played ∙ one.history in
     record {
       goes = record {
         keeps = two.goes.keeps;
@@ -42,14 +42,14 @@ enters_twice old mid new first second a b c one two =
         prints = two.goes.prints ∙ one.goes.prints;
       };
       made = one.made ++ two.made;
-      history = two.history ∙ ap (λ (h : List Entry). h ++ two.made) mid_entries ∙ append_assoc old.entries one.made two.made;
+      history = two.history ∙ ap (λ (h : List Entry). h ++ two.made) mid_history ∙ append_assoc old.history.items one.made two.made;
       text = λ prints.
           two.text (one.goes.prints ∙ prints)
-          ∙ ap (λ (text : List ℕ). text ++ entries_text (setup_in mid) mid.entries two.made) (one.text prints)
-          ∙ append_assoc a (entries_text (setup_in old) old.entries one.made) (entries_text (setup_in mid) mid.entries two.made)
-          ∙ ap (λ (rest : List ℕ). a ++ (entries_text (setup_in old) old.entries one.made ++ rest))
-          (ap₂ (λ (s : Setup) (h : List Entry). entries_text s h two.made) one.goes.setup mid_entries)
-          ∙ ap (λ (text : List ℕ). a ++ text) (sym (entries_text-append (setup_in old) old.entries one.made two.made));
+          ∙ ap (λ (text : List ℕ). text ++ entries_text (setup_in mid) mid.history.items two.made) (one.text prints)
+          ∙ append_assoc a (entries_text (setup_in old) old.history.items one.made) (entries_text (setup_in mid) mid.history.items two.made)
+          ∙ ap (λ (rest : List ℕ). a ++ (entries_text (setup_in old) old.history.items one.made ++ rest))
+          (ap₂ (λ (s : Setup) (h : List Entry). entries_text s h two.made) one.goes.setup mid_history)
+          ∙ ap (λ (text : List ℕ). a ++ text) (sym (entries_text-append (setup_in old) old.history.items one.made two.made));
     }
 
 -- A step of a stage.
@@ -61,42 +61,42 @@ module _ (old new : Stage) (l : Line) (out out' : List ℕ) where
   before = played_in old
 
   -- a line whose entries are made, without a comment
-  pub steps_by_entries : line_comment setup old.entries l ≡ []
+  pub steps_by_entries : line_comment setup old.history.items l ≡ []
       → Enters old new (after_line setup before l) out out'
       → Steps old new l out out'
   steps_by_entries nothing enters =
-      let made : drop (length old.entries) (after_line setup before l).history ≡ enters.made =
-      ap (drop (length old.entries)) enters.history ∙ drop-append_seam old.entries enters.made in
+      let made : drop (length old.history.items) (after_line setup before l).history ≡ enters.made =
+      ap (drop (length old.history.items)) enters.history ∙ drop-append_seam old.history.items enters.made in
       record {
         goes = enters.goes;
         text = λ prints.
             enters.text prints
-            ∙ ap₂ (λ (c : List ℕ) (more : List Entry). out ++ (c ++ entries_text setup old.entries more)) (sym nothing) (sym made);
+            ∙ ap₂ (λ (c : List ℕ) (more : List Entry). out ++ (c ++ entries_text setup old.history.items more)) (sym nothing) (sym made);
       }
 
   -- a line that makes nothing, with its comment
   pub steps_by_comment : after_line setup before l ≡ before
       → GoesOnTo old new before
-      → out' ≡ out ++ line_comment setup old.entries l
+      → (old.prints ≡ true → out' ≡ out ++ line_comment setup old.history.items l)
       → Steps old new l out out'
   steps_by_comment same goes text =
-      let made : drop (length old.entries) (after_line setup before l).history ≡ [] =
-      ap (λ (p : Played). drop (length old.entries) p.history) same ∙ drop-length old.entries in
+      let made : drop (length old.history.items) (after_line setup before l).history ≡ [] =
+      ap (λ (p : Played). drop (length old.history.items) p.history) same ∙ drop-length old.history.items in
       record {
         goes = record { keeps = goes.keeps; setup = goes.setup; played = goes.played ∙ sym same; prints = goes.prints };
         text = λ prints.
-            text
-            ∙ ap (λ (c : List ℕ). out ++ c) (sym (append-nil (line_comment setup old.entries l)))
-            ∙ ap (λ (more : List Entry). out ++ (line_comment setup old.entries l ++ entries_text setup old.entries more)) (sym made);
+            text prints
+            ∙ ap (λ (c : List ℕ). out ++ c) (sym (append-nil (line_comment setup old.history.items l)))
+            ∙ ap (λ (more : List Entry). out ++ (line_comment setup old.history.items l ++ entries_text setup old.history.items more)) (sym made);
       }
 
 -- A loan or a return within its limit, and one over it.
 module _ (old new : Stage) (owner holder conit amount : ℕ) (out out' : List ℕ) where
   abbrev at_home : ℕ
-  at_home = home (setup_in old) owner (part_of old.entries owner) conit
+  at_home = home (setup_in old) owner (part_of old.history.items owner) conit
 
   abbrev at_hand : ℕ
-  at_hand = free (setup_in old) holder (part_of old.entries holder) owner conit
+  at_hand = free (setup_in old) holder (part_of old.history.items holder) owner conit
 
   abbrev lending_text : List ℕ
   lending_text = refusal_comment (codes "lend") (owner ∷ holder ∷ conit ∷ amount ∷ []) (codes "home") at_home
@@ -127,7 +127,7 @@ module _ (old new : Stage) (owner holder conit amount : ℕ) (out out' : List �
       let test : nat_le amount at_home ≡ false = lt-leb amount at_home over in
       steps_by_comment old new (line.Lend owner holder conit amount) out out'
       (ap (λ yes. cond yes after_lending (played_in old)) test) goes
-      (text ∙ ap (λ yes. out ++ cond yes [] lending_text) (sym test))
+      (λ prints. text ∙ ap (λ yes. out ++ cond yes [] lending_text) (sym test))
 
   pub gives : amount ≤ at_hand
       → Enters old new after_returning out out'
@@ -146,4 +146,4 @@ module _ (old new : Stage) (owner holder conit amount : ℕ) (out out' : List �
       let test : nat_le amount at_hand ≡ false = lt-leb amount at_hand over in
       steps_by_comment old new (line.Back holder owner conit amount) out out'
       (ap (λ yes. cond yes after_returning (played_in old)) test) goes
-      (text ∙ ap (λ yes. out ++ cond yes [] returning_text) (sym test))
+      (λ prints. text ∙ ap (λ yes. out ++ cond yes [] returning_text) (sym test))

@@ -1,10 +1,9 @@
 -- What a script plays on: what it keeps of what was played, and what a step of it leaves.
-use Rattle.std.specs.Prelude.{◌≡◌, ℕ, ◌<◌, ◌≤◌, true, List, ◌∷◌, [], ◌++◌, length, map, slice_get, slice_index_or, Option, Some}
-use Rattle.std.specs.Option.{option_and_then}
+use Rattle.std.specs.Prelude.{◌≡◌, ℕ, ◌<◌, ◌≤◌, true, List, ◌∷◌, [], ◌++◌, length, map, slice_index_or, Option, Some}
 use Rattle.tact_base.specs.Setup.{Setup}
 use Rattle.tact_base.specs.declared.conit_list.Need.{Need}
 use Rattle.tact_base.specs.declared.limits.TheConstants.{MOMENT_MAX}
-use Rattle.run_model.specs.Histories.{part_of, sent_in, sent_by_act}
+use Rattle.run_model.specs.Histories.{part_of, sent_in}
 use Rattle.run_model.specs.Runs.{IsRun}
 use Rattle.run_model.specs.ScriptRuns.{Played, zeros, after_line, entries_text, text_after}
 use Rattle.run_model.specs.declared.call.Reply.{Reply}
@@ -23,44 +22,51 @@ use Rattle.script_text.specs.Fronts.{HasItsMessage}
 use Rattle.script_text.specs.LineRanges.{IsLineInRange}
 use Rattle.script_run.specs.declared.stage.Stage.{Stage}
 
+-- what a script comes to: a setup, and the history that it tells under it
+pub record Ended : Type 0 where
+  pub setup : Setup
+  pub history : List Entry
+
 -- the setup, and what was played so far
 abbrev pub setup_in : Stage → Setup
 setup_in stage = stage.set.setup
 
 abbrev pub played_in : Stage → Played
-played_in stage = record { history = stage.entries; handed = stage.handed }
+played_in stage = record { history = stage.history.items; handed = stage.handed }
 
--- the message that the entry at a place sends
-abbrev pub message_at : List Entry → ℕ → Option Message
-message_at history place = option_and_then (λ entry. sent_by_act entry.act) (slice_get history place)
+-- the message that an act sends or takes
+abbrev pub IsOf : Message → Act → Type 0
+IsOf message (act.Send sent) = message ≡ sent
+IsOf message (act.Take taken) = message ≡ taken
+IsOf message other = ⊥
 
--- places of entries, by replica: those in which it sent, by the numbers of the messages
-abbrev pub AreSends : Setup → List Entry → List (List ℕ) → Type 0
-AreSends setup history sends = (from : ℕ) → from < setup.replicas
-    → map (message_at history) (slice_index_or sends from []) ≡ map Some (sent_in (part_of history from))
+-- all messages that each replica sent, at hand
+abbrev pub AreSent : Setup → List Entry → List (List (Option Message)) → Type 0
+AreSent setup history sent = (from : ℕ) → from < setup.replicas → slice_index_or sent from [] ≡ map Some (sent_in (part_of history from))
 
--- What a stage keeps: the replicas stand for what was played, which is a run; where its messages are; and the book of
--- all writes.
+-- What a stage keeps: the replicas stand for what was played, which is a run; all messages that were sent; and the book
+-- of all writes, where it prints.
 pub record Keeps (stage : Stage) : Type 0 where
-  pub stands : StandsFor stage.entries stage.set
-  pub run : IsRun (setup_in stage) stage.entries
+  pub stands : StandsFor stage.history.items stage.set
+  pub run : IsRun (setup_in stage) stage.history.items
   pub handed : stage.handed ≤ MOMENT_MAX
-  pub sized : length stage.sends.items ≡ (setup_in stage).replicas
-  pub sends : AreSends (setup_in stage) stage.entries stage.sends.items
+  pub sized : length stage.sent.items ≡ (setup_in stage).replicas
+  pub sent : AreSent (setup_in stage) stage.history.items stage.sent.items
   pub zeros : stage.zeros ≡ zeros (setup_in stage)
-  pub book : IsBookOf (setup_in stage) stage.entries stage.book
+  pub book : stage.prints ≡ true → IsBookOf (setup_in stage) stage.history.items stage.book
 
--- An entry was made that isn't kept yet: with it the replicas stand for a run, and the book is that of it.
+-- An entry was made that isn't entered yet: with it the replicas stand for a run, and the book is that of it.
 pub record IsMade (stage : Stage) (entry : Entry) : Type 0 where
   pub replica : entry.replica < (setup_in stage).replicas
-  pub stands : StandsFor (stage.entries ++ entry ∷ []) stage.set
-  pub run : IsRun (setup_in stage) (stage.entries ++ entry ∷ [])
-  pub book : IsBookOf (setup_in stage) (stage.entries ++ entry ∷ []) stage.book
+  pub stands : StandsFor (stage.history.items ++ entry ∷ []) stage.set
+  pub run : IsRun (setup_in stage) (stage.history.items ++ entry ∷ [])
+  pub book : stage.prints ≡ true → IsBookOf (setup_in stage) (stage.history.items ++ entry ∷ []) stage.book
 
--- It is kept, and where the stage prints, the text gained its line and the comments on it.
+-- It is entered, and where the stage prints, the text gained its line and the comments on it.
 pub record Entered (old new : Stage) (entry : Entry) (out out' : List ℕ) : Type 0 where
-  pub stage : new ≡ record old { entries = old.entries ++ entry ∷ [] }
-  pub text : old.prints ≡ true → out' ≡ out ++ entries_text (setup_in old) old.entries (entry ∷ [])
+  pub stage : new ≡ record old { history = new.history }
+  pub history : new.history.items ≡ old.history.items ++ entry ∷ []
+  pub text : old.prints ≡ true → out' ≡ out ++ entries_text (setup_in old) old.history.items (entry ∷ [])
 
 -- It goes on to something played, under its setup, and prints as before.
 pub record GoesOnTo (old new : Stage) (end : Played) : Type 0 where
@@ -73,8 +79,8 @@ pub record GoesOnTo (old new : Stage) (end : Played) : Type 0 where
 pub record Enters (old new : Stage) (end : Played) (out out' : List ℕ) : Type 0 where
   pub goes : GoesOnTo old new end
   pub made : List Entry
-  pub history : end.history ≡ old.entries ++ made
-  pub text : old.prints ≡ true → out' ≡ out ++ entries_text (setup_in old) old.entries made
+  pub history : end.history ≡ old.history.items ++ made
+  pub text : old.prints ≡ true → out' ≡ out ++ entries_text (setup_in old) old.history.items made
 
 -- the needs of a read that was answered with a value
 abbrev pub needs_met : Request → Reply → List Need

@@ -3,6 +3,7 @@ use Rattle.std.specs.Prelude.{◌≡◌, ◌≤◌, Bool, true, false, List, ◌
 use Rattle.tact_base.specs.Setup.{Setup}
 use Rattle.tact_base.specs.declared.limits.TheConstants.{SCRIPT_LINES}
 use Rattle.run_model.specs.ScriptRuns.{played_by}
+use Rattle.run_model.specs.declared.entry.Entry.{Entry}
 use Rattle.run_model.specs.declared.script_line.Line.{Line}
 use Rattle.script_text.specs.Scripts.{IsScript}
 use Rattle.script_text.specs.Setups.{setup_of}
@@ -22,11 +23,12 @@ pub record AreFirstLines (setup : Setup) (lines : List Line) : Type 0 where
   pub few : length (lines ++ rest) ≤ SCRIPT_LINES
   pub setup_is : setup ≡ setup_of (lines ++ rest)
 
--- Unless it is spent, a world has played its lines, and is ready to print what comes.
-pub record HasPlayed (stage : Stage) (lines : List Line) : Type 0 where
+-- Unless it is spent, a world has played its lines, has all entries that they made, and is ready to print what comes.
+pub record HasPlayed (stage : Stage) (entries : List Entry) (lines : List Line) : Type 0 where
   pub keeps : Keeps stage
   pub played : played_in stage ≡ played_by (setup_in stage) lines
+  pub all : entries ≡ stage.history.items
   pub prints : stage.prints ≡ true
 
-abbrev pub PlaysOn : Stage → WorldState → Type 0
-PlaysOn stage state = state.spent ≡ false → HasPlayed stage state.lines
+abbrev pub PlaysOn : Stage → List Entry → WorldState → Type 0
+PlaysOn stage entries state = state.spent ≡ false → HasPlayed stage entries state.lines

@@ -2,11 +2,16 @@
 #![tactic(auto)]
 
 mod comments;
+mod outbox;
+mod outcome;
 mod playing;
 mod stage;
+mod witness;
 mod world;
 
+pub use outcome::Outcome;
 pub use playing::play;
 pub use run_model::Line;
 pub use script_text::{Script, ScriptFault, parse_script};
+pub use witness::{Witness, one_more};
 pub use world::World;

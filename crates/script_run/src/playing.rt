@@ -1,6 +1,6 @@
 //! `play`: a script in, the text of its run out.
-ghost use Rattle.std.specs.Prelude.{◌≡◌, ◌≤◌, ◌⊎◌, [], ◌++◌, false, length, IfOk, OnOk};
-ghost use Rattle.run_model.specs.ScriptRuns.{not_played, lines_text, play_text};
+ghost use Rattle.std.specs.Prelude.{◌≡◌, ◌≤◌, ◌⊎◌, length, IfOk};
+ghost use Rattle.run_model.specs.ScriptRuns.{play_text};
 ghost use Rattle.run_model.specs.declared.status.Status.TheVariants.{Done, NoMemory as OutOfMemory};
 ghost use Rattle.tact_base.specs.declared.limits.TheConstants.{SCRIPT_LINES};
 ghost use Rattle.tact_io.specs.Faults.{HasRisen};
@@ -8,8 +8,9 @@ ghost use Rattle.script_text.specs.Scripts.{IsScript};
 ghost use Rattle.script_text.specs.Setups.{setup_of};
 ghost use Rattle.script_run.specs.Playing.{Completes, HasCause, IsWritten, Writes, WritesText};
 
-use crate::world::World;
-use run_model::{InputKind, Line, Status, end_of, head_of};
+use crate::stage::{Stage, step_all};
+use crate::witness::Count;
+use run_model::{InputKind, Status, end_of, head_of};
 use script_text::{Script, ScriptFault, parse_script};
 use std::alloc::Global;
 use tact_base::{Bytes, INPUT_MAX, NoMemory};
@@ -77,26 +78,9 @@ fn text_of(alloc: Global, script: &Script) -> Result<Bytes, NoMemory>
 {
     let mut text = Bytes::new(alloc);
     head_of(script.config(), &mut text)?;
-    let mut world = World::new(alloc, script.config())?;
-    step_all(&mut world, script.lines(), &mut text)?;
-    end_of(world.entries().len() as u64, &mut text)?;
+    let mut stage = Stage::new(alloc, script.config(), true)?;
+    let mut count = Count { entries: 0 };
+    step_all(&mut stage, script.lines(), &mut count, &mut text)?;
+    end_of(count.entries, &mut text)?;
     Ok(text)
-}
-
-// Does what the lines of a script say, in a world in which nothing has happened.
-fn step_all(world: &mut World, lines: &[Line], text: &mut Bytes) -> Result<(), NoMemory>
-    requires script { IsScript lines.now }
-    requires few { length lines.now ≤ SCRIPT_LINES }
-    requires setup { world.old.setup ≡ setup_of lines.now }
-    requires lines { world.old.lines ≡ [] }
-    requires unspent { world.old.spent ≡ false }
-    ensures setup { world.new.setup ≡ world.old.setup }
-    ensures lines { OnOk result (world.new.lines ≡ lines.now) }
-    ensures unspent { OnOk result (world.new.spent ≡ false) }
-    ensures text { OnOk result (text.new ≡ text.old ++ lines_text (setup_of lines.now) not_played lines.now) }
-{
-    for line in lines {
-        world.step(line, text)?;
-    }
-    Ok(())
 }

@@ -8,7 +8,7 @@ use given_up::GivenUp;
 use run_model::{Config, Entry, Line};
 use std::alloc::Global;
 use std::marker::Model;
-use tact_base::{Bytes, NoMemory};
+use tact_base::{Bytes, Items, NoMemory};
 
 /// What the lines of a script have made so far. Contracts see the setup, the lines that were stepped, and
 /// whether memory was refused: from then on the world is spent. Of the lines it holds nothing: what they made stands
@@ -16,6 +16,8 @@ use tact_base::{Bytes, NoMemory};
 #[derive(Drop)]
 pub struct World {
     stage: Stage,
+    /// What happened, in order.
+    entries: Items<Entry>,
     lines: GivenUp<Line>,
     /// What the last line printed.
     text: Bytes,
@@ -29,7 +31,7 @@ impl Model for World {
 
     ghost view = { λ w. record { setup = w.stage.set.setup; lines = w.lines.items; spent = w.spent } };
 
-    ghost invariant = { λ w. PlaysOn w.stage (view w) };
+    ghost invariant = { λ w. PlaysOn w.stage w.entries (view w) };
 }
 
 impl World {
@@ -40,7 +42,8 @@ impl World {
         ensures unspent { IfOk result (λ world. world.spent ≡ false) }
     {
         Ok(World {
-            stage: Stage::new(alloc, config)?,
+            stage: Stage::new(alloc, config, true)?,
+            entries: Items::new(alloc),
             lines: GivenUp::new(),
             text: Bytes::new(alloc),
             spent: false,
@@ -65,28 +68,8 @@ impl World {
         self.spent = true;
         self.lines = self.lines.and(line);
         self.text.truncate(0);
-        self.stage.step(line, &mut self.text)?;
+        self.stage.step(line, &mut self.entries, &mut self.text)?;
         out.append(self.text.items())?;
-        self.spent = false;
-        Ok(())
-    }
-
-    /// Does what the next line of a script says, as [`World::step`], and prints nothing.
-    pub fn step_silently(&mut self, line: &Line) -> Result<(), NoMemory>
-        requires first { self.old.spent ≡ false → AreFirstLines self.old.setup (self.old.lines ++ line.now ∷ []) }
-        ensures setup { self.new.setup ≡ self.old.setup }
-        ensures unspent { OnOk result ((self.old.spent ≡ false) × (self.new.spent ≡ false)) }
-        ensures lines { OnOk result (self.new.lines ≡ self.old.lines ++ line.now ∷ []) }
-        ensures spent { OnErr result (self.new.spent ≡ true) }
-        ensures stays { self.old.spent ≡ true → IsErr result }
-    {
-        if self.spent {
-            return Err(NoMemory);
-        }
-        self.spent = true;
-        self.lines = self.lines.and(line);
-        self.text.truncate(0);
-        self.stage.step_silently(line, &mut self.text)?;
         self.spent = false;
         Ok(())
     }
@@ -95,6 +78,6 @@ impl World {
     pub fn entries(&self) -> &[Entry]
         ensures { self.now.spent ≡ false → result.now ≡ history_of self.now.setup self.now.lines }
     {
-        self.stage.entries()
+        self.entries.items()
     }
 }

@@ -20,3 +20,5 @@ mod worked_budgets;
 mod worked_reads;
 #[cfg(test)]
 mod worked_scripts;
+#[cfg(test)]
+mod world;

@@ -4,3 +4,4 @@ mod Played
 mod DrillLemmas
 mod DefaultLemmas
 mod TriesLemmas
+mod Unwritten

@@ -11,6 +11,7 @@ use Rattle.run_model.specs.declared.entry.Act.TheVariants as act
 use Rattle.run_model.specs.declared.entry.Entry.{Entry}
 use Rattle.script_text.specs.Setups.{setup_of}
 use Rattle.drawn_scripts.specs.DrawnScripts.{drawn_script}
+use Rattle.tact_top.specs.declared.counting.Counts.{Counts}
 
 -- kinds of acts
 unfoldable pub is_done : Act → Bool
@@ -41,21 +42,37 @@ is_take other = false
 abbrev pub count_of : (Act → Bool) → List Entry → ℕ
 count_of kind history = count_by (λ (entry : Entry). kind entry.act) history
 
+-- all counts of a history
+abbrev pub counts_of : List Entry → Counts
+counts_of history = record {
+  entries = length history;
+  done = count_of is_done history;
+  waits = count_of is_wait history;
+  heavy = count_of is_heavy history;
+  values = count_of is_value history;
+  sends = count_of is_send history;
+  takes = count_of is_take history;
+}
+
 -- the counts of replies, and of messages, each behind its name
-abbrev pub reply_counts : List Entry → List (List ℕ)
-reply_counts history =
-    codes "done" ∷ decimal (count_of is_done history) ∷ codes "waits" ∷ decimal (count_of is_wait history)
-    ∷ codes "heavy" ∷ decimal (count_of is_heavy history) ∷ codes "values" ∷ decimal (count_of is_value history) ∷ []
+abbrev pub reply_counts : Counts → List (List ℕ)
+reply_counts counts =
+    codes "done" ∷ decimal counts.done ∷ codes "waits" ∷ decimal counts.waits
+    ∷ codes "heavy" ∷ decimal counts.heavy ∷ codes "values" ∷ decimal counts.values ∷ []
+
+abbrev pub sent_counts : ℕ → ℕ → List (List ℕ)
+sent_counts sends takes = codes "sends" ∷ decimal sends ∷ codes "takes" ∷ decimal takes ∷ []
 
 abbrev pub message_counts : List Entry → List (List ℕ)
-message_counts history = codes "sends" ∷ decimal (count_of is_send history) ∷ codes "takes" ∷ decimal (count_of is_take history) ∷ []
+message_counts history = sent_counts (count_of is_send history) (count_of is_take history)
 
-abbrev pub count_tokens : ℕ → List Entry → List (List ℕ)
-count_tokens number history = decimal number ∷ codes "entries" ∷ decimal (length history) ∷ reply_counts history ++ message_counts history
+abbrev pub count_tokens : ℕ → Counts → List (List ℕ)
+count_tokens number counts =
+    decimal number ∷ codes "entries" ∷ decimal counts.entries ∷ reply_counts counts ++ sent_counts counts.sends counts.takes
 
 -- their line, with its line feed
-abbrev pub counts_text : ℕ → List Entry → List ℕ
-counts_text number history = line_text (codes "drill" ∷ count_tokens number history) ++ 10 ∷ []
+abbrev pub counts_text : ℕ → Counts → List ℕ
+counts_text number counts = line_text (codes "drill" ∷ count_tokens number counts) ++ 10 ∷ []
 
 -- the line of a replica: the comment that shows it, without its first two characters
 abbrev pub shown_line : Setup → List Entry → ℕ → List ℕ
@@ -63,7 +80,7 @@ shown_line setup history replica = drop 2 (show_text setup history replica)
 
 -- the summary of what happened under a setup
 abbrev pub summary_text : ℕ → Setup → List Entry → List ℕ
-summary_text number setup history = counts_text number history ++ flat_map (shown_line setup history) (replicas_of setup)
+summary_text number setup history = counts_text number (counts_of history) ++ flat_map (shown_line setup history) (replicas_of setup)
 
 -- the summary of the script that a number draws
 abbrev pub drill_text : ℕ → List ℕ

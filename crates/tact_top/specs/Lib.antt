@@ -3,7 +3,6 @@ pub mod RecordForms
 pub mod Refusals
 pub mod Checked
 pub mod DrillText
-pub mod Drilling
 pub mod PrimaryText
 pub mod RoamText
 pub mod SalesText

@@ -1,53 +1,127 @@
 //! The counts of what happened.
-ghost use Rattle.std.specs.Prelude.{◌≡◌, ◌++◌, ◌∷◌, [], Bool, OnOk, OnErr, codes, decimal, length};
+ghost use Rattle.std.specs.Prelude.{◌≡◌, List, ◌++◌, ◌∷◌, [], Bool, OnOk, OnErr, IfOk};
 ghost use Rattle.run_model.specs.declared.entry.Act.{Act};
-ghost use Rattle.run_model.specs.Text.{BeginsWith, line_text, spaced};
-ghost use Rattle.tact_top.specs.DrillText.{count_of, count_tokens, counts_text, is_done, is_heavy, is_send, is_take, is_value, is_wait, message_counts, reply_counts};
+ghost use Rattle.run_model.specs.declared.entry.Entry.{Entry as Made};
+ghost use Rattle.run_model.specs.Text.{BeginsWith, spaced};
+ghost use Rattle.tact_top.specs.DrillText.{count_of, count_tokens, counts_of, counts_text, is_done, is_heavy, is_send, is_take, is_value, is_wait, message_counts, reply_counts, sent_counts};
 
 use run_model::{Act, Entry, Reply, put_number, put_row};
+use script_run::{Witness, one_more};
 use tact_base::{Bytes, NoMemory};
+
+/// How many entries there were, and how many with acts of each kind.
+#[derive(Drop)]
+pub(crate) struct Counts {
+    entries: u64,
+    done: u64,
+    waits: u64,
+    heavy: u64,
+    values: u64,
+    sends: u64,
+    takes: u64,
+}
+
+impl Counts {
+    /// The counts of no entries.
+    pub(crate) fn new() -> Counts
+        ensures { result ≡ counts_of [] }
+    {
+        Counts {
+            entries: 0,
+            done: 0,
+            waits: 0,
+            heavy: 0,
+            values: 0,
+            sends: 0,
+            takes: 0,
+        }
+    }
+}
+
+impl Witness for Counts {
+    ghost saw = { λ counts history. counts ≡ counts_of history };
+
+    fn sees(&mut self, entry: &Entry) -> Result<(), NoMemory> {
+        let entries = one_more(self.entries)?;
+        let done = counted::<Done>(self.done, entry)?;
+        let waits = counted::<Waits>(self.waits, entry)?;
+        let heavy = counted::<Heavy>(self.heavy, entry)?;
+        let values = counted::<Values>(self.values, entry)?;
+        let sends = counted::<Sends>(self.sends, entry)?;
+        let takes = counted::<Takes>(self.takes, entry)?;
+        *self = Counts {
+            entries,
+            done,
+            waits,
+            heavy,
+            values,
+            sends,
+            takes,
+        };
+        Ok(())
+    }
+}
+
+// The count of a kind, with one more entry.
+fn counted<K: Kind>(count: u64, entry: &Entry) -> Result<u64, NoMemory>
+    ensures { IfOk result (λ more. (history : List Made) → count ≡ count_of K.kind history
+        → more ≡ count_of K.kind (history ++ entry.now ∷ [])) }
+{
+    if K::is(&entry.act) {
+        one_more(count)
+    } else {
+        Ok(count)
+    }
+}
 
 /// Appends the line with the counts of what happened in the drill of a number. After `NoMemory` the text still
 /// begins with what it was.
 #[tactic(auto, using(run_model::proofs::TextLemmas::begins_grown, run_model::proofs::TextLemmas::always_err))]
-pub(crate) fn put_counts(number: u64, history: &[Entry], out: &mut Bytes) -> Result<(), NoMemory>
-    ensures ok { OnOk result (out.new ≡ out.old ++ counts_text number history.now) }
+pub(crate) fn put_counts(number: u64, counts: &Counts, out: &mut Bytes) -> Result<(), NoMemory>
+    ensures ok { OnOk result (out.new ≡ out.old ++ counts_text number counts.now) }
     ensures err { OnErr result (BeginsWith out.old out.new) }
 {
     out.append(b"drill")?;
-    put_all(number, history, out)?;
+    put_all(number, counts, out)?;
     out.push(b'\n')
 }
 
 #[tactic(auto, using(run_model::proofs::TextLemmas::begins_grown, run_model::proofs::TextLemmas::always_err))]
-fn put_all(number: u64, history: &[Entry], out: &mut Bytes) -> Result<(), NoMemory>
-    ensures ok { OnOk result (out.new ≡ out.old ++ spaced (count_tokens number history.now)) }
+fn put_all(number: u64, counts: &Counts, out: &mut Bytes) -> Result<(), NoMemory>
+    ensures ok { OnOk result (out.new ≡ out.old ++ spaced (count_tokens number counts.now)) }
     ensures err { OnErr result (BeginsWith out.old out.new) }
 {
     put_number(number, out)?;
-    put_row(b"entries", &[history.len() as u64], out)?;
-    put_replies(history, out)?;
-    put_messages(history, out)
+    put_row(b"entries", &[counts.entries], out)?;
+    put_replies(counts, out)?;
+    put_sent(counts.sends, counts.takes, out)
 }
 
 #[tactic(auto, using(run_model::proofs::TextLemmas::begins_grown, run_model::proofs::TextLemmas::always_err))]
-fn put_replies(history: &[Entry], out: &mut Bytes) -> Result<(), NoMemory>
-    ensures ok { OnOk result (out.new ≡ out.old ++ spaced (reply_counts history.now)) }
+fn put_replies(counts: &Counts, out: &mut Bytes) -> Result<(), NoMemory>
+    ensures ok { OnOk result (out.new ≡ out.old ++ spaced (reply_counts counts.now)) }
     ensures err { OnErr result (BeginsWith out.old out.new) }
 {
-    put_row(b"done", &[count::<Done>(history)], out)?;
-    put_row(b"waits", &[count::<Waits>(history)], out)?;
-    put_row(b"heavy", &[count::<Heavy>(history)], out)?;
-    put_row(b"values", &[count::<Values>(history)], out)
+    put_row(b"done", &[counts.done], out)?;
+    put_row(b"waits", &[counts.waits], out)?;
+    put_row(b"heavy", &[counts.heavy], out)?;
+    put_row(b"values", &[counts.values], out)
 }
 
-#[tactic(auto, using(run_model::proofs::TextLemmas::begins_grown, run_model::proofs::TextLemmas::always_err))]
 pub(crate) fn put_messages(history: &[Entry], out: &mut Bytes) -> Result<(), NoMemory>
     ensures ok { OnOk result (out.new ≡ out.old ++ spaced (message_counts history.now)) }
     ensures err { OnErr result (BeginsWith out.old out.new) }
 {
-    put_row(b"sends", &[count::<Sends>(history)], out)?;
-    put_row(b"takes", &[count::<Takes>(history)], out)
+    put_sent(count::<Sends>(history), count::<Takes>(history), out)
+}
+
+#[tactic(auto, using(run_model::proofs::TextLemmas::begins_grown, run_model::proofs::TextLemmas::always_err))]
+fn put_sent(sends: u64, takes: u64, out: &mut Bytes) -> Result<(), NoMemory>
+    ensures ok { OnOk result (out.new ≡ out.old ++ spaced (sent_counts sends takes)) }
+    ensures err { OnErr result (BeginsWith out.old out.new) }
+{
+    put_row(b"sends", &[sends], out)?;
+    put_row(b"takes", &[takes], out)
 }
 
 /// A kind of acts.

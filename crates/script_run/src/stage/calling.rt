@@ -1,5 +1,5 @@
 //! Calls of clients.
-ghost use Rattle.std.specs.Prelude.{◌≡◌, ℕ, ◌<◌, ◌≤◌, List, [], ◌∷◌, ◌++◌, unsigned_abs, Some, IfOk, OnOk};
+ghost use Rattle.std.specs.Prelude.{◌≡◌, true, ℕ, ◌<◌, ◌≤◌, List, [], ◌∷◌, ◌++◌, unsigned_abs, Some, IfOk, OnOk};
 ghost use Rattle.tact_base.specs.Setup.{Setup};
 ghost use Rattle.tact_base.specs.declared.limits.TheConstants.{CLIENTS, WEIGHT_MAX};
 ghost use Rattle.tact_base.specs.declared.write.Write.{Write};
@@ -12,6 +12,7 @@ ghost use Rattle.reference_book.specs.Books.{IsBookOf, IsNextIn};
 ghost use Rattle.script_run.specs.Stages.{needs_in, needs_met};
 
 use super::Stage;
+use crate::witness::Witness;
 use reference_book::Book;
 use run_model::{Act, Entry, Reply, Request};
 use tact_base::{Bytes, Need, NoMemory, Weight, Weights, Write};
@@ -20,55 +21,67 @@ impl Stage {
     ghost use Rattle.script_run.specs.Stages.{Keeps, Enters, setup_in, played_in};
 
     // A client calls a replica.
-    pub(super) fn call(
+    pub(super) fn call<W: Witness>(
         &mut self,
         replica: u32,
         client: u32,
         request: Request,
+        witness: &mut W,
         out: &mut Bytes,
     ) -> Result<(), NoMemory>
         requires keeps { Keeps self.old }
         requires replica { replica < (setup_in self.old).replicas }
         requires client { client < CLIENTS }
         requires in_range { IsRequestInRange (setup_in self.old) request }
+        requires saw { W.saw witness.old self.old.history.items }
         ensures enters { OnOk result (Enters self.old self.new (calls (setup_in self.old) (played_in self.old) replica client request) out.old out.new) }
         ensures setup { setup_in self.new ≡ setup_in self.old }
+        ensures saw { OnOk result (W.saw witness.new self.new.history.items) }
     {
         let moment = self.moment_of(replica);
         let number = self.set.at(replica).calls(client);
         let Ok(reply) = self.set.call(replica, self.handed, client, &request) else {
             return Err(NoMemory);
         };
-        note_call(&mut self.book, replica, moment, &request, &reply)?;
+        note_call(
+            self.prints,
+            &mut self.book,
+            replica,
+            moment,
+            &request,
+            &reply,
+        )?;
         let act = Act::Call {
             client,
             number,
             request,
             reply,
         };
-        self.enter(
-            Entry {
-                replica,
-                moment,
-                act,
-            },
-            out,
-        )
+        let entry = Entry {
+            replica,
+            moment,
+            act,
+        };
+        self.enter(&entry, witness, out)
     }
 }
 
-// Takes the write that a call accepted, if it did, into the book.
+// Takes the write that a call accepted, if it did, into the book, where the stage prints.
 fn note_call(
+    prints: bool,
     book: &mut Book,
     replica: u32,
     moment: u64,
     request: &Request,
     reply: &Reply,
 ) -> Result<(), NoMemory>
-    requires next { (write : Write) → accepted_as replica moment (asked_write request.now) (done_as reply.now) ≡ Some write → IsNextIn book.old write }
-    ensures { OnOk result ((setup : Setup) (history : List Entry) (client number : ℕ) → IsBookOf setup history book.old
+    requires next { prints ≡ true → (write : Write) → accepted_as replica moment (asked_write request.now) (done_as reply.now) ≡ Some write → IsNextIn book.old write }
+    ensures { OnOk result (prints ≡ true → (setup : Setup) (history : List Entry) (client number : ℕ) → IsBookOf setup history book.old
         → IsBookOf setup (history ++ record { replica = replica; moment = moment; act = act.Call client number request.now reply.now } ∷ []) book.new) }
 {
+    if !prints {
+        return Ok(());
+    }
     match write_of(replica, moment, request, reply)? {
         None => Ok(()),
         Some(write) => book.accept(&write),

@@ -1,10 +1,12 @@
 //! Messages that are sent and taken.
-ghost use Rattle.std.specs.Prelude.{◌≡◌, ◌≢◌, ◌<◌, ◌∷◌, [], ◌++◌, length, slice_get, slice_set, slice_index_or, Some, IfOk, OnOk};
-ghost use Rattle.run_model.specs.Histories.{part_of, sent_in};
+ghost use Rattle.std.specs.Prelude.{◌≡◌, ◌≢◌, ◌<◌, ◌∷◌, [], ◌++◌, None, Some, length, slice_index_or, slice_set, OnOk};
 ghost use Rattle.run_model.specs.ScriptRuns.{sends, takes, passes};
 ghost use Rattle.script_text.specs.Fronts.{IsNamed};
+ghost use Rattle.script_run.specs.Stages.{IsOf};
 
 use super::Stage;
+use crate::outbox::Outbox;
+use crate::witness::Witness;
 use run_model::{Act, Entry, Message};
 use tact_base::{Bytes, NoMemory, Numbers};
 
@@ -12,11 +14,12 @@ impl Stage {
     ghost use Rattle.script_run.specs.Stages.{Keeps, Enters, setup_in, played_in};
 
     // One sends to another, where these firsts are given.
-    pub(super) fn send(
+    pub(super) fn send<W: Witness>(
         &mut self,
         from: u32,
         to: u32,
         firsts: &Numbers,
+        witness: &mut W,
         out: &mut Bytes,
     ) -> Result<(), NoMemory>
         requires keeps { Keeps self.old }
@@ -24,89 +27,122 @@ impl Stage {
         requires to { to < (setup_in self.old).replicas }
         requires other { to ≢ from }
         requires firsts { length firsts.now ≡ (setup_in self.old).replicas }
+        requires saw { W.saw witness.old self.old.history.items }
         ensures enters { OnOk result (Enters self.old self.new (sends (setup_in self.old) (played_in self.old) from to firsts.now) out.old out.new) }
         ensures setup { setup_in self.new ≡ setup_in self.old }
+        ensures saw { OnOk result (W.saw witness.new self.new.history.items) }
     {
         let moment = self.moment_of(from);
         let Ok(message) = self.set.send(from, self.handed, to, firsts) else {
             return Err(NoMemory);
         };
-        keep_place(&mut self.sends, from, self.entries.len() as u64)?;
-        self.enter(
-            Entry {
-                replica: from,
-                moment,
-                act: Act::Send { message },
-            },
-            out,
-        )
+        let entry = Entry {
+            replica: from,
+            moment,
+            act: Act::Send { message },
+        };
+        self.enter(&entry, witness, out)?;
+        keep(&mut self.sent, from, message_in(entry.act))
     }
 
     // One takes the message that another sent under a number.
-    pub(super) fn take(
+    pub(super) fn take<W: Witness>(
         &mut self,
         replica: u32,
         from: u32,
         number: u64,
+        witness: &mut W,
         out: &mut Bytes,
     ) -> Result<(), NoMemory>
         requires keeps { Keeps self.old }
         requires replica { replica < (setup_in self.old).replicas }
         requires from { from < (setup_in self.old).replicas }
-        requires message { (message : Message) × IsNamed (setup_in self.old) self.old.entries replica from number message }
+        requires message { (message : Message) × IsNamed (setup_in self.old) self.old.history.items replica from number message }
+        requires saw { W.saw witness.old self.old.history.items }
         ensures enters { OnOk result (Enters self.old self.new (takes (played_in self.old) replica from number) out.old out.new) }
         ensures setup { setup_in self.new ≡ setup_in self.old }
+        ensures saw { OnOk result (W.saw witness.new self.new.history.items) }
     {
-        let message = self.message(from, number)?;
         let moment = self.moment_of(replica);
+        let message = lend(&mut self.sent, from, number);
         let Ok(()) = self.set.take(replica, self.handed, &message) else {
             return Err(NoMemory);
         };
-        self.enter(
-            Entry {
-                replica,
-                moment,
-                act: Act::Take { message },
-            },
-            out,
-        )
+        let entry = Entry {
+            replica,
+            moment,
+            act: Act::Take { message },
+        };
+        self.enter(&entry, witness, out)?;
+        take_back(&mut self.sent, from, number, message_in(entry.act));
+        Ok(())
     }
 
     // One sends to another, which takes the message.
-    pub(super) fn pass(&mut self, from: u32, to: u32, out: &mut Bytes) -> Result<(), NoMemory>
+    pub(super) fn pass<W: Witness>(
+        &mut self,
+        from: u32,
+        to: u32,
+        witness: &mut W,
+        out: &mut Bytes,
+    ) -> Result<(), NoMemory>
         requires keeps { Keeps self.old }
         requires from { from < (setup_in self.old).replicas }
         requires to { to < (setup_in self.old).replicas }
         requires other { to ≢ from }
+        requires saw { W.saw witness.old self.old.history.items }
         ensures enters { OnOk result (Enters self.old self.new (passes (setup_in self.old) (played_in self.old) from to) out.old out.new) }
         ensures setup { setup_in self.new ≡ setup_in self.old }
+        ensures saw { OnOk result (W.saw witness.new self.new.history.items) }
     {
-        let number = self.sends[from as usize].len() as u64;
+        let number = self.sent[from as usize].len() as u64;
         let firsts = self.zeros.clone()?;
-        self.send(from, to, &firsts, out)?;
-        self.take(to, from, number, out)
-    }
-
-    // The message that one sent under a number.
-    fn message(&self, from: u32, number: u64) -> Result<Message, NoMemory>
-        requires keeps { Keeps self.now }
-        requires from { from < (setup_in self.now).replicas }
-        requires number { number < length (sent_in (part_of self.now.entries from)) }
-        ensures { IfOk result (λ message. slice_get (sent_in (part_of self.now.entries from)) number ≡ Some message) }
-    {
-        let place = self.sends[from as usize].items()[number as usize];
-        match &self.entries.items()[place as usize].act {
-            Act::Send { message } => Ok(message.clone()?),
-            _ => unreachable!(),
-        }
+        self.send(from, to, &firsts, witness, out)?;
+        self.take(to, from, number, witness, out)
     }
 }
 
-// Keeps the place of the entry in which a replica sent its next message.
-fn keep_place(sends: &mut Vec<Numbers>, from: u32, place: u64) -> Result<(), NoMemory>
-    requires { from < length sends.old.items }
-    ensures { OnOk result (sends.new.items ≡ slice_set sends.old.items from (slice_index_or sends.old.items from [] ++ place ∷ [])) }
+// Keeps the next message of a replica.
+fn keep(sent: &mut Vec<Outbox>, from: u32, message: Message) -> Result<(), NoMemory>
+    requires { from < length sent.old.items }
+    ensures { OnOk result (sent.new.items ≡ slice_set sent.old.items from (slice_index_or sent.old.items from [] ++ Some message ∷ [])) }
 {
-    let places = &mut sends[from as usize];
-    places.push(place)
+    let outbox = &mut sent[from as usize];
+    outbox.push(message)
+}
+
+// Gives the message that one sent under a number, which is then missing.
+fn lend(sent: &mut Vec<Outbox>, from: u32, number: u64) -> Message
+    requires from { from < length sent.old.items }
+    requires number { number < length (slice_index_or sent.old.items from []) }
+    requires there { (message : Message) × (slice_index_or (slice_index_or sent.old.items from []) number None ≡ Some message) }
+    ensures lent { slice_index_or (slice_index_or sent.old.items from []) number None ≡ Some result }
+    ensures missing { sent.new.items ≡ slice_set sent.old.items from (slice_set (slice_index_or sent.old.items from []) number None) }
+{
+    let outbox = &mut sent[from as usize];
+    match outbox.lend(number as usize) {
+        Some(message) => message,
+        None => unreachable!(),
+    }
+}
+
+// Takes it back.
+fn take_back(sent: &mut Vec<Outbox>, from: u32, number: u64, message: Message)
+    requires from { from < length sent.old.items }
+    requires number { number < length (slice_index_or sent.old.items from []) }
+    ensures { sent.new.items ≡ slice_set sent.old.items from (slice_set (slice_index_or sent.old.items from []) number (Some message)) }
+{
+    let outbox = &mut sent[from as usize];
+    outbox.take_back(number as usize, message);
+}
+
+// The message of an act that sends or takes one.
+fn message_in(act: Act) -> Message
+    requires { (message : Message) × IsOf message act }
+    ensures { IsOf result act }
+{
+    match act {
+        Act::Send { message } | Act::Take { message } => message,
+        Act::Call { .. } | Act::Lend { .. } | Act::Back { .. } | Act::Restart => unreachable!(),
+    }
 }

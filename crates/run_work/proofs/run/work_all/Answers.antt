@@ -7,6 +7,7 @@ use Rattle.work_load.specs.declared.plan.Client.{Client}
 use Rattle.run_work.specs.Ends.{AreBusy, AreEnds, AreUnmarked, HaveEnded, HaveServed}
 use Rattle.run_work.specs.Working.{WorkerView}
 use Rattle.run_work.specs.declared.leaving.Left.{Left}
+use Rattle.run_work.proofs.Ending.{HaveRosters-kept}
 use Rattle.run_work.proofs.Finishing.{clients_written}
 use Rattle.run_work.proofs.run.work_all.Goals as goal
 use Rattle.run_work.proofs.run.work_all.Goals.{After-work_each}
@@ -44,3 +45,7 @@ pub returns-clause-busy : goal.returns-clause-busy
 returns-clause-busy g c =
     subst (λ (clients : List Client). OnOk c.leave_all.result (AreBusy clients 0 c.leave_all.new.ends))
     (have_clients g (goal.at.returns-clause-busy g c).After-work_each) c.leave_all.ensures.busy
+
+pub returns-clause-rosters : goal.returns-clause-rosters
+returns-clause-rosters g c =
+    HaveRosters-kept c.args.sites.now.nodes c.seat_all.new.ends c.leave_all.new.ends c.leave_all.ensures.rosters c.in_ok-workers.ensures.rosters

@@ -44,15 +44,15 @@ loop-clerk-preserved g c =
       all = append_assoc before (clerk ∷ []) after ∙ whole;
       opening = rw (more, c.put.ensures.items, c.put-in-Ok.ensures.items, c.put-in-Ok-2.ensures.items, c.put-in-Ok-3.ensures.items)
           (IsOpening-more c.args.plan.now desk (length before) c.loop-clerk.nodes.items c.loop-clerk.inboxes.items c.loop-clerk.ends.items c.loop-clerk.keys.items
-          c.in-Ok.node c.in-Ok.inbox c.in-Ok.end c.in-Ok.key
-          (subst (λ (k : ℕ). IsNodeAt desk k c.in-Ok.node) number c.in-Ok.ensures.node) (subst (λ (k : ℕ). IsInboxAt desk k c.in-Ok.inbox) number c.in-Ok.ensures.inbox)
+          c.in-Ok.field-0.node c.in-Ok.field-0.inbox c.in-Ok.field-0.end c.in-Ok.field-0.key
+          (subst (λ (k : ℕ). IsNodeAt desk k c.in-Ok.field-0.node) number c.in-Ok.ensures.node) (subst (λ (k : ℕ). IsInboxAt desk k c.in-Ok.field-0.inbox) number c.in-Ok.ensures.inbox)
           (c.in-Ok.ensures.plan ∙ ap (λ (k : ℕ). get_or c.args.plan.now.links k no_faults) number) c.in-Ok.ensures.end c.in-Ok.ensures.key c.loop-clerk.invariant.opening);
       node_room = omega (arith, c.loop-clerk.invariant.node_room, c.put.ensures.capacity);
       inbox_room = omega (arith, c.loop-clerk.invariant.inbox_room, c.put-in-Ok.ensures.capacity);
       end_room = omega (arith, c.loop-clerk.invariant.end_room, c.put-in-Ok-2.ensures.capacity);
       key_room = omega (arith, c.loop-clerk.invariant.key_room, c.put-in-Ok-3.ensures.capacity);
-      ends_count = ap length c.put-in-Ok-2.ensures.items ∙ length_push c.loop-clerk.ends.items c.in-Ok.end ∙ ap (λ (k : ℕ). k + 1) c.loop-clerk.invariant.ends_count ∙ sym more;
-      keys_count = ap length c.put-in-Ok-3.ensures.items ∙ length_push c.loop-clerk.keys.items c.in-Ok.key ∙ ap (λ (k : ℕ). k + 1) c.loop-clerk.invariant.keys_count ∙ sym more;
+      ends_count = ap length c.put-in-Ok-2.ensures.items ∙ length_push c.loop-clerk.ends.items _ ∙ ap (λ (k : ℕ). k + 1) c.loop-clerk.invariant.ends_count ∙ sym more;
+      keys_count = ap length c.put-in-Ok-3.ensures.items ∙ length_push c.loop-clerk.keys.items _ ∙ ap (λ (k : ℕ). k + 1) c.loop-clerk.invariant.keys_count ∙ sym more;
       low = omega (arith, c.loop-clerk.invariant.low, c.open_at.ensures.never_falls);
     }
 

@@ -21,7 +21,7 @@ needs-requires-clause-replicas c =
     let core = c.at-view.result.now.core in
     let one = made.stands.is_set.each c.args.entry.now.replica core c.at-view.ensures in
     ap (λ (s : Setup). s.replicas) one.setup
-    ∙ sym (length-logs stage.set.setup (stage.entries ++ c.args.entry.now ∷ []) stage.book made.book)
+    ∙ sym (length-logs stage.set.setup (stage.history.items ++ c.args.entry.now ∷ []) stage.book (made.book c.requires.prints))
 
 pub returns : goal.returns
 returns c =
@@ -30,11 +30,11 @@ returns c =
     let entry = c.args.entry.now in
     let setup = stage.set.setup in
     let core = c.at-view.result.now.core in
-    let longer = stage.entries ++ entry ∷ [] in
+    let longer = stage.history.items ++ entry ∷ [] in
     let one = made.stands.is_set.each entry.replica core c.at-view.ensures in
     let truth : TellsTruth stage.book core longer = record {
       run = subst (λ s. IsRun s longer) (sym one.setup) made.run;
-      book = subst (λ s. IsBookOf s longer stage.book) (sym one.setup) made.book;
+      book = subst (λ s. IsBookOf s longer stage.book) (sym one.setup) (made.book c.requires.prints);
       stands = subst (λ r. Stands (part_of longer r) core) (sym one.replica) (made.stands.parts entry.replica core c.at-view.ensures);
     } in
     on_ok_weaker c.needs.result

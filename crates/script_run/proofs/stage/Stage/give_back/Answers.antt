@@ -4,7 +4,7 @@ use Rattle.run_model.specs.Histories.{part_of}
 use Rattle.run_model.specs.declared.entry.Act.TheVariants as act
 use Rattle.run_model.specs.declared.entry.Entry.{Entry}
 use Rattle.script_run.specs.declared.stage.Stage.{Stage}
-use Rattle.script_run.proofs.Entering.{is_made_quiet, enters_quiet}
+use Rattle.script_run.proofs.Entering.{is_made_quiet, enters_alone}
 use Rattle.tact_base.specs.Setup.{Setup}
 use Rattle.run_model.specs.Loans.{free}
 use Rattle.replica_set.proofs.StandingRuns.{core_there}
@@ -15,44 +15,42 @@ use Rattle.script_run.proofs.Entering.{same_set}
 use Rattle.script_run.proofs.Stepping.{gives, gives_not}
 use Rattle.script_run.proofs.stage.Stage.give_back.Goals as goal
 
-pub enter-requires : goal.enter-requires
-enter-requires c =
+pub enter-requires-clause-made : goal.enter-requires-clause-made
+enter-requires-clause-made g c =
     let mid : Stage = record c.args.self.now { set = c.give_back.new.self } in
     let entry : Entry = record { replica = c.args.holder; moment = c.moment_of-moment.result; act = act.Back c.args.owner c.args.conit c.args.amount } in
-    record {
-      made = is_made_quiet c.args.self.now c.requires.keeps c.args.holder c.requires.holder c.give_back.new.self c.give_back.ensures.setup
-          (λ part. act.Back c.args.owner c.args.conit c.args.amount) c.in-Ok.ensures.goes_on entry
-          (ap (λ (moment : ℕ). let e : Entry = record { replica = c.args.holder; moment = moment; act = act.Back c.args.owner c.args.conit c.args.amount }
-          in e) c.moment_of-moment.ensures) tt mid refl refl refl refl;
-    }
+    is_made_quiet c.args.self.now c.requires.keeps c.args.holder c.requires.holder c.give_back.new.self c.give_back.ensures.setup
+    (λ part. act.Back c.args.owner c.args.conit c.args.amount) c.in-Ok.ensures.goes_on entry
+    (ap (λ (moment : ℕ). let e : Entry = record { replica = c.args.holder; moment = moment; act = act.Back c.args.owner c.args.conit c.args.amount }
+    in e) c.moment_of-moment.ensures) tt mid refl refl refl refl refl
 
 pub returns-in-Ok-clause-steps : goal.returns-in-Ok-clause-steps
-returns-in-Ok-clause-steps c =
+returns-in-Ok-clause-steps g c =
     let old = c.args.self.now in
     let there = core_there old.set c.args.holder c.requires.keeps.stands.is_set c.requires.holder in
     let one = c.requires.keeps.stands.is_set.each c.args.holder there.0 there.1 in
-    let may = (c.in-Ok.ensures.may there.0 there.1).2 (part_of old.entries c.args.holder) (c.requires.keeps.stands.parts c.args.holder there.0 there.1) in
-    let within : c.args.amount ≤ free old.set.setup c.args.holder (part_of old.entries c.args.holder) c.args.owner c.args.conit =
-    subst (λ (s : Setup). c.args.amount ≤ free s c.args.holder (part_of old.entries c.args.holder) c.args.owner c.args.conit) one.setup
-    (subst (λ (r : ℕ). c.args.amount ≤ free there.0.setup r (part_of old.entries c.args.holder) c.args.owner c.args.conit) one.replica may) in
+    let may = (c.in-Ok.ensures.may there.0 there.1).2 (part_of old.history.items c.args.holder) (c.requires.keeps.stands.parts c.args.holder there.0 there.1) in
+    let within : c.args.amount ≤ free old.set.setup c.args.holder (part_of old.history.items c.args.holder) c.args.owner c.args.conit =
+    subst (λ (s : Setup). c.args.amount ≤ free s c.args.holder (part_of old.history.items c.args.holder) c.args.owner c.args.conit) one.setup
+    (subst (λ (r : ℕ). c.args.amount ≤ free there.0.setup r (part_of old.history.items c.args.holder) c.args.owner c.args.conit) one.replica may) in
     let mid : Stage = record c.args.self.now { set = c.give_back.new.self } in
     let entry : Entry = record { replica = c.args.holder; moment = c.moment_of-moment.result; act = act.Back c.args.owner c.args.conit c.args.amount } in
     on_ok_weaker c.enter.result (λ entered. gives old c.enter.new.self c.args.owner c.args.holder c.args.conit c.args.amount c.args.out.now c.enter.new.out within
-    (enters_quiet c.args.self.now mid c.enter.new.self c.requires.keeps entry c.args.out.now c.enter.new.out c.args.holder (λ part moment. act.Back c.args.owner c.args.conit c.args.amount)
-    c.give_back.ensures.setup refl refl refl refl refl refl (ap (λ (moment : ℕ). let e : Entry = record
+    (enters_alone c.args.self.now mid c.enter.new.self c.requires.keeps entry c.args.out.now c.enter.new.out c.args.holder (λ part moment. act.Back c.args.owner c.args.conit c.args.amount)
+    c.give_back.ensures.setup refl refl (ap (λ (moment : ℕ). let e : Entry = record
     { replica = c.args.holder; moment = moment; act = act.Back c.args.owner c.args.conit c.args.amount } in e) c.moment_of-moment.ensures)
     (is_made_quiet c.args.self.now c.requires.keeps c.args.holder c.requires.holder c.give_back.new.self c.give_back.ensures.setup
     (λ part. act.Back c.args.owner c.args.conit c.args.amount) c.in-Ok.ensures.goes_on entry
     (ap (λ (moment : ℕ). let e : Entry = record { replica = c.args.holder; moment = moment; act = act.Back c.args.owner c.args.conit c.args.amount } in e)
-    c.moment_of-moment.ensures) tt mid refl refl refl refl) entered)) c.enter.ensures.entered
+    c.moment_of-moment.ensures) tt mid refl refl refl refl refl) entered)) c.enter.ensures.entered
 
 pub returns-in-Err-Free-clause-steps : goal.returns-in-Err-Free-clause-steps
-returns-in-Err-Free-clause-steps c =
+returns-in-Err-Free-clause-steps g c =
     let old = c.args.self.now in
     let keeps = c.requires.keeps in
     let there = core_there old.set c.args.holder keeps.stands.is_set c.requires.holder in
     let one = keeps.stands.is_set.each c.args.holder there.0 there.1 in
-    let part = part_of old.entries c.args.holder in
+    let part = part_of old.history.items c.args.holder in
     let fault : IsReturnFault there.0 c.args.owner c.args.conit c.args.amount (fault.Free c.in-Err-Free.field-0-0 c.in-Err-Free.free) = subst
     (IsReturnFault there.0 c.args.owner c.args.conit c.args.amount) c.in-Err-Free.field-0-is (c.in-Err-Free.ensures.fault there.0 there.1) in
     let limit : c.in-Err-Free.free ≡ free old.set.setup c.args.holder part c.args.owner c.args.conit =

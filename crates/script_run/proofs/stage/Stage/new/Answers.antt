@@ -1,5 +1,5 @@
 use Rattle.script_run.proofs.Opening.{opens}
-use Rattle.std.proofs.Common.{ap, ◌∙◌, arith, refl, replicate, true, []}
+use Rattle.std.proofs.Common.{ap, ◌∙◌, arith, refl, replicate, []}
 use Rattle.script_run.proofs.stage.Stage.new.Goals as goal
 
 pub returns-clause-keeps : goal.returns-clause-keeps
@@ -7,11 +7,11 @@ returns-clause-keeps c =
     opens (record {
       set = c.in_ok-new.field-0;
       book = c.in_ok-new-2.field-0;
-      entries = c.new-4.result;
-      sends = c.loop-replica.sends;
+      history = c.new-4.result;
+      sent = c.loop-replica.sent;
       handed = 0;
       zeros = c.in_ok-filled.field-0;
-      prints = true;
+      prints = c.args.prints;
     }) c.args.config.now c.in_ok-new.ensures.setup c.new-4.ensures refl c.in_ok-new.ensures.stands
     (c.loop-replica.invariant ∙ ap (λ n. replicate n []) (omega (arith, c.replicas-replica-end.ensures.count)))
     (c.in_ok-filled.ensures ∙ ap (λ n. replicate n 0) c.replicas.ensures.count)

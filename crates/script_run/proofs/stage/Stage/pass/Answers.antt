@@ -1,49 +1,45 @@
-use Rattle.std.proofs.Common.{◌≡◌, ℕ, List, [], length, map, Some, sym, ap, ap₂, ◌∙◌, subst, arith}
+use Rattle.std.proofs.Common.{◌≡◌, ℕ, List, [], length, Some, ap, ap₂, ◌∙◌, subst, arith}
+use Rattle.std.proofs.lemmas.List.{get_or_read, length-map}
+use Rattle.std.proofs.lemmas.List.FromFn.{length-map-range_with_len}
 use Rattle.std.proofs.lemmas.Result.{on_ok_weaker}
 use Rattle.run_model.specs.Histories.{part_of, sent_in}
-use Rattle.std.proofs.lemmas.List.{get_or_read}
-use Rattle.std.proofs.lemmas.List.FromFn.{length-map-range_with_len}
 use Rattle.run_model.specs.ScriptRuns.{Played, zeros, sends, takes}
-use Rattle.script_run.specs.Stages.{Enters, message_at, played_in}
-use Rattle.script_run.proofs.Found.{as_many}
+use Rattle.script_run.specs.Stages.{Enters, played_in}
 use Rattle.script_run.proofs.Passing.{sent_is_named}
 use Rattle.script_run.proofs.Stepping.{enters_twice}
 use Rattle.script_run.proofs.stage.Stage.pass.Goals as goal
 
 pub send-requires-clause-firsts : goal.send-requires-clause-firsts
-send-requires-clause-firsts c =
+send-requires-clause-firsts g c =
     let setup = c.args.self.now.set.setup in
     ap length (c.in_ok-firsts.ensures.cases.1 (λ x y same. same) ∙ c.requires.keeps.zeros)
     ∙ length-map-range_with_len (λ origin. 0) 0 setup.replicas
 
 pub take-requires-clause-message : goal.take-requires-clause-message
-take-requires-clause-message c =
+take-requires-clause-message g c =
     let old = c.args.self.now in
-    let mid = c.send.new.self in
-    let setup = old.set.setup in
     let keeps = c.requires.keeps in
     let from = c.args.from in
-    let one = c.in_ok-send.ensures.enters in
-    let number : c.len-number.result ≡ length (sent_in (part_of old.entries from)) =
+    let messages = sent_in (part_of old.history.items from) in
+    let number : c.len-number.result ≡ length messages =
     c.len-number.ensures
-    ∙ as_many old.entries c.index.result.now (sent_in (part_of old.entries from))
-    (subst (λ (places : List ℕ). map (message_at old.entries) places ≡ map Some (sent_in (part_of old.entries from)))
-    (sym (get_or_read old.sends.items from c.index.result.now (omega (arith, c.requires.from, keeps.sized)) c.index.ensures [])) (keeps.sends from c.requires.from)) in
-    sent_is_named old mid from c.args.to c.len-number.result c.in_ok-firsts.firsts c.args.out.now c.send.new.out one number
+    ∙ ap length (get_or_read old.sent.items from c.index.result.now (omega (arith, c.requires.from, keeps.sized)) c.index.ensures [] ∙ keeps.sent from c.requires.from)
+    ∙ length-map messages Some in
+    sent_is_named old c.send.new.self from c.args.to c.len-number.result c.in_ok-firsts.firsts c.args.out.now c.send.new.out c.in_ok-send.ensures.enters number
 
 pub returns-clause-enters : goal.returns-clause-enters
-returns-clause-enters c =
+returns-clause-enters g c =
     let old = c.args.self.now in
     let mid = c.send.new.self in
     let setup = old.set.setup in
     let keeps = c.requires.keeps in
     let from = c.args.from in
     let one = c.in_ok-send.ensures.enters in
-    let number : c.len-number.result ≡ length (sent_in (part_of old.entries from)) =
+    let messages = sent_in (part_of old.history.items from) in
+    let number : c.len-number.result ≡ length messages =
     c.len-number.ensures
-    ∙ as_many old.entries c.index.result.now (sent_in (part_of old.entries from))
-    (subst (λ (places : List ℕ). map (message_at old.entries) places ≡ map Some (sent_in (part_of old.entries from)))
-    (sym (get_or_read old.sends.items from c.index.result.now (omega (arith, c.requires.from, keeps.sized)) c.index.ensures [])) (keeps.sends from c.requires.from)) in
+    ∙ ap length (get_or_read old.sent.items from c.index.result.now (omega (arith, c.requires.from, keeps.sized)) c.index.ensures [] ∙ keeps.sent from c.requires.from)
+    ∙ length-map messages Some in
     let firsts : c.in_ok-firsts.firsts ≡ zeros setup = c.in_ok-firsts.ensures.cases.1 (λ x y same. same) ∙ keeps.zeros in
     let played : played_in mid ≡ sends setup (played_in old) from c.args.to (zeros setup) = one.goes.played ∙ ap (λ (given : List ℕ). sends setup (played_in old) from c.args.to given) firsts in
     on_ok_weaker c.take.result

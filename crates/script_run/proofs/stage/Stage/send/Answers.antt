@@ -1,46 +1,49 @@
-use Rattle.std.proofs.Common.{◌≡◌, ℕ, ◌<◌, List, [], ◌∷◌, ◌++◌, length, get_or, set, refl, sym, ap, ap₂, ◌∙◌, subst, arith}
+use Rattle.std.proofs.Common.{◌≡◌, ℕ, ◌<◌, List, [], ◌∷◌, ◌++◌, length, get_or, set, Option, Some, refl, sym, ap, ap₂, ◌∙◌, subst, arith}
+use Rattle.std.proofs.lemmas.List.{length-set}
 use Rattle.std.proofs.lemmas.Result.{on_ok_weaker}
+use Rattle.run_model.specs.Messages.{message_of}
 use Rattle.run_model.specs.declared.entry.Act.TheVariants as act
 use Rattle.run_model.specs.declared.entry.Entry.{Entry}
 use Rattle.run_model.specs.declared.entry.Message.{Message}
+use Rattle.script_run.specs.Stages.{AreSent}
 use Rattle.script_run.specs.declared.stage.Stage.{Stage}
+use Rattle.script_run.proofs.Outboxes.{sent_more}
 use Rattle.script_run.proofs.Entering.{is_made_quiet, enters_one}
-use Rattle.std.proofs.lemmas.List.{length-set}
-use Rattle.run_model.specs.Messages.{message_of}
-use Rattle.script_run.specs.Stages.{AreSends}
-use Rattle.script_run.proofs.SentPlaces.{sends_more}
 use Rattle.script_run.proofs.stage.Stage.send.Goals as goal
 
-pub enter-requires : goal.enter-requires
-enter-requires c =
-    let mid : Stage = record c.args.self.now { set = c.send.new.self; sends = c.keep_place.new.sends } in
+pub enter-requires-clause-made : goal.enter-requires-clause-made
+enter-requires-clause-made g c =
+    let mid : Stage = record c.args.self.now { set = c.send.new.self } in
     let entry : Entry = record { replica = c.args.from; moment = c.moment_of-moment.result; act = act.Send c.in-Ok.message } in
-    record {
-      made = is_made_quiet c.args.self.now c.requires.keeps c.args.from c.requires.from c.send.new.self c.send.ensures.setup (λ part. act.Send c.in-Ok.message) c.in-Ok.ensures.goes_on entry
-          (ap (λ (moment : ℕ). let e : Entry = record { replica = c.args.from; moment = moment; act = act.Send c.in-Ok.message } in e) c.moment_of-moment.ensures) tt mid refl refl refl refl;
-    }
+    is_made_quiet c.args.self.now c.requires.keeps c.args.from c.requires.from c.send.new.self c.send.ensures.setup (λ part. act.Send c.in-Ok.message) c.in-Ok.ensures.goes_on entry
+    (ap (λ (moment : ℕ). let e : Entry = record { replica = c.args.from; moment = moment; act = act.Send c.in-Ok.message } in e) c.moment_of-moment.ensures) tt mid refl refl refl refl refl
 
 pub returns-clause-enters : goal.returns-clause-enters
-returns-clause-enters c =
+returns-clause-enters g c =
     let old = c.args.self.now in
     let setup = old.set.setup in
     let from = c.args.from in
-    let mid : Stage = record c.args.self.now { set = c.send.new.self; sends = c.keep_place.new.sends } in
-    let entry : Entry = record { replica = c.args.from; moment = c.moment_of-moment.result; act = act.Send c.in-Ok.message } in
     let keeps = c.requires.keeps in
     let message = c.in-Ok.message in
-    let due = c.in-Ok.ensures.due old.entries keeps.stands in
-    let places : List ℕ = get_or old.sends.items from [] ++ length old.entries ∷ [] in
-    let kept : mid.sends.items ≡ set old.sends.items from places =
-    c.in_ok-keep_place.ensures ∙ ap (λ (place : ℕ). set old.sends.items from (get_or old.sends.items from [] ++ place ∷ [])) c.len.ensures in
-    let inside : from < length old.sends.items = omega (arith, c.requires.from, keeps.sized) in
-    on_ok_weaker c.enter.result
-    (λ entered. enters_one old mid c.enter.new.self keeps entry c.args.out.now c.enter.new.out c.send.ensures.setup refl refl refl refl
-    (is_made_quiet c.args.self.now c.requires.keeps c.args.from c.requires.from c.send.new.self c.send.ensures.setup (λ part. act.Send c.in-Ok.message)
-    c.in-Ok.ensures.goes_on entry
-    (ap (λ (moment : ℕ). let e : Entry = record { replica = c.args.from; moment = moment; act = act.Send c.in-Ok.message } in e) c.moment_of-moment.ensures) tt mid refl refl refl refl) entered
-    (ap length kept ∙ length-set old.sends.items from places ∙ keeps.sized)
-    (subst (λ (sends : List (List ℕ)). AreSends setup (old.entries ++ entry ∷ []) sends) (sym kept) (sends_more old.entries entry setup old.sends.items keeps.sized keeps.sends message refl inside))
+    let mid : Stage = record old { set = c.send.new.self } in
+    let last : Stage = record c.enter.new.self { sent = c.keep.new.sent } in
+    let entry : Entry = record { replica = from; moment = c.moment_of-moment.result; act = act.Send message } in
+    let due = c.in-Ok.ensures.due old.history.items keeps.stands in
+    let moment = ap (λ (moment : ℕ). let e : Entry = record { replica = from; moment = moment; act = act.Send message } in e) c.moment_of-moment.ensures in
+    let made = is_made_quiet old keeps from c.requires.from c.send.new.self c.send.ensures.setup (λ part. act.Send message) c.in-Ok.ensures.goes_on entry
+    moment tt mid refl refl refl refl refl in
+    let more : List (Option Message) = get_or old.sent.items from [] ++ Some message ∷ [] in
+    let before : c.enter.new.self.sent.items ≡ old.sent.items = ap (λ (s : Stage). s.sent.items) c.in_ok-enter.ensures.entered.stage in
+    let inside : from < length old.sent.items = omega (arith, c.requires.from, keeps.sized) in
+    on_ok_weaker c.keep.result
+    (λ kept.
+    let all : last.sent.items ≡ set old.sent.items from more =
+    kept ∙ ap₂ (λ (sent : List (List (Option Message))) (m : Message). set sent from (get_or sent from [] ++ Some m ∷ [])) before c.message_in.ensures in
+    enters_one old mid c.enter.new.self last keeps entry c.args.out.now c.enter.new.out c.send.ensures.setup refl refl refl refl made
+    c.in_ok-enter.ensures.entered refl
+    (ap length all ∙ length-set old.sent.items from more ∙ keeps.sized)
+    (subst (λ (sent : List (List (Option Message))). AreSent setup (old.history.items ++ entry ∷ []) sent) (sym all)
+    (sent_more old.history.items entry setup old.sent.items keeps.sent message refl c.requires.from inside))
     from (λ part moment. act.Send (message_of setup from part moment c.args.to c.args.firsts.now))
-    (ap₂ (λ (moment : ℕ) (m : Message). let e : Entry = record { replica = c.args.from; moment = moment; act = act.Send m } in e) c.moment_of-moment.ensures due))
-    c.enter.ensures.entered
+    (ap₂ (λ (moment : ℕ) (m : Message). let e : Entry = record { replica = from; moment = moment; act = act.Send m } in e) c.moment_of-moment.ensures due))
+    c.keep.ensures

@@ -1,8 +1,8 @@
-use Rattle.std.proofs.Common.{◌++◌, refl, sym, ap, ap₂, ◌∙◌, subst}
+use Rattle.std.proofs.Common.{refl, sym, ap₂, subst}
 use Rattle.std.proofs.lemmas.Result.{on_ok_weaker}
 use Rattle.tact_base.specs.Setup.{Setup}
 use Rattle.std.specs.Result.{OnOk}
-use Rattle.run_model.specs.ScriptRuns.{Played, passes, show_text}
+use Rattle.run_model.specs.ScriptRuns.{Played, passes}
 use Rattle.run_model.specs.declared.script_line.Line.{Line}
 use Rattle.run_model.specs.declared.script_line.Line.TheVariants as line
 use Rattle.script_run.specs.Stages.{Enters, Steps}
@@ -10,7 +10,7 @@ use Rattle.script_run.proofs.Stepping.{enters_twice, steps_by_entries, steps_by_
 use Rattle.script_run.proofs.stage.Stage.step.Goals as goal
 
 pub returns-in_ok-pass-in-Sync-clause-steps : goal.returns-in_ok-pass-in-Sync-clause-steps
-returns-in_ok-pass-in-Sync-clause-steps c =
+returns-in_ok-pass-in-Sync-clause-steps g c =
     let old = c.args.self.now in
     let mid = c.pass.new.self in
     let one = c.in_ok-pass-in-Sync.ensures.enters in
@@ -23,13 +23,19 @@ returns-in_ok-pass-in-Sync-clause-steps c =
     c.pass-in-Sync.ensures.enters)
 
 pub returns-in-Show-clause-steps : goal.returns-in-Show-clause-steps
-returns-in-Show-clause-steps c =
+returns-in-Show-clause-steps g c =
     let old = c.args.self.now in
-    let keeps = c.requires.keeps in
     subst (λ (l : Line). OnOk c.show.result (Steps old old l c.args.out.now c.show.new.out)) (sym c.in-Show.is)
     (on_ok_weaker c.show.result
     (λ told. steps_by_comment old old (line.Show c.in-Show.replica) c.args.out.now c.show.new.out refl
-    (record { keeps = keeps; setup = refl; played = refl; prints = refl })
-    (told old.entries (keeps.stands.parts c.in-Show.replica c.at-view.result.now.core c.at-view.ensures)
-    ∙ ap (λ (s : Setup). c.args.out.now ++ show_text s old.entries c.in-Show.replica) c.config.ensures))
-    c.show.ensures.of_history)
+    (record { keeps = c.requires.keeps; setup = refl; played = refl; prints = refl }) (λ prints. told))
+    c.show.ensures)
+
+pub returns-in-Ref-clause-steps : goal.returns-in-Ref-clause-steps
+returns-in-Ref-clause-steps g c =
+    let old = c.args.self.now in
+    subst (λ (l : Line). OnOk c.tell_reference.result (Steps old old l c.args.out.now c.tell_reference.new.out)) (sym c.in-Ref.is)
+    (on_ok_weaker c.tell_reference.result
+    (λ told. steps_by_comment old old (line.Ref c.in-Ref.conit) c.args.out.now c.tell_reference.new.out refl
+    (record { keeps = c.requires.keeps; setup = refl; played = refl; prints = refl }) told)
+    c.tell_reference.ensures)

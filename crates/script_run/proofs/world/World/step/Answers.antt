@@ -11,6 +11,6 @@ step-requires-clause-ready c =
     let line = c.args.line.now in
     let first : AreFirstLines (setup_in inside.stage) (inside.lines.items ++ line ∷ []) =
     subst (λ (w : WorldState). w.spent ≡ false → AreFirstLines w.setup (w.lines ++ line ∷ [])) (sym c.self.view_is) c.requires.first c.if-self.false in
-    let has : HasPlayed inside.stage inside.lines.items = c.self.invariant c.if-self.false in
+    let has : HasPlayed inside.stage inside.entries inside.lines.items = c.self.invariant c.if-self.false in
     subst (λ (p : Played). IsReadyFor (setup_in inside.stage) p.history line) (sym has.played)
     (next_is_ready (setup_in inside.stage) inside.lines.items line first)

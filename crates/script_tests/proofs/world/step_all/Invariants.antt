@@ -1,6 +1,6 @@
 use Rattle.std.proofs.Common.{◌≡◌, false, take}
 use Rattle.script_text.specs.Setups.{setup_of}
-use Rattle.tact_top.proofs.drilling.step_all.Given as goal
+use Rattle.script_tests.proofs.world.step_all.Given as goal
 
 abbrev pub invariant-loop-line : goal.invariant-loop-line
 invariant-loop-line l =
