@@ -20,7 +20,7 @@ use Rattle.work_load.specs.declared.plan.Item.TheVariants as item
 use Rattle.run_work.specs.Served.{AreObeyed, asks_restart, is_restart, loan_of, restarts_asked, restarts_made}
 use Rattle.run_work.specs.Serving.{HasLent, HasRestarted, IsObeyed}
 use Rattle.run_work.specs.Trying.{is_refused}
-use Rattle.run_work.proofs.Lending.{AreLent-all, AreLent-item, AreLent-none, AreLent-on, HasLent-around, HasLent-asked, HasLent-none, no_loan}
+use Rattle.run_work.proofs.Lending.{AreLent-item, AreLent-none, AreLent-on, HasLent-around, HasLent-asked, HasLent-none, no_loan}
 use Rattle.run_work.proofs.TryingLemmas.{HaveWaited}
 
 -- the restarts of two histories, one after the other

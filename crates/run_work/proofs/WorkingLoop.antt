@@ -82,12 +82,11 @@ module _ (tries : ℕ) (before : WorkerView) (place : ℕ) (now : WorkerView) (w
         replica = subst (λ (c : Client). c.replica < length sites.nodes) (sym client) fresh.replica;
         at = working.ready.session.at;
         number = working.number ∙ ap (λ (c : Client). c.client) (sym client);
-        ended = subst (HasLeftOff tells tries now.client now.session) (sym end)
-            (
-              working.ready.session.certain,
-              subst (λ (c : Client). Attempts tries c.items (own_calls now.session)) (sym client)
-                  (Attempts-all tries before.client.items place (own_calls now.session) past working.done),
-            );
+        ended = subst (HasLeftOff tells tries now.client now.session) (sym end) (
+          working.ready.session.certain,
+          subst (λ (c : Client). Attempts tries c.items (own_calls now.session)) (sym client)
+              (Attempts-all tries before.client.items place (own_calls now.session) past working.done),
+        );
         busy = subst (λ (c : Client). IsBusyFor (length c.items) now.session) (sym client)
             (IsBusyFor-most place (length before.client.items) now.session within working.busy);
         served = λ ended unmarked.

@@ -102,9 +102,14 @@ impl<'s, 'd, 'g, J: Journal, G: Gate> Worker<'s, 'd, 'g, J, G> {
                 conit,
                 amount,
             } => {
-                let answer =
-                    self.node
-                        .lend(rt, &mut self.session, moment(clock), holder, conit, amount);
+                let answer = self.node.lend(
+                    rt,
+                    &mut self.session,
+                    moment(clock),
+                    holder,
+                    conit,
+                    amount,
+                );
                 self.after_loan(rt, clock, answer)
             }
             Item::Back {
@@ -112,9 +117,9 @@ impl<'s, 'd, 'g, J: Journal, G: Gate> Worker<'s, 'd, 'g, J, G> {
                 conit,
                 amount,
             } => {
-                let answer =
-                    self.node
-                        .give_back(rt, &mut self.session, moment(clock), owner, conit, amount);
+                let answer = self
+                    .node
+                    .give_back(rt, &mut self.session, moment(clock), owner, conit, amount);
                 self.after_loan(rt, clock, answer)
             }
             Item::Restart => {
@@ -233,12 +238,7 @@ impl<'s, 'd, 'g, J: Journal, G: Gate> Worker<'s, 'd, 'g, J, G> {
     }
 
     // Gives back what the client holds on a conit.
-    fn release<R: Wait, C: Clock>(
-        &mut self,
-        rt: &R,
-        clock: &C,
-        conit: u32,
-    ) -> Result<Tried, Ending>
+    fn release<R: Wait, C: Clock>(&mut self, rt: &R, clock: &C, conit: u32) -> Result<Tried, Ending>
         requires ready { IsReady self.old }
         requires conit { conit < self.old.node.desk.setup.conits }
         ensures same { self.new ≡ record self.old { session = self.new.session; allowances = self.new.allowances } }

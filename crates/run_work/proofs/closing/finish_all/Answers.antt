@@ -130,9 +130,10 @@ returns-clause-drawn g c =
     let all : c.loop-node.yielded ≡ nodes =
     all_there c.loop-node.yielded c.loop-node.node-iterator.rest.items nodes c.loop-node.invariant.all (omega (arith, c.in-None.ensures.steps.0)) in
     let count : length clerks ≡ length nodes = c.loop-node.invariant.count ∙ ap length all in
-    let left : AreLeft nodes ends clerks = subst (λ (before : List NodeView). AreLeft before ends clerks) all c.loop-node.invariant.left in
-    (AreDrawn-left desk nodes ends c.loop-node.drawn count whole.count size at c.loop-node.invariant.parts left,
-    HaveDrawn-left clients notes nodes ends c.loop-node.drawn count whole left)
+    let left : AreLeft nodes ends clerks = subst (λ (before : List NodeView). AreLeft before ends clerks) all c.loop-node.invariant.left in (
+      AreDrawn-left desk nodes ends c.loop-node.drawn count whole.count size at c.loop-node.invariant.parts left,
+      HaveDrawn-left clients notes nodes ends c.loop-node.drawn count whole left,
+    )
 
 pub returns-clause-few : goal.returns-clause-few
 returns-clause-few g c =

@@ -1,4 +1,4 @@
-use Rattle.std.proofs.Common.{◌≡◌, false, refl, sym, subst, ◌∙◌}
+use Rattle.std.proofs.Common.{◌≡◌, false, refl, sym, subst}
 use Rattle.locked_replica.specs.declared.loan.Loan.TheVariants as loan
 use Rattle.work_load.specs.Ranges.{IsItemOf}
 use Rattle.work_load.specs.declared.plan.Item.TheVariants as item

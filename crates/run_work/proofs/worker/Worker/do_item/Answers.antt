@@ -1,10 +1,9 @@
-use Rattle.std.proofs.Common.{◌≡◌, ◌+◌, false, List, sym, subst, inl, arith}
+use Rattle.std.proofs.Common.{◌≡◌, false, sym, subst, inl, arith}
 use Rattle.std.specs.Prelude.{Err, IfErr, Ok, OnOk, Result}
-use Rattle.run_model.specs.declared.entry.Entry.{Entry}
 use Rattle.replica_lock.specs.Sessions.{own_calls}
 use Rattle.steady_node.specs.declared.ending.Ending.{Ending}
 use Rattle.run_work.specs.Serving.{IsObeyed, Owes}
-use Rattle.run_work.specs.Trying.{HasBegun, HasDone, HasTried}
+use Rattle.run_work.specs.Trying.{HasBegun, HasTried}
 use Rattle.run_work.specs.Working.{WorkerView}
 use Rattle.run_work.proofs.Staying.{IsReady-quiet}
 use Rattle.run_work.proofs.TryingLoop.{HasBegun-now, HasBegun-try, HasDone-now, HasDone-try, IsHeeded-try, IsObeyed-try, IsSameBut-session, IsTrying-more, IsTrying-start}

@@ -1,5 +1,4 @@
 use Rattle.std.proofs.Common.{◌≡◌, ◌<◌, set, sym, ap, ◌∙◌, subst}
-use Rattle.run_model.specs.Missing.{reserved}
 use Rattle.run_model.specs.declared.call.Reply.TheVariants as reply
 use Rattle.run_model.specs.declared.call.Request.TheVariants as request
 use Rattle.replica_lock.specs.Allowances.{AllowanceView, allowance_of}

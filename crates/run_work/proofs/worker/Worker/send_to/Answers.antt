@@ -1,5 +1,4 @@
 use Rattle.std.proofs.Common.{◌≡◌, false, sym, subst}
-use Rattle.replica_lock.specs.Sessions.{SessionView}
 use Rattle.run_work.specs.Working.{WorkerView}
 use Rattle.run_work.proofs.GoingOn.{IsQuiet-sent}
 use Rattle.run_work.proofs.Heeding.{HasSentTo-after}
