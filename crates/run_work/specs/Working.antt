@@ -73,6 +73,7 @@ pub record IsFresh (sites : SitesView) (worker : WorkerView) : Type 0 where
   pub calls : own_calls worker.session ≡ []
   pub made : worker.session.made ≡ 0
   pub end : worker.end ≡ None
+  pub ready : IsReady worker
 
 -- and after its last
 pub record HasWorked (tells : Bool) (sites : SitesView) (tries : ℕ) (worker : WorkerView) : Type 0 where

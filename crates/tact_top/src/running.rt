@@ -18,7 +18,14 @@ use work_load::Plan;
 
 /// Reads a workload to its end, runs it over journals out of a shelf, each item tried so often at most, and writes the
 /// record of the run as text, without comments.
-pub(crate) fn run<R: Threads + Wait + Sync, C: Clock + Sync, G: Gate + Sync, S: Source, K: Sink, B: Shelf>(
+pub(crate) fn run<
+    R: Threads + Wait + Sync,
+    C: Clock + Sync,
+    G: Gate + Sync,
+    S: Source,
+    K: Sink,
+    B: Shelf,
+>(
     rt: &R,
     alloc: Global,
     tries: u64,

@@ -56,7 +56,14 @@ use tact_io::{Clock, Gate, Shelf, Sink, Source};
 /// - `TooLong`, `ReadFault`, `WriteFault` and `NoMemory`: as of [`pack`].
 ///
 /// No other command touches the shelf.
-pub fn tact<R: Threads + Wait + Sync, C: Clock + Sync, G: Gate + Sync, S: Source, K: Sink, B: Shelf>(
+pub fn tact<
+    R: Threads + Wait + Sync,
+    C: Clock + Sync,
+    G: Gate + Sync,
+    S: Source,
+    K: Sink,
+    B: Shelf,
+>(
     rt: &R,
     alloc: Global,
     words: &[String],

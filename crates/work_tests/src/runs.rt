@@ -21,7 +21,15 @@ fn the_worked_workload_runs_to_its_end(rt: HostRuntime) -> Result<(), Fail> {
     let plan = parse_plan(rt.alloc(), WORKED)?;
     let mut shelf = SureShelf::new(rt.alloc())?;
     let clock = StepClock::new(1, 1);
-    let Ok(run) = run_plan(&rt, rt.alloc(), &plan, 50, &clock, &FreeGate::new(), &mut shelf) else {
+    let Ok(run) = run_plan(
+        &rt,
+        rt.alloc(),
+        &plan,
+        50,
+        &clock,
+        &FreeGate::new(),
+        &mut shelf,
+    ) else {
         panic!(rt; "it runs to its end")
     };
     let kinds = kinds_of(run.entries());
@@ -53,7 +61,15 @@ fn a_replica_becomes_full_at_the_moments_of_the_clock(rt: HostRuntime) -> Result
     let plan = parse_plan(rt.alloc(), text.items())?;
     let mut shelf = SureShelf::new(rt.alloc())?;
     let clock = StepClock::new(7, 0);
-    let ended = run_plan(&rt, rt.alloc(), &plan, 20, &clock, &FreeGate::new(), &mut shelf);
+    let ended = run_plan(
+        &rt,
+        rt.alloc(),
+        &plan,
+        20,
+        &clock,
+        &FreeGate::new(),
+        &mut shelf,
+    );
     let Err(
         RunFault::Full {
             replica,
@@ -80,7 +96,15 @@ fn sessions_of_replicas_without_clients_settle_a_run(rt: HostRuntime) -> Result<
     let plan = parse_plan(rt.alloc(), text)?;
     let mut shelf = SureShelf::new(rt.alloc())?;
     let clock = StepClock::new(1, 1);
-    let Ok(run) = run_plan(&rt, rt.alloc(), &plan, 1, &clock, &FreeGate::new(), &mut shelf) else {
+    let Ok(run) = run_plan(
+        &rt,
+        rt.alloc(),
+        &plan,
+        1,
+        &clock,
+        &FreeGate::new(),
+        &mut shelf,
+    ) else {
         panic!(rt; "it runs to its end")
     };
     let mut calls: u64 = 0;

@@ -1,6 +1,8 @@
-use Rattle.std.proofs.Common.{◌∙◌, ap, sym, refl}
+use Rattle.std.proofs.Common.{◌∙◌, List, ap, sym, subst, refl}
 use Rattle.std.proofs.lemmas.Option.{slice_get_within, get_or_from_slice_get}
-use Rattle.replica_lock.specs.Sessions.{SessionView, own_calls}
+use Rattle.run_model.specs.declared.entry.Entry.{Entry}
+use Rattle.replica_lock.specs.Sessions.{IsSessionOf, SessionView, own_calls}
+use Rattle.run_work.specs.Holding.{Holds}
 use Rattle.run_work.proofs.seat.seat.Goals as goal
 
 pub returns-clause-fresh : goal.returns-clause-fresh
@@ -10,4 +12,9 @@ returns-clause-fresh g c = record {
   calls = ap own_calls c.nothing.ensures.session ∙ c.in_ok-session.ensures.fresh.0;
   made = ap (λ (session : SessionView). session.made) c.nothing.ensures.session ∙ c.in_ok-session.ensures.fresh.1;
   end = refl;
+  ready = record {
+    session = subst (IsSessionOf c.node-node.result.now) (sym c.nothing.ensures.session) c.in_ok-session.ensures.session.0;
+    held = subst (λ (calls : List Entry). Holds c.node-node.result.now calls c.in_ok-allowances.allowances.items)
+        (sym (ap own_calls c.nothing.ensures.session ∙ c.in_ok-session.ensures.fresh.0)) c.in_ok-allowances.ensures.holds;
+  };
 }
