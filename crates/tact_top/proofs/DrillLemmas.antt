@@ -47,13 +47,13 @@ count_more p history entry =
 pub count_more_yes : (p : Entry → Bool) (history : List Entry) (entry : Entry)
     → p entry ≡ true
     → count_by p (history ++ entry ∷ []) ≡ count_by p history + 1
-count_more_yes p history entry yes = count_more p history entry ∙ ap (λ (test : Bool). count_by p history + (cond test 1 0 + 0)) yes
+count_more_yes p history entry passes = count_more p history entry ∙ ap (λ (test : Bool). count_by p history + (cond test 1 0 + 0)) passes
 
 pub count_more_no : (p : Entry → Bool) (history : List Entry) (entry : Entry)
     → p entry ≡ false
     → count_by p (history ++ entry ∷ []) ≡ count_by p history
-count_more_no p history entry no =
-    count_more p history entry ∙ ap (λ (test : Bool). count_by p history + (cond test 1 0 + 0)) no ∙ omega arith
+count_more_no p history entry fails =
+    count_more p history entry ∙ ap (λ (test : Bool). count_by p history + (cond test 1 0 + 0)) fails ∙ omega arith
 
 -- the lines of the replicas so far, with one more
 pub shown_more : (line : ℕ → List ℕ) (replica : ℕ) (before shown after : List ℕ)

@@ -10,8 +10,8 @@ use Rattle.tact_top.specs.declared.counting.Counts.{Counts}
 use Rattle.tact_top.proofs.DrillLemmas.{drawn_is_short}
 use Rattle.tact_top.proofs.drilling.summary_of.Goals as goal
 
-pub of-outcome-requires-clause-few : goal.of-outcome-requires-clause-few
-of-outcome-requires-clause-few c = omega (arith, drawn_is_short c.args.number, ap (λ (ls : List Line). length ls) c.in_ok-script.ensures.lines)
+pub of-requires-clause-few : goal.of-requires-clause-few
+of-requires-clause-few c = omega (arith, drawn_is_short c.args.number, ap (λ (ls : List Line). length ls) c.in_ok-script.ensures.lines)
 
 pub put_replicas-requires : goal.put_replicas-requires
 put_replicas-requires c =
@@ -22,7 +22,7 @@ returns c =
     let number = c.args.number in
     let script = c.in_ok-script.script in
     let outcome = c.in_ok-outcome.outcome in
-    let counts = c.of-outcome.new.witness in
+    let counts = c.of.new.witness in
     let did = c.in_ok-outcome.ensures in
     let history = history_of (setup_of script) script in
     let shown = λ (s : Setup) (h : List Entry). flat_map (shown_line s h) (replicas_of s) in
