@@ -1,7 +1,8 @@
 //! Runs over journals that fail.
 
+use crate::kinds::{Kinds, kinds_of};
 use crate::runs::WORKED;
-use run_check::{Summary, Verdict, check_record};
+use run_check::{Verdict, check_record, put_verdict};
 use run_record::{parse_text, text_of};
 use run_work::run_plan;
 use std::alloc::Global;
@@ -14,12 +15,12 @@ use tact_io::{FreeGate, JournalFail, MemShelf, StepClock};
 use work_load::parse_plan;
 
 // The record of a run of the worked workload over journals that each fail at one call, after which the piece was kept or
-// lost.
+// lost; and how many entries of each kind it has.
 fn record_over<R: Threads + Wait + Sync + Abort>(
     rt: &R,
     alloc: Global,
     fail: JournalFail,
-) -> Result<Bytes, Fail> {
+) -> Result<(Bytes, Kinds), Fail> {
     let plan = parse_plan(alloc, WORKED)?;
     let clock = StepClock::new(1, 1);
     let mut shelf = MemShelf::new(alloc, &[fail])?;
@@ -29,15 +30,27 @@ fn record_over<R: Threads + Wait + Sync + Abort>(
     };
     let mut text = Bytes::new(alloc);
     text_of(plan.config(), run.entries(), &mut text)?;
-    Ok(text)
+    Ok((text, kinds_of(run.entries())))
 }
 
-// What the checker counts in the record of a run.
-fn counted(alloc: Global, text: &[u8]) -> Result<Summary, Fail> {
+// What the checker finds of a record.
+fn judged(alloc: Global, text: &[u8]) -> Result<Verdict, Fail> {
     let record = parse_text(alloc, text)?;
-    match check_record(alloc, &record)? {
-        Verdict::Run(summary) => Ok(summary),
-        Verdict::Bad { .. } => Err("it isn't the record of a run".into()),
+    Ok(check_record(alloc, &record)?)
+}
+
+// The line on a verdict.
+fn line_on(alloc: Global, verdict: &Verdict) -> Result<Bytes, Fail> {
+    let mut line = Bytes::new(alloc);
+    put_verdict(alloc, verdict, &mut line)?;
+    Ok(line)
+}
+
+// The line that the checker says of a record.
+fn said_of(alloc: Global, text: &[u8]) -> Result<Bytes, Fail> {
+    match judged(alloc, text) {
+        Ok(verdict) => line_on(alloc, &verdict),
+        Err(fault) => Err(fault),
     }
 }
 
@@ -46,10 +59,11 @@ fn a_journal_that_fails_once_leaves_a_run(rt: HostRuntime) -> Result<(), Fail> {
     for kept in [false, true] {
         let mut failed: u64 = 0;
         for call in 0..1_000 {
-            let text = record_over(&rt, rt.alloc(), JournalFail { call, kept })?;
-            let summary = counted(rt.alloc(), text.items())?;
-            assert_eq!(rt; summary.calls, 6);
-            if summary.restarts == 0 {
+            let (text, kinds) = record_over(&rt, rt.alloc(), JournalFail { call, kept })?;
+            let said = said_of(rt.alloc(), text.items())?;
+            assert!(rt; said.items().starts_with(b"run "));
+            assert_eq!(rt; kinds.calls, 6);
+            if kinds.restarts == 0 {
                 break;
             }
             failed = failed.saturating_add(1);
