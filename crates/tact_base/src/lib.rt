@@ -10,6 +10,7 @@ mod items;
 mod laws;
 mod limits;
 mod numbers;
+mod pieces;
 mod roomy_list;
 mod roomy_queue;
 mod setup;

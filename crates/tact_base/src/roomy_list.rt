@@ -4,8 +4,12 @@ ghost use Rattle.std.specs.Vec.{vec_capacity};
 ghost use Rattle.tact_base.specs.RoomyLends.{lends_items};
 
 use crate::NoMemory;
+use crate::pieces::append;
 use std::alloc::Global;
 use std::marker::Model;
+
+// For how many items a list takes memory at least, if it can.
+const LEAST: usize = 1_024;
 
 /// A list whose memory can be taken ahead: while there is room, an item is put in without any. Contracts
 /// see the items and the room, the number of items that can surely still be put in.
@@ -53,8 +57,9 @@ impl<T> RoomyList<T> {
     }
 
     /// Makes room for at least `count` more items, without memory where there is so much. A list that takes memory
-    /// takes it for four times its items, and for 64 at least, if it can, so that what it holds is seldom moved.
-    /// `NoMemory` leaves the list as it was.
+    /// takes it for four times its items, and for 1,024 at least, if it can, so that what it holds is seldom moved: a
+    /// list of large items then has pages of its own, which the system moves without a copy and lends only where they
+    /// are written to. `NoMemory` leaves the list as it was.
     pub fn reserve(&mut self, count: u64) -> Result<(), NoMemory>
         ensures items { self.new.items ≡ self.old.items }
         ensures kept { self.old.room ≤ self.new.room }
@@ -66,7 +71,7 @@ impl<T> RoomyList<T> {
         if count <= self.items.capacity() - self.items.len() {
             return Ok(());
         }
-        let ample = self.items.len().saturating_mul(3).max(count).max(64);
+        let ample = self.items.len().saturating_mul(3).max(count).max(LEAST);
         if self.items.reserve(ample).is_err() {
             self.items.reserve(count)?;
         }
@@ -106,7 +111,7 @@ impl<T: Copy> RoomyList<T> {
         ensures items { self.new.items ≡ self.old.items ++ items.now }
         ensures room { self.old.room ≤ self.new.room + length items.now }
     {
-        if self.items.extend_from_slice(items).is_err() {
+        if append(&mut self.items, items).is_err() {
             unreachable!();
         }
     }
