@@ -3,12 +3,11 @@ use Rattle.std.proofs.Common.{◌≡◌, Bool, true, false, not, if◌then◌els
 use Rattle.std.specs.List.Sorted.{IsStrictlySortedBy, IsPartitionedBy}
 use Rattle.std.proofs.lemmas.Bool.{cases_eq}
 use Rattle.std.proofs.lemmas.List.{append-nil}
-use Rattle.std.proofs.lemmas.List.Elements.{All-cons, All-head, All-tail, All-weaker}
+use Rattle.std.proofs.lemmas.List.Elements.{All-cons, All-head, All-tail}
 use Rattle.std.proofs.lemmas.List.Sums.{fold-append}
 use Rattle.std.proofs.lemmas.List.Sorted.{All-permutation}
 use Rattle.std.proofs.lemmas.Map.Keys.{Less-from_sorted}
 use Rattle.tact_base.proofs.CompareLemmas.{before_one_way, not_before_trans}
-use Rattle.tact_base.proofs.ListLemmas.{All-one}
 use Rattle.tact_base.proofs.OrderLemmas.{IsPermutation-with_write, with_write_first}
 use Rattle.tact_base.specs.WriteOrder.{write_cmp, comes_before, with_write}
 use Rattle.tact_base.specs.declared.write.Write.{Write}
@@ -56,7 +55,7 @@ with_write-ahead write (first ∷ held) rest before =
     ]
 
 -- and so are several
-with_writes-ahead : (writes held rest : List Write)
+pub with_writes-ahead : (writes held rest : List Write)
     → All (λ write. All (λ later. comes_before write later ≡ true) rest) writes
     → with_writes writes (held ++ rest) ≡ with_writes writes held ++ rest
 with_writes-ahead [] held rest before = refl
@@ -74,12 +73,3 @@ with_writes-and_last writes held write each others =
     fold-append (λ ordered w. with_write w ordered) held writes (write ∷ [])
     ∙ (ap (with_write write) (sym (append-nil front))
     ∙ with_write-past write front [] (All-with_writes (λ other. comes_before write other ≡ false) writes held each others))
-
--- the last of those held stays last where all writes come before it
-pub with_writes-before_last : (writes held : List Write) (last : Write)
-    → All (λ write. comes_before write last ≡ true) writes
-    → with_writes writes (held ++ last ∷ []) ≡ with_writes writes held ++ last ∷ []
-with_writes-before_last writes held last before =
-    with_writes-ahead writes held (last ∷ [])
-    (All-weaker (λ write. comes_before write last ≡ true) (λ write. All (λ later. comes_before write later ≡ true) (last ∷ []))
-    (λ write h. All-one (λ later. comes_before write later ≡ true) last h) writes before)

@@ -1,16 +1,16 @@
--- One step of a merge from the back: the later one of what is left of both goes to the last place that isn't filled
--- yet.
-use Rattle.std.proofs.Common.{◌≡◌, ℕ, zero, suc, ◌+◌, ◌<◌, true, false, List, [], ◌∷◌, ◌++◌, length, get_or, take, drop, slice_set, All, refl, sym, ap, ap₂, ◌∙◌, arith}
+-- One step of a merge from the back: of the writes that are left the last one goes to its place, and those held behind
+-- it have moved up.
+use Rattle.std.proofs.Common.{◌≡◌, ℕ, zero, suc, ◌+◌, ◌<◌, ◌≤◌, true, false, List, [], ◌∷◌, ◌++◌, length, get_or, take, drop, slice_set, All, refl, sym, ap, ap₂, ◌∙◌, subst, arith}
 use Rattle.std.specs.declared.cmp.Ordering.TheVariants.{Less}
 use Rattle.std.specs.List.Sorted.{IsStrictlySortedBy}
-use Rattle.std.proofs.lemmas.List.{append_assoc, drop-set, get_or-take, get_or_default, length-take-le, take-set-le, take_more}
-use Rattle.std.proofs.lemmas.List.Elements.{All-take, All-from_recursion, recursion_from_All}
+use Rattle.std.proofs.lemmas.List.{append_assoc, drop-set, drop_more, get_or-take, get_or_default, length-take-le, take-append-drop, take-set-le, take-take, take_more}
+use Rattle.std.proofs.lemmas.List.Elements.{All-cons, All-take, All-from_recursion, recursion_from_All}
 use Rattle.std.proofs.lemmas.Map.Keys.{Less-from_sorted}
 use Rattle.tact_base.proofs.CompareLemmas.{before_one_way}
 use Rattle.tact_base.specs.WriteOrder.{write_cmp, comes_before}
 use Rattle.tact_base.specs.declared.write.Write.{Write}
 use Rattle.commit_order.specs.Batches.{with_writes}
-use Rattle.commit_order.proofs.BatchLemmas.{not_true, upto_first, with_writes-and_last, with_writes-before_last}
+use Rattle.commit_order.proofs.BatchLemmas.{not_true, upto_first, with_writes-ahead, with_writes-and_last}
 use Rattle.commit_order.proofs.WriteOrderLemmas.{before-from_Less, before_first}
 
 -- the first of writes in order are in order
@@ -70,45 +70,55 @@ none_after items k write last sorted within is not_before j d inside =
     not_true (comes_before write (get_or (take (k + 1) items) j d))
     (upto_first write (take (k + 1) items) sorted j k d (omega (arith, long, inside)) (omega (arith, long)) (rw (same, not_before) refl))
 
--- What is left of both, merged, stands before what is in its place.
-module _ (writes items whole : List Write) (write : Write) (sorted : IsStrictlySortedBy write_cmp writes) where
-  -- the last of those held that are left goes to the last place
-  pub held_moves : (left more : ℕ) (last : Write)
-      → more < length writes
-      → left + (more + 1) < length items
-      → write ≡ get_or writes more write
-      → last ≡ get_or items left last
-      → comes_before write last ≡ true
-      → with_writes (take (more + 1) writes) (take (left + 1) items) ++ drop (left + 1 + (more + 1)) items ≡ whole
-      → with_writes (take (more + 1) writes) (take left (slice_set items (left + (more + 1)) last)) ++ drop (left + (more + 1)) (slice_set items (left + (more + 1)) last) ≡ whole
-  held_moves left more last few within write_is last_is before merged =
-      let at = left + (more + 1) in
-      let rest = drop (at + 1) items in
-      let front = take left items in
-      let some = take (more + 1) writes in
-      let next : left + 1 + (more + 1) ≡ at + 1 = omega arith in
-      let held : take (left + 1) items ≡ front ++ last ∷ [] = take_more items left last (omega (arith, within)) ∙ ap (λ (w : Write). front ++ w ∷ []) (sym last_is) in
-      ap₂ (λ (l m : List Write). with_writes some l ++ m) (take-set-le left items at last (omega arith)) (drop-set items at last within)
-      ∙ (sym (append_assoc (with_writes some front) (last ∷ []) rest)
-      ∙ (ap (λ (l : List Write). l ++ rest) (sym (with_writes-before_last some front last (all_before writes more write last sorted few write_is before)))
-      ∙ (ap₂ (λ (l m : List Write). with_writes some l ++ m) (sym held) (ap (λ n. drop n items) (sym next)) ∙ merged)))
+-- and a write that comes before one of them and before all behind it comes before these together
+pub one_more_ahead : (items : List Write) (left k : ℕ) (write last : Write)
+    → k < left
+    → left ≤ length items
+    → last ≡ get_or items k last
+    → comes_before write last ≡ true
+    → All (λ later. comes_before write later ≡ true) (drop (k + 1) (take left items))
+    → All (λ later. comes_before write later ≡ true) (drop k (take left items))
+one_more_ahead items left k write last early within is before ahead =
+    let P : Write → Type 0 = λ later. comes_before write later ≡ true in
+    let long = length-take-le left items within in
+    let same : get_or (take left items) k last ≡ last = get_or-take left items k last early ∙ sym is in
+    rw (drop_more (take left items) k last (omega (arith, long)), same) (All-cons P last (drop (k + 1) (take left items)) before ahead)
 
-  -- the last of the writes that are left does
-  pub write_moves : (left more : ℕ)
+-- What is left of both, merged, stands before what is in its place; the last of the writes that are left comes before
+-- those held behind its place, and these have moved up.
+module _ (writes items whole : List Write) (write : Write) (sorted : IsStrictlySortedBy write_cmp writes) where
+  -- the write goes right before them
+  pub write_moves : (left more place : ℕ) (moved : List Write)
       → more < length writes
-      → left + more < length items
+      → place ≤ left
+      → left + (more + 1) ≤ length items
       → write ≡ get_or writes more write
-      → All (λ other. comes_before write other ≡ false) (take left items)
+      → length moved ≡ length items
+      → take (place + (more + 1)) moved ≡ take (place + (more + 1)) items
+      → drop (place + (more + 1)) moved ≡ drop place (take left items) ++ drop (left + (more + 1)) items
+      → All (λ other. comes_before write other ≡ false) (take place items)
+      → All (λ later. comes_before write later ≡ true) (drop place (take left items))
       → with_writes (take (more + 1) writes) (take left items) ++ drop (left + (more + 1)) items ≡ whole
-      → with_writes (take more writes) (take left (slice_set items (left + more) write)) ++ drop (left + more) (slice_set items (left + more) write) ≡ whole
-  write_moves left more few within write_is behind merged =
-      let at = left + more in
-      let rest = drop (at + 1) items in
-      let front = take left items in
+      → with_writes (take more writes) (take place (slice_set moved (place + more) write)) ++ drop (place + more) (slice_set moved (place + more) write) ≡ whole
+  write_moves left more place moved few order within write_is long front_is rest_is behind ahead merged =
+      let at = place + more in
+      let front = take place items in
+      let later = drop place (take left items) in
+      let rest = drop (left + (more + 1)) items in
       let some = take more writes in
-      let next : left + (more + 1) ≡ at + 1 = omega arith in
+      let next : at + 1 ≡ place + (more + 1) = omega arith in
+      let stays : take place moved ≡ front =
+      sym (take-take place (place + (more + 1)) moved (omega arith)) ∙ (ap (take place) front_is ∙ take-take place (place + (more + 1)) items (omega arith)) in
       let taken : take (more + 1) writes ≡ some ++ write ∷ [] = take_more writes more write few ∙ ap (λ (w : Write). some ++ w ∷ []) (sym write_is) in
-      ap₂ (λ (l m : List Write). with_writes some l ++ m) (take-set-le left items at write (omega arith)) (drop-set items at write within)
-      ∙ (sym (append_assoc (with_writes some front) (write ∷ []) rest)
-      ∙ (ap (λ (l : List Write). l ++ rest) (sym (with_writes-and_last some front write (earlier_before writes more write sorted few write_is) behind))
-      ∙ (ap₂ (λ (l m : List Write). with_writes l front ++ m) (sym taken) (ap (λ n. drop n items) (sym next)) ∙ merged)))
+      let held : take left items ≡ front ++ later =
+      sym (take-append-drop place (take left items)) ∙ ap (λ (l : List Write). l ++ later) (take-take place left items order) in
+      let all_ahead : All (λ w. All (λ other. comes_before w other ≡ true) later) (some ++ write ∷ []) =
+      subst (All (λ w. All (λ other. comes_before w other ≡ true) later)) taken
+      (λ j d inside k e inner. all_before writes more write (get_or later k e) sorted few write_is (ahead k e inner) j d inside) in
+      ap₂ (λ (l m : List Write). with_writes some l ++ m) (take-set-le place moved at write (omega arith) ∙ stays)
+      (drop-set moved at write (omega (arith, long)) ∙ ap (λ (l : List Write). write ∷ l) (ap (λ n. drop n moved) next ∙ rest_is))
+      ∙ (sym (append_assoc (with_writes some front) (write ∷ []) (later ++ rest))
+      ∙ (ap (λ (l : List Write). l ++ (later ++ rest)) (sym (with_writes-and_last some front write (earlier_before writes more write sorted few write_is) behind))
+      ∙ (sym (append_assoc (with_writes (some ++ write ∷ []) front) later rest)
+      ∙ (ap (λ (l : List Write). l ++ rest) (sym (with_writes-ahead (some ++ write ∷ []) front later all_ahead))
+      ∙ (ap₂ (λ (l m : List Write). with_writes l m ++ rest) (sym taken) (sym held) ∙ merged)))))

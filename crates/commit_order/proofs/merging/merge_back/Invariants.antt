@@ -14,4 +14,4 @@ invariant-loop-more l = record {
 }
 
 abbrev pub decreases-loop-more : goal.decreases-loop-more
-decreases-loop-more l = l.left + l.more
+decreases-loop-more l = l.more

@@ -1,4 +1,4 @@
-use Rattle.std.proofs.Common.{rules, tests, ℕ, ◌+◌, ◌-◌, ◌<◌, ◌≤◌, ◌≡◌, Bool, true, false, pos, [], length, get_or, sym, ap, ◌∙◌, arith}
+use Rattle.std.proofs.Common.{rules, tests, ℕ, ◌-◌, ◌<◌, ◌≤◌, ◌≡◌, Bool, true, false, pos, [], length, get_or, sym, ap, ◌∙◌, arith}
 use Rattle.std.specs.Ordering.{is_lt}
 use Rattle.std.proofs.lemmas.List.{get_or_default}
 use Rattle.std.proofs.lemmas.List.Sorted.{IsPartitionPoint-from_clause}

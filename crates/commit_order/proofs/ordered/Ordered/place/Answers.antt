@@ -1,4 +1,4 @@
-use Rattle.std.proofs.Common.{ℕ, ◌+◌, ◌<◌, length, refl, ap, arith}
+use Rattle.std.proofs.Common.{◌<◌, refl, ap, arith}
 use Rattle.tact_base.specs.declared.write.Place.{Place}
 use Rattle.commit_order.specs.Order.{OrderState}
 use Rattle.commit_order.proofs.Given.{held-sorted, place_in-is}
