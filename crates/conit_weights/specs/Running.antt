@@ -1,8 +1,10 @@
 -- The sums of a changing collection of the weights of writes.
-use Rattle.std.specs.Prelude.{◌≡◌, ℕ, ℤ, pos, ◌-ℤ◌, List, ◌∷◌, ◌++◌, length}
+use Rattle.std.specs.Prelude.{ℕ, ℤ, pos, ◌-ℤ◌, List, ◌∷◌, ◌++◌, length, map}
 use Rattle.tact_base.specs.declared.conit_list.Weight.{Weight}
+use Rattle.conit_sums.specs.declared.Summed.{Summed}
 use Rattle.conit_sums.specs.declared.Summed.TheVariants.{Plus, Minus, Order}
-use Rattle.conit_sums.specs.ConitSums.{SumsState, AreSumsOf, sum_of}
+use Rattle.conit_sums.specs.ConitSums.{SumsState, AreSmall, AreSumsOf, sum_of}
+use Rattle.conit_weights.specs.declared.running.OnConit.{OnConit}
 
 -- the positive nweights, the negative ones and the oweights, each summed by conit
 pub record RunningState : Type 0 where
@@ -33,12 +35,16 @@ pub record WasAdded (state : RunningState) (weights : List Weight) : Type 0 wher
 abbrev pub net_of : List (List Weight) → ℕ → ℤ
 net_of writes conit = pos (sum_of Plus writes conit) -ℤ pos (sum_of Minus writes conit)
 
--- What the three keep: each sums what its name says, on the same conits and over as many writes.
-pub record GoTogether (state : RunningState) : Type 0 where
-  pub plus : state.plus.summed ≡ Plus
-  pub minus : state.minus.summed ≡ Minus
-  pub order : state.order.summed ≡ Order
-  pub minus_conits : length state.minus.sums ≡ length state.plus.sums
-  pub order_conits : length state.order.sums ≡ length state.plus.sums
-  pub minus_held : state.minus.held ≡ state.plus.held
-  pub order_held : state.order.held ≡ state.plus.held
+-- Each of the three is kept beside the others on its conit.
+abbrev pub part_of : Summed → OnConit → ℕ
+part_of Plus on = on.plus
+part_of Minus on = on.minus
+part_of Order on = on.order
+
+-- one of them on each conit, over the weights of so many writes
+abbrev pub seen_of : Summed → List OnConit → ℕ → SumsState
+seen_of summed sums held = record { summed = summed; sums = map (part_of summed) sums; held = held }
+
+-- what is kept of each
+abbrev pub AreAllSmall : ℕ → List OnConit → Type 0
+AreAllSmall held sums = (summed : Summed) → AreSmall held (map (part_of summed) sums)
