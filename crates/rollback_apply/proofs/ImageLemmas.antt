@@ -4,12 +4,12 @@ use Rattle.std.proofs.Common.{if◌then◌else◌, nat_le, slice_get, List, [], 
 use Rattle.std.proofs.Common.{Option, Some, None, refl, sym, ap, ap₂, ◌∙◌, ◌*◌, map, arith}
 use Rattle.std.specs.List.{sum_by}
 use Rattle.std.proofs.lemmas.Bool.{or_parts, eqb-true, le-leb}
-use Rattle.std.proofs.lemmas.List.{same_from_push, take_all, take_more, take_more_set, take-append-le, take-map, drop-map, map-append, length-map, length-take}
+use Rattle.std.proofs.lemmas.List.{same_from_push, take_all, take_more, take_more_set, take-append-drop, take-append-le, take-map, drop-map, map-append, length-map, length-take}
 use Rattle.std.proofs.lemmas.List.Elements.{All-append, All-cons, All-drop, All-get_or, All-head, All-tail, All-take, All-weaker}
 use Rattle.std.proofs.lemmas.List.Sums.{fold-append, sum_by-append, sum_by-cons, sum_by-le-sum_by}
 use Rattle.std.proofs.lemmas.Option.{slice_get-map}
 use Rattle.std.specs.Option.{option_map, option_map_or}
-use Rattle.std.proofs.Math.Seq.{drop-append_seam}
+use Rattle.std.proofs.Math.Seq.{drop-append_seam, drop-cons}
 use Rattle.tact_base.proofs.ListLemmas.{fold-push}
 use Rattle.tact_base.specs.Images.{Image, capped, with_value, shift_acts, after_op, image_from, ops_of}
 use Rattle.tact_base.specs.declared.write.Op.{Op}
@@ -322,6 +322,41 @@ take-within zero at xs within = refl
 take-within (suc n) zero xs within = absurd (omega (arith, within))
 take-within (suc n) (suc at) [] within = refl
 take-within (suc n) (suc at) (x ∷ xs) within = ap (λ rest. x ∷ rest) (take-within n at xs (omega (arith, within)))
+
+-- fewer operations want no more
+pub fewer_wanted : (current : CurrentState) (writes : List Write) (few many : ℕ)
+    → few ≤ many
+    → all_wanted current (ops_of (take few writes)) ≤ all_wanted current (ops_of (take many writes))
+fewer_wanted current writes few many within =
+    let front = take few writes in
+    let rest = drop few (take many writes) in
+    let all : take many writes ≡ front ++ rest =
+    sym (take-append-drop few (take many writes)) ∙ ap (λ (first : List Write). first ++ rest) (take-within few many writes within) in
+    omega (
+      arith,
+      ap (λ (first : List Write). all_wanted current (ops_of first)) all,
+      ap (all_wanted current) (map-append op_of front rest),
+      sum_by-append (wanted current) (ops_of front) (ops_of rest),
+    )
+
+-- layers have the operations of writes from a place on, once that of the write there is put before the later ones
+pub behind_put : (writes : List Write) (old new : List Layer) (from before at : ℕ) (write d : Write)
+    → from ≤ at
+    → at - from < length writes
+    → before ≡ at + 1
+    → write ≡ get_or writes (at - from) d
+    → ops_in (drop at new) ≡ write.op ∷ ops_in (drop (at + 1) old)
+    → ops_in (drop before old) ≡ ops_of (drop (before - from) writes)
+    → ops_in (drop at new) ≡ ops_of (drop (at - from) writes)
+behind_put writes old new from before at write d above within next is put behind =
+    let n = at - from in
+    let one_more : suc n ≡ n + 1 = omega arith in
+    let rest : drop n writes ≡ write ∷ drop (n + 1) writes =
+    drop-cons writes n d within ∙ ap₂ (λ (write : Write) (count : ℕ). write ∷ drop count writes) (sym is) one_more in
+    put
+    ∙ ap (λ (count : ℕ). write.op ∷ ops_in (drop count old)) (sym next)
+    ∙ ap (λ (ops : List Op). write.op ∷ ops) (behind ∙ ap (λ (count : ℕ). ops_of (drop count writes)) (omega (arith, next, above)))
+    ∙ ap ops_of (sym rest)
 
 -- one more item at a place of a list
 module _ {A : Type 0} where

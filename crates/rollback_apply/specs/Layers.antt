@@ -1,5 +1,5 @@
 -- Tentative operations as they are kept, each with what undoes it.
-use Rattle.std.specs.Prelude.{◌≡◌, ℕ, ◌+◌, ◌*◌, ◌≤◌, List, length, map, take, All, Some, vec_len}
+use Rattle.std.specs.Prelude.{◌≡◌, ℕ, ◌+◌, ◌*◌, ◌≤◌, List, length, get_or, map, take, All, Some, vec_len}
 use Rattle.std.specs.List.{sum_by}
 use Rattle.std.specs.Vec.{vec_capacity}
 use Rattle.tact_base.specs.Images.{Image, image_from, image_of}
@@ -31,6 +31,14 @@ wanted current op = lacking current (first_key op) + lacking current (second_key
 -- and those of operations
 abbrev pub all_wanted : CurrentState → List Op → ℕ
 all_wanted current ops = sum_by (wanted current) ops
+
+-- the operation of the layer at a place changes first what another one changes first
+abbrev pub NamesFirst : List Layer → ℕ → Op → Type 0
+NamesFirst layers at op = (d : Layer) → first_key (get_or layers at d).op ≡ first_key op
+
+-- and last what it changes last
+abbrev pub NamesSecond : List Layer → ℕ → Op → Type 0
+NamesSecond layers at op = (d : Layer) → second_key (get_or layers at d).op ≡ second_key op
 
 -- the keys of an operation hold other values, and all others what they held
 abbrev pub SetsKeys : CurrentState → CurrentState → Op → KeyValues → Type 0

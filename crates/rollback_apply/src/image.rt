@@ -64,8 +64,7 @@ impl Image {
         if k <= self.room {
             return Ok(());
         }
-        self.layers.reserve(k)?;
-        self.room = k;
+        self.room = self.layers.reserve(k)?;
         Ok(())
     }
 
@@ -122,7 +121,6 @@ impl Image {
         ensures room { self.old.room ≡ self.new.room + length new.now }
     {
         let index = (place - self.committed) as usize;
-        self.layers.undo_from(index);
         self.layers.replace_from(index, rest);
         self.layers.apply_from(index);
         self.room -= new.len();

@@ -100,10 +100,21 @@ fn acts(from: u64, to: u64, amount: u64, held: i64) -> bool
     from != to && held >= 0 && amount <= held as u64
 }
 
-// The sum, stopping at 10^15 and -10^15.
+// The sum, stopping at 10^15 and -10^15. The sign of what is added tells which of them it may pass, and it is made only
+// where it doesn't, so that it fits.
 fn capped_sum(value: i64, delta: i64) -> i64
     ensures { result ≡ capped (value +ℤ delta) }
 {
     let most = VALUE_MAX as i64;
-    value.saturating_add(delta).min(most).max(-most)
+    if delta < 0 {
+        if value <= -most - delta {
+            -most
+        } else {
+            (value + delta).min(most)
+        }
+    } else if value >= most - delta {
+        most
+    } else {
+        (value + delta).max(-most)
+    }
 }

@@ -1,10 +1,10 @@
-ghost use Rattle.std.specs.Prelude.{◌≡◌, ℕ, ◌+◌, ◌-◌, ◌<◌, ◌≤◌, [], ◌∷◌, ◌++◌, vec_len, length, insert, take, drop, IsTrue, OnOk};
+ghost use Rattle.std.specs.Prelude.{◌≡◌, ℕ, ◌+◌, ◌-◌, ◌<◌, ◌≤◌, [], ◌∷◌, ◌++◌, vec_len, length, insert, take, drop, IsTrue, OnOk, IfOk};
 ghost use Rattle.std.specs.Vec.{vec_capacity};
 ghost use Rattle.tact_base.specs.Images.{ops_of};
 ghost use Rattle.tact_base.specs.declared.write.Op as operation;
-ghost use Rattle.rollback_apply.specs.Current.{holds, IsPlace, Extends};
+ghost use Rattle.rollback_apply.specs.Current.{holds, IsPlace, Extends, KeepPlaces};
 ghost use Rattle.rollback_apply.specs.Keys as keys;
-ghost use Rattle.rollback_apply.specs.Layers.{ops_in, wanted, all_wanted, Applies, ArePlaced, HasMemory, HasPlaces, SetsKeys};
+ghost use Rattle.rollback_apply.specs.Layers.{ops_in, wanted, all_wanted, Applies, ArePlaced, HasMemory, HasPlaces, NamesFirst, NamesSecond, SetsKeys};
 
 use crate::current::Current;
 use crate::keys::{KeyValues, first_key, second_key, values_after};
@@ -12,6 +12,9 @@ use crate::values::entries_for;
 use given_up::GivenUp;
 use std::alloc::Global;
 use tact_base::{NoMemory, Op, Write, drop_front};
+
+// For so many operations more than is asked for memory is taken, where there is so much.
+const AHEAD: usize = 64;
 
 /// The places of the keys of an operation.
 #[derive(Clone, Copy, Debug)]
@@ -56,19 +59,22 @@ impl Layers {
         }
     }
 
-    /// Takes memory for `more` operations, beside those that are there. `NoMemory` leaves these and what keys hold as
-    /// they were.
-    pub fn reserve(&mut self, more: usize) -> Result<(), NoMemory>
+    /// Takes memory for `more` operations at least, beside those that are there; for some more if it can, so that it is
+    /// seldom asked. The answer is for how many. `NoMemory` leaves these and what keys hold as they were.
+    pub fn reserve(&mut self, more: usize) -> Result<usize, NoMemory>
         ensures settled { self.new.settled ≡ self.old.settled }
         ensures tentative { self.new.tentative.items ≡ self.old.tentative.items }
         ensures applies { (count : ℕ) → Applies self.old count → Applies self.new count }
         ensures kept { (count : ℕ) → HasMemory self.old count → HasMemory self.new count }
-        ensures ok { OnOk result (HasMemory self.new more) }
+        ensures more { IfOk result (λ many. more ≤ many) }
+        ensures ok { IfOk result (λ many. HasMemory self.new many) }
     {
-        let keys = entries_for(more)?;
-        reserve_layers(&mut self.tentative, more)?;
-        self.current.reserve(keys)?;
-        Ok(())
+        let ample = more.saturating_add(AHEAD);
+        if self.take_memory(ample).is_ok() {
+            return Ok(ample);
+        }
+        self.take_memory(more)?;
+        Ok(more)
     }
 
     /// Undoes operations from the last one back to the one at `from`. Takes no memory.
@@ -120,11 +126,11 @@ impl Layers {
         insert_layer(&mut self.tentative, at, layer_of(op, places));
     }
 
-    /// Puts the operations of writes in place of those from `from` on, which are undone and no more. The places of these
-    /// are known where they come again in their order. Takes no memory.
+    /// Puts the operations of writes in place of those from `from` on, which are undone one by one as they make room.
+    /// The places of these are known where they come again in their order. Takes no memory.
     pub fn replace_from(&mut self, from: usize, writes: &[Write])
         requires within { from ≤ vec_len self.old.tentative }
-        requires applies { Applies self.old from }
+        requires applies { Applies self.old (length self.old.tentative.items) }
         requires more { vec_len self.old.tentative ≤ from + length writes.now }
         requires capacity { from + length writes.now ≤ vec_capacity self.old.tentative }
         requires spare { all_wanted self.old.current (ops_of writes.now) ≤ self.old.current.spare }
@@ -139,7 +145,10 @@ impl Layers {
         self.lengthen(at, writes);
         while at > from {
             at -= 1;
-            left = self.put(at, left, writes[at - from].op);
+            left = self.put(from, at, left, writes[at - from].op);
+            let later = at - left;
+            left = self.carry(from, left, later, writes);
+            at = left + later;
         }
     }
 
@@ -155,6 +164,20 @@ impl Layers {
     {
         self.settled.extend(&self.tentative[..count]);
         drop_front(&mut self.tentative, count);
+    }
+
+    // Takes memory for `more` operations, beside those that are there.
+    fn take_memory(&mut self, more: usize) -> Result<(), NoMemory>
+        ensures settled { self.new.settled ≡ self.old.settled }
+        ensures tentative { self.new.tentative.items ≡ self.old.tentative.items }
+        ensures applies { (count : ℕ) → Applies self.old count → Applies self.new count }
+        ensures kept { (count : ℕ) → HasMemory self.old count → HasMemory self.new count }
+        ensures ok { OnOk result (HasMemory self.new more) }
+    {
+        let keys = entries_for(more)?;
+        reserve_layers(&mut self.tentative, more)?;
+        self.current.reserve(keys)?;
+        Ok(())
     }
 
     // Undoes the operation at `at`, which is the last that is applied.
@@ -214,36 +237,125 @@ impl Layers {
         }
     }
 
-    // Puts an operation at a place of the list. Its keys have the places of the last one of the first `left`, where they
-    // are the same keys. The answer is how many of these are left.
-    fn put(&mut self, at: usize, left: usize, op: Op) -> usize
+    // Puts an operation at a place of the list, where the first `left` are applied, and those behind the place were put
+    // before. Where the last one that is applied names the same keys, or stands at the place, it is undone. The answer is
+    // how many are applied then, those before `from` at least.
+    fn put(&mut self, from: usize, at: usize, left: usize, op: Op) -> usize
+        requires from { from ≤ at }
         requires within { at < vec_len self.old.tentative }
-        requires left { left ≤ vec_len self.old.tentative }
-        requires placed { ArePlaced self.old.current self.old.tentative.items }
+        requires above { from ≤ left }
+        requires left { left ≤ at + 1 }
+        requires applies { Applies self.old left }
         requires spare { wanted self.old.current op ≤ self.old.current.spare }
-        ensures left { result ≤ left }
+        ensures above { from ≤ result }
+        ensures left { result ≤ at }
         ensures settled { self.new.settled ≡ self.old.settled }
-        ensures current { Extends self.old.current self.new.current }
-        ensures placed { ArePlaced self.new.current self.new.tentative.items }
+        ensures places { KeepPlaces self.old.current self.new.current }
+        ensures applies { Applies self.new result }
         ensures front { take at self.new.tentative.items ≡ take at self.old.tentative.items }
         ensures rest { ops_in (drop at self.new.tentative.items) ≡ op ∷ ops_in (drop (at + 1) self.old.tentative.items) }
         ensures count { vec_len self.new.tentative ≡ vec_len self.old.tentative }
         ensures capacity { vec_capacity self.new.tentative ≡ vec_capacity self.old.tentative }
         ensures spare { self.old.current.spare ≤ self.new.current.spare + wanted self.old.current op }
     {
-        if left > 0 && same_keys(self.tentative[left - 1].op, op) {
-            let places = self.tentative[left - 1].places;
-            self.tentative[at] = layer_of(op, places);
+        if left > from && self.has_keys(left - 1, op) {
+            self.move_back(left - 1, at, op);
             return left - 1;
         }
+        if left > at {
+            self.undo(at);
+            self.put_new(at, op);
+            return at;
+        }
+        self.put_new(at, op);
+        left
+    }
+
+    // Puts operations so many places later, from the last one of the first `left` on, as long as writes there name their
+    // keys. The answer is how many are left, which are applied.
+    fn carry(&mut self, from: usize, left: usize, later: usize, writes: &[Write]) -> usize
+        requires above { from ≤ left }
+        requires within { left + later ≤ from + length writes.now }
+        requires count { vec_len self.old.tentative ≡ from + length writes.now }
+        requires applies { Applies self.old left }
+        requires rest { ops_in (drop (left + later) self.old.tentative.items) ≡ ops_of (drop (left + later - from) writes.now) }
+        ensures above { from ≤ result }
+        ensures left { result ≤ left }
+        ensures settled { self.new.settled ≡ self.old.settled }
+        ensures places { self.new.current.places ≡ self.old.current.places }
+        ensures applies { Applies self.new result }
+        ensures front { take from self.new.tentative.items ≡ take from self.old.tentative.items }
+        ensures rest { ops_in (drop (result + later) self.new.tentative.items) ≡ ops_of (drop (result + later - from) writes.now) }
+        ensures count { vec_len self.new.tentative ≡ vec_len self.old.tentative }
+        ensures capacity { vec_capacity self.new.tentative ≡ vec_capacity self.old.tentative }
+        ensures spare { self.new.current.spare ≡ self.old.current.spare }
+    {
+        let mut kept = left;
+        while kept > from {
+            let at = kept - 1 + later;
+            let op = writes[at - from].op;
+            if !self.has_keys(kept - 1, op) {
+                return kept;
+            }
+            self.move_back(kept - 1, at, op);
+            kept -= 1;
+        }
+        kept
+    }
+
+    // Whether the operation at a place names the same keys as another one.
+    fn has_keys(&self, at: usize, op: Op) -> bool
+        requires within { at < vec_len self.now.tentative }
+        ensures first { IsTrue result → NamesFirst self.now.tentative.items at op }
+        ensures second { IsTrue result → NamesSecond self.now.tentative.items at op }
+    {
+        same_keys(self.tentative[at].op, op)
+    }
+
+    // Undoes the operation at `last`, which is the last that is applied, and puts one of the same keys at a place that
+    // isn't before it.
+    fn move_back(&mut self, last: usize, at: usize, op: Op)
+        requires last { last ≤ at }
+        requires within { at < vec_len self.old.tentative }
+        requires applies { Applies self.old (last + 1) }
+        requires first { NamesFirst self.old.tentative.items last op }
+        requires second { NamesSecond self.old.tentative.items last op }
+        ensures settled { self.new.settled ≡ self.old.settled }
+        ensures places { self.new.current.places ≡ self.old.current.places }
+        ensures applies { Applies self.new last }
+        ensures front { take at self.new.tentative.items ≡ take at self.old.tentative.items }
+        ensures rest { ops_in (drop at self.new.tentative.items) ≡ op ∷ ops_in (drop (at + 1) self.old.tentative.items) }
+        ensures count { vec_len self.new.tentative ≡ vec_len self.old.tentative }
+        ensures capacity { vec_capacity self.new.tentative ≡ vec_capacity self.old.tentative }
+        ensures spare { self.new.current.spare ≡ self.old.current.spare }
+    {
+        let Layer { places, held, .. } = self.tentative[last];
+        self.tentative[at] = layer_of(op, places);
+        set_places(&mut self.current, places, held);
+    }
+
+    // Puts an operation at a place of the list, where the one there isn't applied. Its keys get places where they have
+    // none.
+    fn put_new(&mut self, at: usize, op: Op)
+        requires within { at < vec_len self.old.tentative }
+        requires spare { wanted self.old.current op ≤ self.old.current.spare }
+        ensures settled { self.new.settled ≡ self.old.settled }
+        ensures places { KeepPlaces self.old.current self.new.current }
+        ensures applies { (count : ℕ) → count ≤ at → Applies self.old count → Applies self.new count }
+        ensures front { take at self.new.tentative.items ≡ take at self.old.tentative.items }
+        ensures rest { ops_in (drop at self.new.tentative.items) ≡ op ∷ ops_in (drop (at + 1) self.old.tentative.items) }
+        ensures count { vec_len self.new.tentative ≡ vec_len self.old.tentative }
+        ensures capacity { vec_capacity self.new.tentative ≡ vec_capacity self.old.tentative }
+        ensures spare { self.old.current.spare ≤ self.new.current.spare + wanted self.old.current op }
+    {
         let places = look_up(&mut self.current, op);
         self.tentative[at] = layer_of(op, places);
-        left
     }
 }
 
-// Takes memory for so many layers beside those that are there, where there is less: for four times these and for 64 at
-// least, if it can, so that they are seldom moved.
+// Takes memory for so many layers beside those that are there, where there is less: for four times these and for 2,048
+// at least, if it can, so that they are seldom moved. So many lie in memory of their own, which most systems move without
+// copying, and of which only what is used is there.
 fn reserve_layers(layers: &mut Vec<Layer>, more: usize) -> Result<(), NoMemory>
     ensures items { layers.new.items ≡ layers.old.items }
     ensures kept { vec_capacity layers.old ≤ vec_capacity layers.new }
@@ -252,7 +364,7 @@ fn reserve_layers(layers: &mut Vec<Layer>, more: usize) -> Result<(), NoMemory>
     if more <= layers.capacity() - layers.len() {
         return Ok(());
     }
-    let ample = layers.len().saturating_mul(3).max(more).max(64);
+    let ample = layers.len().saturating_mul(3).max(more).max(2048);
     if layers.reserve(ample).is_err() {
         layers.reserve(more)?;
     }
@@ -266,7 +378,9 @@ fn insert_layer(layers: &mut Vec<Layer>, at: usize, layer: Layer)
     ensures items { layers.new.items ≡ insert layers.old.items at layer }
     ensures capacity { vec_capacity layers.old ≤ vec_capacity layers.new }
 {
-    if layers.insert(at, layer).is_err() {
+    if at == layers.len() {
+        push_layer(layers, layer);
+    } else if layers.insert(at, layer).is_err() {
         unreachable!();
     }
 }
@@ -322,12 +436,19 @@ fn look_up(current: &mut Current, op: Op) -> Places
     Places { first, second }
 }
 
-// Whether operations name the same keys, in the same order.
+// Whether operations surely name the same keys, in the same order.
 fn same_keys(one: Op, other: Op) -> bool
     ensures first { IsTrue result → keys.first_key one ≡ keys.first_key other }
     ensures second { IsTrue result → keys.second_key one ≡ keys.second_key other }
 {
-    first_key(one) == first_key(other) && second_key(one) == second_key(other)
+    if first_key(one) != first_key(other) {
+        return false;
+    }
+    match (one, other) {
+        (Op::Shift { to, .. }, Op::Shift { to: other, .. }) => to == other,
+        (Op::Shift { .. }, _) | (_, Op::Shift { .. }) => false,
+        _ => true,
+    }
 }
 
 // Gives the keys at places other values.

@@ -1,13 +1,12 @@
-use Rattle.std.proofs.Common.{◌≡◌, ℕ, ◌+◌, ◌-◌, ◌≤◌, ◌++◌, List, length, take, refl, ap, ap₂, sym, ◌∙◌, arith}
+use Rattle.std.proofs.Common.{◌≡◌, ℕ, ◌+◌, ◌-◌, ◌≤◌, ◌++◌, List, length, take, ap, ap₂, sym, ◌∙◌, arith}
 use Rattle.std.proofs.lemmas.List.{length-append, length-map, length-take, take-map}
-use Rattle.std.specs.Vec.{vec_capacity}
 use Rattle.tact_base.specs.Images.{ops_of}
 use Rattle.tact_base.specs.declared.write.Op.{Op}
 use Rattle.tact_base.specs.declared.write.Write.{Write}
 use Rattle.rollback_apply.specs.Image.{ImageState, AreJoined}
 use Rattle.rollback_apply.specs.Layers.{ops_in}
 use Rattle.rollback_apply.specs.declared.layers.Layer.{Layer}
-use Rattle.rollback_apply.proofs.ImageLemmas.{op_in, op_of, joined_length, joined_wanted, all_wanted-stays, same-places}
+use Rattle.rollback_apply.proofs.ImageLemmas.{op_in, op_of, joined_length, joined_wanted}
 use Rattle.rollback_apply.proofs.image.Image.insert_all.Goals as goal
 
 -- Operations that are put among those of layers: how many there are then.
@@ -48,12 +47,11 @@ module _ (state : ImageState) (layers : List Layer) (new : List Op) (writes : Li
   many_layers = many layers new writes (place - committed) all_joined within_layers
 
   -- and afterwards
-  module _ (undone replaced done : List Layer) (same : undone ≡ layers)
-      (put : ops_in replaced ≡ ops_in (take (place - committed) undone) ++ ops_of writes) (applied : ops_in done ≡ ops_in replaced) where
+  module _ (replaced done : List Layer)
+      (put : ops_in replaced ≡ ops_in (take (place - committed) layers) ++ ops_of writes) (applied : ops_in done ≡ ops_in replaced) where
     pub ops_after : ops_in done ≡ take (place - committed) (ops_in layers) ++ ops_of writes
     ops_after =
         applied ∙ put
-        ∙ ap (λ (front : List Layer). ops_in (take (place - committed) front) ++ ops_of writes) same
         ∙ ap (λ (front : List Op). front ++ ops_of writes) (sym (take-map op_in (place - committed) layers))
 
     pub count_after : length done ≡ length layers + length new
@@ -77,7 +75,7 @@ replace_from-requires-clause-more c =
     many_layers c.args.self.now layers (ops_of c.args.new.now) c.args.rest.now c.args.place image.committed
     (ap (λ (image : ImageState). image.committed) c.self.view_is) (ap (λ (image : ImageState). image.ops) c.self.view_is)
     c.requires.joined c.requires.within in
-    rw c.undo_from.ensures.tentative (omega (arith, count))
+    omega (arith, count)
 
 pub replace_from-requires-clause-capacity : goal.replace_from-requires-clause-capacity
 replace_from-requires-clause-capacity c =
@@ -87,8 +85,7 @@ replace_from-requires-clause-capacity c =
     many_layers c.args.self.now layers (ops_of c.args.new.now) c.args.rest.now c.args.place image.committed
     (ap (λ (image : ImageState). image.committed) c.self.view_is) (ap (λ (image : ImageState). image.ops) c.self.view_is)
     c.requires.joined c.requires.within in
-    rw c.undo_from.ensures.tentative
-    (omega (arith, count, c.self.invariant.memory.listed, c.requires.room, length-map c.args.new.now op_of, ap (λ (image : ImageState). image.room) c.self.view_is))
+    omega (arith, count, c.self.invariant.memory.listed, c.requires.room, length-map c.args.new.now op_of, ap (λ (image : ImageState). image.room) c.self.view_is)
 
 pub replace_from-requires-clause-spare : goal.replace_from-requires-clause-spare
 replace_from-requires-clause-spare c =
@@ -96,17 +93,14 @@ replace_from-requires-clause-spare c =
     let layers = image.layers.tentative.items in
     let index = c.args.place - image.committed in
     let before = image.layers.current in
-    let now = c.undo_from.new.self.current in
     let joined =
     all_joined c.args.self.now layers (ops_of c.args.new.now) c.args.rest.now c.args.place image.committed
     (ap (λ (image : ImageState). image.committed) c.self.view_is) (ap (λ (image : ImageState). image.ops) c.self.view_is)
     c.requires.joined c.requires.within in
     omega (
       arith,
-      all_wanted-stays before now (ops_of c.args.rest.now) (same-places before now c.undo_from.ensures.places),
       joined_wanted before layers (ops_of c.args.new.now) (ops_of c.args.rest.now) index c.self.invariant.applies.placed joined,
       c.self.invariant.memory.keys,
-      c.undo_from.ensures.spare,
       c.requires.room,
       length-map c.args.new.now op_of,
       ap (λ (image : ImageState). image.room) c.self.view_is,
@@ -119,8 +113,8 @@ returns-clause-ops c =
     let counted = ap (λ (image : ImageState). image.committed) c.self.view_is in
     let ops = ap (λ (image : ImageState). image.ops) c.self.view_is in
     ops_after c.args.self.now layers (ops_of c.args.new.now) c.args.rest.now c.args.place image.committed counted ops
-    c.requires.joined c.requires.within c.undo_from.new.self.tentative.items c.replace_from.new.self.tentative.items
-    c.apply_from.new.self.tentative.items (rw c.undo_from.ensures.tentative refl) c.replace_from.ensures.ops c.apply_from.ensures.ops
+    c.requires.joined c.requires.within c.replace_from.new.self.tentative.items
+    c.apply_from.new.self.tentative.items c.replace_from.ensures.ops c.apply_from.ensures.ops
     ∙ ap₂ (λ (count : ℕ) (all : List Op). take (c.args.place - count) all ++ ops_of c.args.rest.now) counted ops
 
 pub invariant_of-self : goal.invariant_of-self
@@ -131,15 +125,14 @@ invariant_of-self c =
     let ops = ap (λ (image : ImageState). image.ops) c.self.view_is in
     let count =
     count_after c.args.self.now layers (ops_of c.args.new.now) c.args.rest.now c.args.place image.committed counted ops
-    c.requires.joined c.requires.within c.undo_from.new.self.tentative.items c.replace_from.new.self.tentative.items
-    c.apply_from.new.self.tentative.items (rw c.undo_from.ensures.tentative refl) c.replace_from.ensures.ops c.apply_from.ensures.ops in
+    c.requires.joined c.requires.within c.replace_from.new.self.tentative.items
+    c.apply_from.new.self.tentative.items c.replace_from.ensures.ops c.apply_from.ensures.ops in
     let before = image.layers.current in
-    let now = c.undo_from.new.self.current in
     let joined =
     all_joined c.args.self.now layers (ops_of c.args.new.now) c.args.rest.now c.args.place image.committed counted ops c.requires.joined c.requires.within in
     record {
       applies = c.apply_from.ensures.applies;
-      counted = rw (c.apply_from.ensures.settled, c.replace_from.ensures.settled, c.undo_from.ensures.settled) c.self.invariant.counted;
+      counted = rw (c.apply_from.ensures.settled, c.replace_from.ensures.settled) c.self.invariant.counted;
       memory = record {
         listed = omega (
           arith,
@@ -147,7 +140,6 @@ invariant_of-self c =
           c.self.invariant.memory.listed,
           c.apply_from.ensures.capacity,
           c.replace_from.ensures.capacity,
-          ap vec_capacity c.undo_from.ensures.tentative,
           c.requires.room,
           length-map c.args.new.now op_of,
           ap (λ (image : ImageState). image.room) c.self.view_is,
@@ -155,10 +147,8 @@ invariant_of-self c =
         keys = omega (
           arith,
           count,
-          all_wanted-stays before now (ops_of c.args.rest.now) (same-places before now c.undo_from.ensures.places),
           joined_wanted before layers (ops_of c.args.new.now) (ops_of c.args.rest.now) (c.args.place - image.committed) c.self.invariant.applies.placed joined,
           c.self.invariant.memory.keys,
-          c.undo_from.ensures.spare,
           c.replace_from.ensures.spare,
           c.apply_from.ensures.spare,
           c.requires.room,

@@ -1,18 +1,17 @@
 use Rattle.std.proofs.Common.{◌≡◌, ◌+◌, ◌-◌, ◌≤◌, vec_len, length, take, drop}
 use Rattle.std.specs.Vec.{vec_capacity}
-use Rattle.tact_base.specs.Images.{image_of, ops_of}
-use Rattle.rollback_apply.specs.Layers.{ops_in, all_wanted, ArePlaced, IsApplied}
+use Rattle.tact_base.specs.Images.{ops_of}
+use Rattle.rollback_apply.specs.Layers.{ops_in, all_wanted, Applies}
 use Rattle.rollback_apply.proofs.layers.Layers.replace_from.Given as goal
 
 abbrev pub invariant-loop-at : goal.invariant-loop-at
 invariant-loop-at l = record {
-  above : l.from ≤ l.at;
+  above : l.from ≤ l.left;
+  left : l.left ≤ l.at;
   within : l.at ≤ l.from + length l.writes;
-  left : l.left ≤ vec_len l.self.tentative;
   count : vec_len l.self.tentative ≡ l.from + length l.writes;
   settled : l.self.settled ≡ l.fn.self.settled;
-  applied : IsApplied (image_of (ops_in l.fn.self.settled.items)) l.self.current (take l.from l.fn.self.tentative.items);
-  placed : ArePlaced l.self.current l.self.tentative.items;
+  applies : Applies l.self l.left;
   front : take l.from l.self.tentative.items ≡ take l.from l.fn.self.tentative.items;
   rest : ops_in (drop l.at l.self.tentative.items) ≡ ops_of (drop (l.at - l.from) l.writes);
   capacity : vec_capacity l.fn.self.tentative ≤ vec_capacity l.self.tentative;
