@@ -67,6 +67,17 @@ impl Vector {
         (slowest.replica, slowest.stamp)
     }
 
+    /// The least stamp of a cover. Takes no memory.
+    pub fn least(&self) -> u64
+        ensures { result ≡ least_stamp self.now }
+    {
+        let mut least = self.covers[0].stamp;
+        for cover in &self.covers {
+            least = least.min(cover.stamp);
+        }
+        least
+    }
+
     /// The covers, by origin.
     pub fn covers(&self) -> &[Cover]
         ensures covers { result.now ≡ self.now }
@@ -126,6 +137,7 @@ mod tests {
             vector.raise(1, cover(1, b, 1));
             vector.raise(2, cover(1, c, 1));
             assert!(rt; vector.least_stamp() == least, "of {a}, {b}, {c}");
+            assert_eq!(rt; vector.least(), least.1);
         }
         Ok(())
     }
