@@ -132,7 +132,7 @@ fn held_writes_spend_what_is_reserved(rt: HostRuntime) -> Result<(), Fail> {
 }
 
 // A negative weight is missed: what is reserved beside it is of either sign. There is room for the first write, and
-// none for the second.
+// none for the second, with which room is made for 63 others.
 fn reserve_beside_a_write(rt: &impl Abort, member: &mut Member) -> Result<(), Fail> {
     member.reserve(1)?;
     let table = [
@@ -148,7 +148,7 @@ fn reserve_beside_a_write(rt: &impl Abort, member: &mut Member) -> Result<(), Fa
     ];
     assert_replies(rt, member, &table)?;
     assert_counts(rt, member, (9, 9, 2), (0, 9));
-    assert_eq!(rt; (member.reserved(), member.replica.spare()), (1, 0));
+    assert_eq!(rt; (member.reserved(), member.replica.spare()), (1, 63));
     Ok(())
 }
 

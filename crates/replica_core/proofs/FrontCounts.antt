@@ -1,46 +1,64 @@
 -- Items of a list that pass a test and stand together.
-use Rattle.std.proofs.Common.{◌≡◌, ℕ, ◌<◌, ◌≤◌, Bool, true, false, cond, List, length, get_or, take, drop, filter, sym, ap, ◌∙◌, ⊎_elim, subst, arith}
-use Rattle.std.specs.Prelude.{All, IfSome, slice_get, Option, Some}
+use Rattle.std.proofs.Common.{◌≡◌, ℕ, ◌-◌, ◌<◌, ◌≤◌, Bool, true, false, cond, List, length, get_or, count_by, take, drop, filter, refl, sym, ap, ◌∙◌, ⊎_elim, arith}
+use Rattle.std.specs.List.{All, AllWithin}
+use Rattle.std.specs.List.Sorted.{IsPartitionedBy, IsPartitionPoint}
 use Rattle.std.proofs.lemmas.Bool.{cases_lt, false≢true}
-use Rattle.std.proofs.lemmas.List.{length-take, get_or-take}
+use Rattle.std.proofs.lemmas.List.{length-take, length-drop, get_or-take, get_or-drop}
 use Rattle.std.proofs.lemmas.List.Elements.{filter_passes}
-use Rattle.std.proofs.lemmas.List.Sums.{length-filter, sum_by-take-le, sum_by-take-drop}
-use Rattle.std.proofs.lemmas.Option.{slice_get_cases}
+use Rattle.std.proofs.lemmas.List.Sums.{length-filter, sum_by-take-drop, get_or-le-sum_by}
 use Rattle.tact_base.proofs.ListLemmas.{filter_all}
+use Rattle.commit_order.proofs.Partitions.{front_passes, count_by-front}
 
--- All that pass stand together from a place on: where the first ones there pass and the next doesn't, these are all.
-pub front_is_all : {X : Type 0} (p : X → Bool) (xs : List X) (start count : ℕ)
-    → take (length (filter p xs)) (drop start xs) ≡ filter p xs
-    → count ≤ length (drop start xs)
-    → All (λ x. p x ≡ true) (take count (drop start xs))
-    → IfSome (slice_get (drop start xs) count) (λ x. p x ≡ false)
-    → count ≡ length (filter p xs)
-front_is_all {X} p xs start count together within front behind =
-    let rest = drop start xs in
-    let all = length (filter p xs) in
-    let one : X → ℕ = λ x. cond (p x) 1 0 in
-    let most : count ≤ all =
-    omega (
-      arith,
-      ap length (filter_all p (take count rest) front),
-      length-filter p (take count rest),
-      length-take count rest,
-      within,
-      sum_by-take-le one rest count,
-      sum_by-take-drop one xs start,
-      length-filter p xs,
-    ) in
-    let passes : (x : X) → count < all → get_or rest count x ≡ x → p x ≡ true =
-    λ x fewer at.
-    ap p (sym at) ∙ ap p (sym (get_or-take all rest count x fewer)) ∙ ap (λ items. p (get_or items count x)) together ∙ filter_passes p xs count x fewer in
-    let least : all ≤ count =
-    ⊎_elim
-    (λ (fewer : count < all).
-    ⊎_elim
-    (λ (found : (x : X) × (count < length rest) × (slice_get rest count ≡ Some x) × (get_or rest count x ≡ x)).
-    absurd (false≢true (sym (subst (λ (o : Option X). IfSome o (λ x. p x ≡ false)) found.2 behind) ∙ passes found.0 fewer found.3)))
-    (λ past. absurd (omega (arith, past.0, fewer, ap length together, length-take all rest)))
-    (slice_get_cases rest count).1)
-    (λ h. h)
-    (cases_lt count all) in
-    omega (arith, most, least)
+fails_at_none : (b : Bool) → cond b 1 0 ≤ 0 → b ≡ false
+fails_at_none true some = absurd (omega (arith, some))
+fails_at_none false none = refl
+
+-- All that pass stand together from a place on: from there on they stand in front, and none passes behind them.
+module _ {X : Type 0} (p : X → Bool) (xs : List X) (start : ℕ) (together : take (length (filter p xs)) (drop start xs) ≡ filter p xs) where
+  abbrev rest : List X
+  rest = drop start xs
+
+  abbrev all : ℕ
+  all = length (filter p xs)
+
+  within : all ≤ length rest
+  within = omega (arith, ap length together, length-take all rest)
+
+  passes : AllWithin (λ x. p x ≡ true) rest 0 all
+  passes = λ k d low high.
+      ap p (sym (get_or-take all rest k d high)) ∙ ap (λ items. p (get_or items k d)) together ∙ filter_passes p xs k d high
+
+  none_behind : count_by p (drop all rest) ≡ 0
+  none_behind =
+      let one : X → ℕ = λ x. cond (p x) 1 0 in
+      omega (
+        arith,
+        length-filter p xs,
+        sum_by-take-drop one xs start,
+        sum_by-take-drop one rest all,
+        length-filter p (take all rest),
+        ap length (filter_all p (take all rest) (front_passes p rest all within passes)),
+        ap length together,
+      )
+
+  fails : AllWithin (λ x. p x ≡ false) rest all (length rest)
+  fails = λ k d low high.
+      let one : X → ℕ = λ x. cond (p x) 1 0 in
+      let there = get_or-le-sum_by one (drop all rest) (k - all) d (omega (arith, low, high, length-drop all rest)) in
+      let same : get_or (drop all rest) (k - all) d ≡ get_or rest k d =
+      get_or-drop all rest (k - all) d ∙ ap (λ i. get_or rest i d) (omega (arith, low)) in
+      fails_at_none (p (get_or rest k d)) (omega (arith, there, ap one same, none_behind))
+
+  pub parted : IsPartitionedBy p rest
+  parted = λ i j d before inside passing.
+      ⊎_elim
+      (λ (early : j < all). passes i d (omega arith) (omega (arith, before, early)))
+      (λ (late : all ≤ j). absurd (false≢true (sym (fails j d late inside) ∙ passing)))
+      (cases_lt j all)
+
+  -- where the others begin, so many pass
+  pub front_is_all : (count : ℕ) → count ≤ length rest
+      → IsPartitionPoint (λ x. p x ≡ true) (λ x. p x ≡ false) rest count
+      → count ≡ all
+  front_is_all count inside point =
+      sym (count_by-front p rest count inside point.0 point.1) ∙ count_by-front p rest all within passes fails

@@ -1,5 +1,5 @@
 -- What a replica gives up once it took a message, from what it keeps.
-use Rattle.std.specs.Prelude.{ℕ, ◌+◌, nat_lt, max, List, ◌∷◌, map, take, drop, length}
+use Rattle.std.specs.Prelude.{ℕ, ◌+◌, ◌≤◌, nat_lt, max, List, ◌∷◌, map, take, drop, length, slice_index}
 use Rattle.std.specs.List.{prefix_len}
 use Rattle.tact_base.specs.Covers.{least_of}
 use Rattle.tact_base.specs.WriteOrder.{committed_to}
@@ -11,6 +11,10 @@ use Rattle.replica_core.specs.States.{Core, base_at, log_at, known_at, origins_o
 abbrev pub known_all_at : Core → ℕ → ℕ
 known_all_at core origin =
     least_of (length (log_at core origin) ∷ map (λ peer. known_at core peer origin) (may_lack core.setup core.replica origin))
+
+-- of each origin it knows each replica to have at least so many writes
+abbrev pub IsKnownByAll : Core → List ℕ → Type 0
+IsKnownByAll core known = (origin : ℕ) → slice_index known origin ≤ known_all_at core origin
 
 -- the committed writes that it holds, in order
 abbrev pub held_committed : Core → List Write

@@ -369,7 +369,7 @@ impl Replica {
             moment: self.last,
         };
         self.vector.raise(self.replica, own);
-        self.seen.commit_to(self.vector.least_stamp().1);
+        self.seen.commit_to(self.vector.least());
     }
 }
 

@@ -211,7 +211,7 @@ fn write_and_read(rt: &impl Abort, member: &mut Member, given: &Given) -> Result
         (Turn::Ask(Ask::Reserve(10)), Answer::Granted),
         (Turn::Ask(Ask::Held(light(-4), last)), done(2, 3)),
         (Turn::Ask(Ask::Release(1)), Answer::Released),
-        (Turn::Room(20), Answer::Made),
+        (Turn::Room(100), Answer::Made),
         (Turn::Ask(Ask::Read(2, 6)), value(12, -1)),
     ];
     take_all(rt, member, given, &table)
@@ -279,7 +279,7 @@ const COUNTS_THEN: Counts = Counts {
     entries: 12,
     calls: 7,
     last: 10,
-    spare: 20,
+    spare: 100,
     reserved: 5,
     missing: (3, 4),
     home: 0,

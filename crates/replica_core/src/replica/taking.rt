@@ -243,21 +243,8 @@ fn told_of(message: &Message, start: usize, origin: u32) -> &[Write]
     ensures { result.now ≡ told_writes message.now origin }
 {
     let rest = &message.writes.items()[start..];
-    &rest[..count_in_front(rest, origin)]
-}
-
-// How many writes in front are of the origin.
-fn count_in_front(writes: &[Write], origin: u32) -> usize
-    ensures within { result ≤ length writes.now }
-    ensures front { All (λ write. write.origin ≡ origin) (take result writes.now) }
-    ensures behind { IfSome (slice_get writes.now result) (λ write. write.origin ≢ origin) }
-{
-    for (place, write) in writes.iter().enumerate() {
-        if write.origin != origin {
-            return place;
-        }
-    }
-    writes.len()
+    let count = rest.partition_point(|write: &Write| write.origin == origin);
+    &rest[..count]
 }
 
 // How many writes of each origin the sender has.

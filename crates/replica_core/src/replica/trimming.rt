@@ -1,12 +1,12 @@
 //! What a replica gives up: committed writes that each replica is known to have.
-ghost use Rattle.std.specs.Prelude.{◌≡◌, ℕ, ◌<◌, ◌≤◌, max, All, length};
-ghost use Rattle.tact_base.specs.declared.limits.TheConstants.{HISTORY_MAX};
+ghost use Rattle.std.specs.Prelude.{◌≡◌, ℕ, ◌<◌, ◌≤◌, ◌↔◌, max, All, IsTrue, length};
+ghost use Rattle.tact_base.specs.declared.limits.TheConstants.{HISTORY_MAX, REPLICAS_MAX};
 ghost use Rattle.write_log.specs.Logs.{log_of, base_of, room_of};
 ghost use Rattle.replica_core.specs.Dropped.{past_of};
-ghost use Rattle.replica_core.specs.Trimming.{known_all_at, longest_at, trimmed};
+ghost use Rattle.replica_core.specs.Trimming.{IsKnownByAll, known_all_at, longest_at, trimmed};
 
 use super::Replica;
-use tact_base::Write;
+use tact_base::{REPLICAS_MAX, Write};
 use write_log::Logs;
 
 impl Replica {
@@ -25,14 +25,35 @@ impl Replica {
     fn longest_front(&self) -> u64
         ensures { result ≡ longest_at self.now.core }
     {
+        let mut known = [0; REPLICAS_MAX as usize];
         let mut count = 0;
         for write in self.seen.committed() {
-            if write.index >= self.known_by_all(write.origin) {
+            if !self.is_had_by_all(write, &mut known) {
                 return count;
             }
             count += 1;
         }
         count
+    }
+
+    // Whether each replica is known to have a write. By origin some number that each is known to have is kept: it is
+    // looked up only where it isn't past the write.
+    fn is_had_by_all(&self, write: &Write, known: &mut [u64]) -> bool
+        requires origin { write.now.origin < self.now.core.setup.replicas }
+        requires few { self.now.core.setup.replicas ≤ REPLICAS_MAX }
+        requires sized { length known.old ≡ REPLICAS_MAX }
+        requires had { IsKnownByAll self.now.core known.old }
+        ensures had { IsTrue result ↔ (write.now.index < known_all_at self.now.core write.now.origin) }
+        ensures sized { length known.new ≡ REPLICAS_MAX }
+        ensures known { IsKnownByAll self.now.core known.new }
+    {
+        let origin = write.origin as usize;
+        if write.index < known[origin] {
+            return true;
+        }
+        let all = self.known_by_all(write.origin);
+        known[origin] = all;
+        write.index < all
     }
 
     // How many writes of an origin each replica is known to have: so many it has, and so many each that may lack some.

@@ -1,5 +1,5 @@
 //! Writes that clients ask for.
-ghost use Rattle.std.specs.Prelude.{All, ◌≡◌, ◌+◌, ◌<◌, ◌≤◌, [], ◌∷◌, ◌++◌, length, false, OnErr, IfOk, IsOk, unsigned_abs};
+ghost use Rattle.std.specs.Prelude.{All, ◌≡◌, ◌+◌, ◌<◌, ◌≤◌, [], ◌∷◌, ◌++◌, length, false, OnOk, OnErr, IfOk, IsOk, unsigned_abs};
 ghost use Rattle.tact_base.specs.declared.limits.TheConstants.{CLIENTS, WEIGHT_MAX};
 ghost use Rattle.run_model.specs.declared.call.Reply.TheVariants as reply;
 ghost use Rattle.run_model.specs.declared.call.Request.TheVariants as request;
@@ -13,6 +13,9 @@ use run_model::Reply;
 use split_budget::Budgets;
 use std::slice;
 use tact_base::{NoMemory, Op, Weight, Weights, Write};
+
+// For how many own writes room is made at once, if it can.
+const AHEAD: u64 = 64;
 
 impl Replica {
     // Accepts a write, if no peer's share forbids it.
@@ -34,8 +37,7 @@ impl Replica {
             self.close_call(moment, client);
             return Ok(refusal);
         }
-        let weights = weights.clone()?;
-        self.reserve(1)?;
+        self.reserve_next()?;
         Ok(self.accept(moment, client, weights, op, None))
     }
 
@@ -64,8 +66,23 @@ impl Replica {
                 amount,
             });
         }
-        self.reserve(1)?;
-        Ok(self.accept(moment, client, only(weight), op, Some(weight)))
+        self.reserve_next()?;
+        Ok(self.accept(moment, client, &only(weight), op, Some(weight)))
+    }
+
+    // Makes room for an own write where there is none, and where memory can be had for some more, so that most writes
+    // find it.
+    fn reserve_next(&mut self) -> Result<(), NoMemory>
+        ensures core { self.new.core ≡ self.old.core }
+        ensures room { OnOk result (0 < self.new.spare) }
+        ensures kept { self.old.spare ≤ self.new.spare }
+        ensures enough { 0 < self.old.spare → IsOk result }
+        ensures err { OnErr result (self.new ≡ self.old) }
+    {
+        if self.spare == 0 && self.reserve(AHEAD).is_err() {
+            self.reserve(1)?;
+        }
+        Ok(())
     }
 
     // Accepts a write that a client asked for, whose weights count; a held one is taken out of what is reserved. The
@@ -74,18 +91,18 @@ impl Replica {
         &mut self,
         moment: u64,
         client: u32,
-        weights: Weights,
+        weights: &Weights,
         op: Op,
         held: Option<Weight>,
     ) -> Reply
         requires free { is_full self.old.core ≡ false }
         requires room { 0 < self.old.spare }
         requires client { client < CLIENTS }
-        requires conits { All (λ weight. weight.conit < self.old.core.setup.conits) weights }
-        requires counts { MayCount self.old.core.budgets weights held }
+        requires conits { All (λ weight. weight.conit < self.old.core.setup.conits) weights.now }
+        requires counts { MayCount self.old.core.budgets weights.now held }
         ensures reply { result ≡ reply.Done (length (log_at self.old.core self.old.core.replica)) (self.old.core.writes.clock + 1) }
         ensures core { self.new.core
-            ≡ entered (accepted self.old.core client (next_write self.old.core moment weights op) held) moment }
+            ≡ entered (accepted self.old.core client (next_write self.old.core moment weights.now op) held) moment }
         ensures spare { self.old.spare ≡ self.new.spare + 1 }
     {
         let index = self.logs.count(self.replica);
@@ -95,12 +112,12 @@ impl Replica {
             index,
             stamp,
             moment: moment.max(self.last),
-            weights,
+            weights: *weights,
             op,
         };
         let one = slice::from_ref(&write);
         admit(&mut self.logs, &mut self.seen, self.replica, one);
-        count(&mut self.budgets, &write.weights, held);
+        count(&mut self.budgets, weights, held);
         self.clock = stamp;
         self.spare -= 1;
         self.count += 1;

@@ -35,11 +35,11 @@ admit-requires-clause-rising c = subst (IsStrictlySortedBy write_cmp) (sym c.fro
 pub admit-requires-clause-next : goal.admit-requires-clause-next
 admit-requires-clause-next c =
     let logs : List (List Write) = c.self.inside.logs.logs in
-    let write : Write = record { origin = c.self.inside.replica; index = c.count-index.result; stamp = c.self.inside.clock + 1; moment = c.max.result; weights = c.args.weights; op = c.args.op } in
+    let write : Write = record { origin = c.self.inside.replica; index = c.count-index.result; stamp = c.self.inside.clock + 1; moment = c.max.result; weights = c.args.weights.now; op = c.args.op } in
     let entries : c.self.inside.count < HISTORY_MAX = omega (arith, (not_full c.args.self.now.core c.requires.free).0, ap (λ (s : ReplicaState). s.core.counts.count) c.self.view_is) in
     let next : AreNext c.self.inside.config.conits c.self.inside.replica (length (get_or logs c.self.inside.replica [])) (write ∷ []) =
     AreNext-own c.self.inside.config.conits c.self.inside.replica c.self.inside.count logs write refl c.count-index.ensures
-    (subst (λ (s : ReplicaState). All (λ (weight : Weight). weight.conit < s.core.setup.conits) c.args.weights) (sym c.self.view_is) c.requires.conits) c.self.invariant.0.few entries in
+    (subst (λ (s : ReplicaState). All (λ (weight : Weight). weight.conit < s.core.setup.conits) c.args.weights.now) (sym c.self.view_is) c.requires.conits) c.self.invariant.0.few entries in
     subst (λ (conits : ℕ). AreNext conits c.self.inside.replica (length (get_or c.self.inside.logs.logs c.self.inside.replica [])) c.from_ref-one.result.now) (sym c.self.invariant.2)
     (subst (AreNext c.self.inside.config.conits c.self.inside.replica (length (get_or c.self.inside.logs.logs c.self.inside.replica []))) (sym c.from_ref-one.ensures.value) next)
 
@@ -62,11 +62,11 @@ invariant_of-self c =
     let spare : 0 < c.self.inside.spare = omega (arith, c.requires.room, ap (λ (s : ReplicaState). s.spare) c.self.view_is) in
     let one : length c.from_ref-one.result.now ≡ 1 = c.from_ref-one.ensures.len in
     let logs : List (List Write) = c.self.inside.logs.logs in
-    let write : Write = record { origin = c.self.inside.replica; index = c.count-index.result; stamp = c.self.inside.clock + 1; moment = c.max.result; weights = c.args.weights; op = c.args.op } in
+    let write : Write = record { origin = c.self.inside.replica; index = c.count-index.result; stamp = c.self.inside.clock + 1; moment = c.max.result; weights = c.args.weights.now; op = c.args.op } in
     let entries : c.self.inside.count < HISTORY_MAX = omega (arith, (not_full c.args.self.now.core c.requires.free).0, ap (λ (s : ReplicaState). s.core.counts.count) c.self.view_is) in
     let next : AreNext c.self.inside.config.conits c.self.inside.replica (length (get_or logs c.self.inside.replica [])) (write ∷ []) =
     AreNext-own c.self.inside.config.conits c.self.inside.replica c.self.inside.count logs write refl c.count-index.ensures
-    (subst (λ (s : ReplicaState). All (λ (weight : Weight). weight.conit < s.core.setup.conits) c.args.weights) (sym c.self.view_is) c.requires.conits) c.self.invariant.0.few entries in
+    (subst (λ (s : ReplicaState). All (λ (weight : Weight). weight.conit < s.core.setup.conits) c.args.weights.now) (sym c.self.view_is) c.requires.conits) c.self.invariant.0.few entries in
     let admitted =
     subst (λ (ws : List Write). AreAdmitted c.self.inside.config.replicas (set logs c.self.inside.replica (get_or logs c.self.inside.replica [] ++ ws))
     (with_writes ws c.self.inside.seen.writes)) (sym c.from_ref-one.ensures.value)
@@ -118,5 +118,5 @@ invariant_of-self c =
 
 pub count-requires-clause-counts : goal.count-requires-clause-counts
 count-requires-clause-counts c =
-    MayCount-room c.self.inside.budgets 0 c.args.weights c.args.held
-    (subst (λ (s : ReplicaState). MayCount s.core.budgets c.args.weights c.args.held) (sym c.self.view_is) c.requires.counts)
+    MayCount-room c.self.inside.budgets 0 c.args.weights.now c.args.held
+    (subst (λ (s : ReplicaState). MayCount s.core.budgets c.args.weights.now c.args.held) (sym c.self.view_is) c.requires.counts)

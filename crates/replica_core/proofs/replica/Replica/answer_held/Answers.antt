@@ -45,6 +45,6 @@ returns-clause-answers c =
     (reply.Done (length (log_at old old.replica)) (old.writes.clock + 1)) c.accept.result
     (c.accept.ensures.core
     ∙ ap₂ (λ (core : Core) (ws : List Weight). entered (accepted core c.args.client (next_write core c.args.moment ws c.args.op) (Some weight)) c.args.moment)
-    c.in_ok-reserve.ensures.core c.only.ensures)
-    (c.accept.ensures.reply ∙ ap (λ (core : Core). reply.Done (length (log_at core core.replica)) (core.writes.clock + 1)) c.in_ok-reserve.ensures.core)
+    c.in_ok-reserve_next.ensures.core c.only.ensures)
+    (c.accept.ensures.reply ∙ ap (λ (core : Core). reply.Done (length (log_at core core.replica)) (core.writes.clock + 1)) c.in_ok-reserve_next.ensures.core)
     (held_accepted old kept c.args.moment c.args.client weight c.args.op c.requires sized (omega (arith, c.if-held-amount.false, held, size)))

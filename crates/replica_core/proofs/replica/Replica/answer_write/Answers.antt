@@ -23,8 +23,7 @@ accept-requires-clause-counts c =
     let old = c.args.self.now.core in
     let none : first_some (refusal_of old.budgets) c.args.weights.now ≡ None =
     ap (first_some (refusal_of old.budgets)) (sym c.items.ensures.items) ∙ sym c.weights_refusal.ensures.refusal ∙ c.in_default.is in
-    subst (λ (core : Core). MayCount core.budgets c.in_ok-weights.weights None) (sym c.in_ok-reserve.ensures.core)
-    (subst (λ (weights : List Weight). MayCount old.budgets weights None) (sym c.in_ok-weights.ensures.cases) (all_fit old.budgets c.args.weights.now none))
+    subst (λ (core : Core). MayCount core.budgets c.args.weights.now None) (sym c.in_ok-reserve_next.ensures.core) (all_fit old.budgets c.args.weights.now none)
 
 pub returns-clause-answers : goal.returns-clause-answers
 returns-clause-answers c =
@@ -36,7 +35,7 @@ returns-clause-answers c =
     c.args.client (request.Write weights c.args.op)
     (reply.Done (length (log_at old old.replica)) (old.writes.clock + 1)) c.accept.result
     (c.accept.ensures.core
-    ∙ ap₂ (λ (core : Core) (ws : List Weight). entered (accepted core c.args.client (next_write core c.args.moment ws c.args.op) None) c.args.moment)
-    c.in_ok-reserve.ensures.core c.in_ok-weights.ensures.cases)
-    (c.accept.ensures.reply ∙ ap (λ (core : Core). reply.Done (length (log_at core core.replica)) (core.writes.clock + 1)) c.in_ok-reserve.ensures.core)
+    ∙ ap (λ (core : Core). entered (accepted core c.args.client (next_write core c.args.moment weights c.args.op) None) c.args.moment)
+    c.in_ok-reserve_next.ensures.core)
+    (c.accept.ensures.reply ∙ ap (λ (core : Core). reply.Done (length (log_at core core.replica)) (core.writes.clock + 1)) c.in_ok-reserve_next.ensures.core)
     (write_accepted old c.weights_refusal.ensures.kept c.args.moment c.args.client weights c.args.op c.requires none)
