@@ -1,7 +1,7 @@
 -- Texts that grow, token by token.
 use Rattle.std.proofs.Common.{◌≡◌, ℕ, ◌≤◌, List, [], ◌∷◌, ◌++◌, length, take, codes, Result, Ok, Err, refl, sym, ap, ◌∙◌, append_assoc, arith}
 use Rattle.std.specs.Result.{OnOk, OnErr}
-use Rattle.std.proofs.lemmas.List.{take-take, take_at, take_all, length-take, append-nil}
+use Rattle.std.proofs.lemmas.List.{take-take, take_at, length-take, append-nil}
 use Rattle.run_model.specs.Text.{line_text, spaced, BeginsWith}
 use Rattle.std.proofs.lemmas.Grind.{flat_map-append}
 
@@ -52,32 +52,56 @@ line_from_parts word xs ys old a b c at_a at_b at_c =
     let line = line_text-cons word (xs ++ ys) ∙ ap (λ rest. word ++ rest) (spaced-append xs ys) in
     rw (at_c, at_b, at_a) (regroup old word (spaced xs) (spaced ys) (10 ∷ []) ∙ ap (λ text. old ++ (text ++ 10 ∷ [])) (sym line))
 
--- four pieces, one after the other
-regroup_four : (a b c d : List ℕ) → ((a ++ b) ++ c) ++ d ≡ a ++ (b ++ (c ++ d))
-regroup_four a b c d = simp append_assoc
+-- a line's pieces, one after the other
+regroup_line : (a b c d e : List ℕ) → a ++ ((b ++ c) ++ (d ++ e)) ≡ (a ++ (b ++ (c ++ d))) ++ e
+regroup_line a b c d e = simp append_assoc
 
--- the line of an entry, from what it begins with and its further tokens
-pub line_of_entry : (replica moment word : List ℕ) (xs ys : List (List ℕ)) (old mid new : List ℕ)
-    → mid ≡ (old ++ codes "e") ++ spaced (replica ∷ moment ∷ word ∷ xs)
-    → new ≡ mid ++ spaced ys
-    → new ≡ old ++ line_text (codes "e" ∷ replica ∷ moment ∷ word ∷ (xs ++ ys))
-line_of_entry replica moment word xs ys old mid new at_mid at_new =
-    let front : List (List ℕ) = replica ∷ moment ∷ word ∷ xs in
-    let line : line_text (codes "e" ∷ (front ++ ys)) ≡ codes "e" ++ (spaced front ++ spaced ys) =
-    line_text-cons (codes "e") (front ++ ys) ∙ ap (λ (rest : List ℕ). codes "e" ++ rest) (spaced-append front ys) in
-    let whole : mid ++ spaced ys ≡ ((old ++ codes "e") ++ spaced front) ++ spaced ys = ap (λ (text : List ℕ). text ++ spaced ys) at_mid in
-    at_new ∙ whole ∙ regroup_four old (codes "e") (spaced front) (spaced ys) ∙ ap (λ (text : List ℕ). old ++ text) (sym line)
-
--- a text that grew by tokens twice
-pub grown_by_both : (xs ys : List (List ℕ)) (old mid new : List ℕ)
-    → mid ≡ old ++ spaced xs
-    → new ≡ mid ++ spaced ys
-    → new ≡ old ++ spaced (xs ++ ys)
-grown_by_both xs ys old mid new at_mid at_new =
+-- the line of an entry, from what it begins with and the tokens of its act
+pub line_of_entry : (replica moment : List ℕ) (tokens : List (List ℕ)) (old new text rest : List ℕ)
+    → new ≡ old ++ text
+    → text ≡ (codes "e" ++ spaced (replica ∷ moment ∷ [])) ++ rest
+    → rest ≡ spaced tokens ++ (10 ∷ [])
+    → new ≡ (old ++ line_text (codes "e" ∷ replica ∷ moment ∷ tokens)) ++ (10 ∷ [])
+line_of_entry replica moment tokens old new text rest at_new at_text at_rest =
+    let front : List (List ℕ) = replica ∷ moment ∷ [] in
+    let line : line_text (codes "e" ∷ (front ++ tokens)) ≡ codes "e" ++ (spaced front ++ spaced tokens) =
+    line_text-cons (codes "e") (front ++ tokens) ∙ ap (λ (more : List ℕ). codes "e" ++ more) (spaced-append front tokens) in
     at_new
-    ∙ ap (λ (text : List ℕ). text ++ spaced ys) at_mid
-    ∙ append_assoc old (spaced xs) (spaced ys)
-    ∙ ap (λ (text : List ℕ). old ++ text) (sym (spaced-append xs ys))
+    ∙ ap (λ (more : List ℕ). old ++ more) (at_text ∙ ap (λ (more : List ℕ). (codes "e" ++ spaced front) ++ more) at_rest)
+    ∙ regroup_line old (codes "e") (spaced front) (spaced tokens) (10 ∷ [])
+    ∙ ap (λ (more : List ℕ). (old ++ more) ++ (10 ∷ [])) (sym line)
+
+-- tokens, and tokens after them
+pub tokens_of_both : (xs ys : List (List ℕ)) (rest : List ℕ) → spaced xs ++ (spaced ys ++ rest) ≡ spaced (xs ++ ys) ++ rest
+tokens_of_both xs ys rest =
+    sym (append_assoc (spaced xs) (spaced ys) rest) ∙ ap (λ (more : List ℕ). more ++ rest) (sym (spaced-append xs ys))
+
+-- the tokens of a call, from those of its request and of its reply
+pub call_of_both : (client number : List ℕ) (xs ys : List (List ℕ)) (rest : List ℕ)
+    → (codes " call" ++ spaced (client ∷ number ∷ [])) ++ (spaced xs ++ (spaced ys ++ rest))
+    ≡ spaced (codes "call" ∷ client ∷ number ∷ (xs ++ ys)) ++ rest
+call_of_both client number xs ys rest =
+    let front : List (List ℕ) = codes "call" ∷ client ∷ number ∷ [] in
+    ap (λ (more : List ℕ). spaced front ++ more) (tokens_of_both xs ys rest) ∙ tokens_of_both front (xs ++ ys) rest
+
+-- a line's pieces, where the last tokens are appended apart
+regroup_long : (a b c d e f : List ℕ) → ((a ++ ((b ++ c) ++ d)) ++ e) ++ f ≡ a ++ ((b ++ c) ++ (d ++ e ++ f))
+regroup_long a b c d e f = simp append_assoc
+
+-- the line of an entry whose last tokens are appended apart
+pub long_line_of_entry : (replica moment : List ℕ) (xs ys : List (List ℕ)) (old begun mid new text rest : List ℕ)
+    → begun ≡ old ++ text
+    → text ≡ (codes "e" ++ spaced (replica ∷ moment ∷ [])) ++ rest
+    → rest ≡ spaced xs
+    → mid ≡ begun ++ spaced ys
+    → new ≡ mid ++ (10 ∷ [])
+    → new ≡ (old ++ line_text (codes "e" ∷ replica ∷ moment ∷ (xs ++ ys))) ++ (10 ∷ [])
+long_line_of_entry replica moment xs ys old begun mid new text rest at_begun at_text at_rest at_mid at_new =
+    let front : List ℕ = codes "e" ++ spaced (replica ∷ moment ∷ []) in
+    let whole : new ≡ old ++ (front ++ (spaced xs ++ spaced ys ++ (10 ∷ []))) =
+    rw (at_new, at_mid, at_begun, at_text, at_rest) (regroup_long old (codes "e") (spaced (replica ∷ moment ∷ [])) (spaced xs) (spaced ys) (10 ∷ [])) in
+    line_of_entry replica moment (xs ++ ys) old new (front ++ (spaced xs ++ spaced ys ++ (10 ∷ []))) (spaced xs ++ spaced ys ++ (10 ∷ [])) whole refl
+    (ap (λ (more : List ℕ). more ++ (10 ∷ [])) (sym (spaced-append xs ys)))
 
 -- what follows from what holds after a success
 pub weaker_ok : {T E P Q : Type 0} → (r : Result T E) → (P → Q) → OnOk r P → OnOk r Q
@@ -99,18 +123,3 @@ pub err_kept : {T E : Type 0} (r : Result T E) (old mid new more : List ℕ)
     → OnErr r (BeginsWith old new)
 err_kept (Ok x) old mid new more e b = tt
 err_kept (Err f) old mid new more e b = rw (b, e) (begins_append old more)
-
--- a text that did not change, and a text that a failed call did not change
-pub begins_same : (old new : List ℕ) → new ≡ old → BeginsWith old new
-begins_same old new e = rw e (take_all (length old) old (omega arith))
-
-pub err_same : {T E : Type 0} (r : Result T E) (old new : List ℕ) → OnErr r (new ≡ old) → OnErr r (BeginsWith old new)
-err_same (Ok x) old new e = tt
-err_same (Err f) old new e = begins_same old new e
-
--- the line of an entry, from what it begins with
-pub line_begun : (word : List ℕ) (tokens : List (List ℕ)) (old new : List ℕ)
-    → new ≡ (old ++ word) ++ spaced tokens
-    → new ≡ old ++ line_text (word ∷ tokens)
-line_begun word tokens old new e =
-    e ∙ append_assoc old word (spaced tokens) ∙ ap (λ (text : List ℕ). old ++ text) (sym (line_text-cons word tokens))

@@ -2,6 +2,7 @@
 //! entries, the setup that all of it is made for, the text of each, and what is true of every run.
 #![tactic(auto)]
 
+mod backward;
 mod call;
 mod cause;
 mod config;

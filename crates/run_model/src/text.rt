@@ -1,129 +1,178 @@
-//! The text of entries: tokens with single spaces between them.
+//! The text of entries: tokens with single spaces between them. A line is put together from its end to its beginning,
+//! and then appended at once.
 
-ghost use Rattle.std.specs.Prelude.{◌≡◌, ◌≤◌, ◌++◌, ◌∷◌, [], true, length, map, codes, decimal, OnOk, OnErr};
+ghost use Rattle.std.specs.Prelude.{◌≡◌, ◌≤◌, ◌<◌, ◌+◌, ◌*◌, ◌++◌, ◌∷◌, [], true, length, map, drop, codes, decimal, OnOk, OnErr};
+ghost use Rattle.std.specs.Fmt.{signed_decimal};
 ghost use Rattle.run_model.specs.Call.{is_waiting};
 ghost use Rattle.run_model.specs.Text.{spaced, BeginsWith, weight_token, need_token, op_tokens, request_tokens, reply_tokens, entry_text};
+ghost use Rattle.run_model.specs.declared.entry.Act.TheVariants.{Send};
 
-use crate::tokens::{
-    add_row, all_or_nothing, put_change, put_numbers, put_reply_at, put_row, put_two_words,
-    put_values,
+use crate::backward::{
+    LINE_ROOM, Room, put, put_number, put_numbers, put_pair, put_signed, put_sums,
 };
-use crate::{Act, Entry, Reply, Request};
-use tact_base::{Bytes, Need, NoMemory, Op, ShortText, Weight};
+use crate::tokens::{self, all_or_nothing};
+use crate::{Act, Entry, Message, Reply, Request};
+use tact_base::{Bytes, Need, NoMemory, Op, Weight};
+
+/// A message has this many numbers by origin at most, where its line is put together at once.
+const FEW_FIRSTS: usize = 8;
 
 /// Appends the line of an entry, with its line feed. `NoMemory` leaves `out` as it was.
 pub fn line_of(entry: &Entry, out: &mut Bytes) -> Result<(), NoMemory>
     ensures ok { OnOk result (out.new ≡ out.old ++ entry_text entry.now ++ 10 ∷ []) }
     ensures err { OnErr result (out.new ≡ out.old) }
 {
-    let start = out.len();
-    let done = print_entry(entry, out);
-    all_or_nothing(done, start, out)
-}
-
-fn print_entry(entry: &Entry, out: &mut Bytes) -> Result<(), NoMemory>
-    ensures ok { OnOk result (out.new ≡ out.old ++ entry_text entry.now ++ 10 ∷ []) }
-    ensures err { OnErr result (BeginsWith out.old out.new) }
-{
-    print_act(entry, out)?;
-    out.push(b'\n')
-}
-
-// The line of an entry, without its line feed.
-#[tactic(auto, using(crate::proofs::TextLemmas::begins_grown, crate::proofs::TextLemmas::always_err))]
-fn print_act(entry: &Entry, out: &mut Bytes) -> Result<(), NoMemory>
-    ensures ok { OnOk result (out.new ≡ out.old ++ entry_text entry.now) }
-    ensures err { OnErr result (BeginsWith out.old out.new) }
-{
-    match &entry.act {
+    let mut room = [0; LINE_ROOM];
+    let end = put(b"\n", &mut room, LINE_ROOM);
+    let start = match &entry.act {
         Act::Call {
             client,
             number,
             request,
             reply,
         } => {
-            put_begun(entry, b"call", &[u64::from(*client), *number], out)?;
-            print_request(request, out)?;
-            print_reply(reply, out)
+            let start = put_reply(reply, &mut room, end);
+            let start = put_request(request, &mut room, start);
+            let start = put_pair(u64::from(*client), *number, &mut room, start);
+            put(b" call", &mut room, start)
         }
         Act::Send { message } => {
-            put_begun(
-                entry,
-                b"send",
-                &[u64::from(message.to), message.number],
-                out,
-            )?;
-            put_numbers(message.firsts.items(), out)
+            let firsts = message.firsts.items();
+            if firsts.len() > FEW_FIRSTS {
+                return long_line_of(entry, message, out);
+            }
+            let start = put_numbers(firsts, &mut room, end);
+            put_sent(message, &mut room, start)
         }
         Act::Take { message } => {
-            put_begun(
-                entry,
-                b"take",
-                &[u64::from(message.from), message.number],
-                out,
-            )
+            let start = put_pair(u64::from(message.from), message.number, &mut room, end);
+            put(b" take", &mut room, start)
         }
         Act::Lend { to, conit, amount } => {
-            put_begun(entry, b"lend", &[u64::from(*to), u64::from(*conit)], out)?;
-            put_numbers(&[*amount], out)
+            let start = put_loan(*to, *conit, *amount, &mut room, end);
+            put(b" lend", &mut room, start)
         }
         Act::Back {
             owner,
             conit,
             amount,
         } => {
-            put_begun(entry, b"back", &[u64::from(*owner), u64::from(*conit)], out)?;
-            put_numbers(&[*amount], out)
+            let start = put_loan(*owner, *conit, *amount, &mut room, end);
+            put(b" back", &mut room, start)
         }
-        Act::Restart => put_begun(entry, b"restart", &[], out),
-    }
+        Act::Restart => put(b" restart", &mut room, end),
+    };
+    let start = put_begin(entry, &mut room, start);
+    out.append(&room[start..])
 }
 
-// What the line of an entry begins with: its replica and moment, the word of its act, and at most two numbers.
-fn put_begun(entry: &Entry, word: &[u8], numbers: &[u64], out: &mut Bytes) -> Result<(), NoMemory>
-    requires word { length word.now ≤ 7 }
-    requires few { length numbers.now ≤ 2 }
-    ensures ok { OnOk result (out.new ≡ out.old
-        ++ codes "e" ++ spaced (decimal entry.now.replica ∷ decimal entry.now.moment ∷ word.now ∷ map decimal numbers.now)) }
+// The line of a message to more replicas than a line has room for.
+fn long_line_of(entry: &Entry, message: &Message, out: &mut Bytes) -> Result<(), NoMemory>
+    requires { entry.now.act ≡ Send message.now }
+    ensures ok { OnOk result (out.new ≡ out.old ++ entry_text entry.now ++ 10 ∷ []) }
     ensures err { OnErr result (out.new ≡ out.old) }
 {
-    let mut text = ShortText::new();
-    add_row(&mut text, word, numbers);
-    text.put_marked(b' ', entry.moment);
-    text.put_marked(b' ', u64::from(entry.replica));
-    text.put(b'e');
-    out.append(text.bytes())
+    let start = out.len();
+    let done = print_long(entry, message, out);
+    all_or_nothing(done, start, out)
+}
+
+fn print_long(entry: &Entry, message: &Message, out: &mut Bytes) -> Result<(), NoMemory>
+    requires { entry.now.act ≡ Send message.now }
+    ensures ok { OnOk result (out.new ≡ out.old ++ entry_text entry.now ++ 10 ∷ []) }
+    ensures err { OnErr result (BeginsWith out.old out.new) }
+{
+    let mut room = [0; LINE_ROOM];
+    let start = put_sent(message, &mut room, LINE_ROOM);
+    let start = put_begin(entry, &mut room, start);
+    out.append(&room[start..])?;
+    tokens::put_numbers(message.firsts.items(), out)?;
+    out.push(b'\n')
+}
+
+// What each line begins with: the replica and the moment.
+fn put_begin(entry: &Entry, room: &mut Room, start: usize) -> usize
+    requires fits { 43 ≤ start }
+    requires within { start ≤ 600 }
+    ensures start { result ≤ 600 }
+    ensures text { drop result room.new
+        ≡ codes "e" ++ spaced (decimal entry.now.replica ∷ decimal entry.now.moment ∷ []) ++ drop start room.old }
+{
+    let start = put_pair(u64::from(entry.replica), entry.moment, room, start);
+    put(b"e", room, start)
+}
+
+// The word of a message that is sent, and its first two numbers.
+fn put_sent(message: &Message, room: &mut Room, start: usize) -> usize
+    requires fits { 47 ≤ start }
+    requires within { start ≤ 600 }
+    ensures start { (result ≤ start) × (start ≤ result + 47) }
+    ensures text { drop result room.new
+        ≡ spaced (codes "send" ∷ map decimal (message.now.to ∷ message.now.number ∷ [])) ++ drop start room.old }
+{
+    let start = put_pair(u64::from(message.to), message.number, room, start);
+    put(b" send", room, start)
+}
+
+// What a loan is to or from, its conit and its amount.
+fn put_loan(replica: u32, conit: u32, amount: u64, room: &mut Room, start: usize) -> usize
+    requires fits { 63 ≤ start }
+    requires within { start ≤ 600 }
+    ensures start { (result ≤ start) × (start ≤ result + 63) }
+    ensures text { drop result room.new
+        ≡ spaced (map decimal (replica ∷ conit ∷ amount ∷ [])) ++ drop start room.old }
+{
+    let start = put_number(b' ', amount, room, start);
+    put_pair(u64::from(replica), u64::from(conit), room, start)
 }
 
 // A reply, and the sign before it.
-fn print_reply(reply: &Reply, out: &mut Bytes) -> Result<(), NoMemory>
-    ensures ok { OnOk result (out.new ≡ out.old ++ spaced (codes "=" ∷ reply_tokens reply.now)) }
-    ensures err { OnErr result (BeginsWith out.old out.new) }
+fn put_reply(reply: &Reply, room: &mut Room, start: usize) -> usize
+    requires fits { 139 ≤ start }
+    requires within { start ≤ 600 }
+    ensures start { (result ≤ start) × (start ≤ result + 139) }
+    ensures text { drop result room.new ≡ spaced (codes "=" ∷ reply_tokens reply.now) ++ drop start room.old }
 {
     match reply {
-        Reply::Done { index, stamp } => put_two_words(b"=", b"done", &[*index, *stamp], out),
-        Reply::Granted => put_two_words(b"=", b"granted", &[], out),
-        Reply::Released => put_two_words(b"=", b"released", &[], out),
-        Reply::Value { value, sums } => put_values(*value, sums.items(), out),
+        Reply::Done { index, stamp } => {
+            let start = put_pair(*index, *stamp, room, start);
+            put(b" = done", room, start)
+        }
+        Reply::Granted => put(b" = granted", room, start),
+        Reply::Released => put(b" = released", room, start),
+        Reply::Value { value, sums } => {
+            let start = put_sums(sums.items(), room, start);
+            let start = put_signed(b' ', *value, room, start);
+            put(b" = value", room, start)
+        }
         Reply::TooHeavy {
             conit,
             peer,
             weight,
             share,
-        } => { put_reply_at(b"too-heavy", *conit, *peer, &[*weight, *share], out) }
+        } => {
+            let start = put_about(*conit, *peer, &[*weight, *share], room, start);
+            put(b" = too-heavy", room, start)
+        }
         Reply::NotHeld {
             conit,
             held,
             amount,
-        } => put_two_words(b"=", b"not-held", &[u64::from(*conit), *held, *amount], out),
-        _ => print_waiting(reply, out),
+        } => {
+            let start = put_number(b' ', *amount, room, start);
+            let start = put_pair(u64::from(*conit), *held, room, start);
+            put(b" = not-held", room, start)
+        }
+        _ => put_waiting(reply, room, start),
     }
 }
 
-fn print_waiting(reply: &Reply, out: &mut Bytes) -> Result<(), NoMemory>
-    requires { is_waiting reply.now ≡ true }
-    ensures ok { OnOk result (out.new ≡ out.old ++ spaced (codes "=" ∷ reply_tokens reply.now)) }
-    ensures err { OnErr result (BeginsWith out.old out.new) }
+fn put_waiting(reply: &Reply, room: &mut Room, start: usize) -> usize
+    requires waiting { is_waiting reply.now ≡ true }
+    requires fits { 139 ≤ start }
+    requires within { start ≤ 600 }
+    ensures start { (result ≤ start) × (start ≤ result + 139) }
+    ensures text { drop result room.new ≡ spaced (codes "=" ∷ reply_tokens reply.now) ++ drop start room.old }
 {
     match reply {
         Reply::WaitHeld {
@@ -133,13 +182,8 @@ fn print_waiting(reply: &Reply, out: &mut Bytes) -> Result<(), NoMemory>
             weight,
             share,
         } => {
-            put_reply_at(
-                b"wait-held",
-                *conit,
-                *peer,
-                &[*reserved, *weight, *share],
-                out,
-            )
+            let start = put_about(*conit, *peer, &[*reserved, *weight, *share], room, start);
+            put(b" = wait-held", room, start)
         }
         Reply::WaitShare {
             conit,
@@ -149,13 +193,14 @@ fn print_waiting(reply: &Reply, out: &mut Bytes) -> Result<(), NoMemory>
             weight,
             share,
         } => {
-            put_reply_at(
-                b"wait-share",
+            let start = put_about(
                 *conit,
                 *peer,
                 &[*missing, *reserved, *weight, *share],
-                out,
-            )
+                room,
+                start,
+            );
+            put(b" = wait-share", room, start)
         }
         Reply::WaitLent {
             conit,
@@ -163,103 +208,162 @@ fn print_waiting(reply: &Reply, out: &mut Bytes) -> Result<(), NoMemory>
             out: lent,
             total,
             num,
-        } => { put_reply_at(b"wait-lent", *conit, *holder, &[*lent, *total, *num], out) }
+        } => {
+            let start = put_about(*conit, *holder, &[*lent, *total, *num], room, start);
+            put(b" = wait-lent", room, start)
+        }
         Reply::WaitOrder {
             conit,
             replica,
             tentative,
             order,
-        } => { put_reply_at(b"wait-order", *conit, *replica, &[*tentative, *order], out) }
+        } => {
+            let start = put_about(*conit, *replica, &[*tentative, *order], room, start);
+            put(b" = wait-order", room, start)
+        }
         Reply::WaitStale {
             conit,
             replica,
             moment,
             wanted,
-        } => { put_reply_at(b"wait-stale", *conit, *replica, &[*moment, *wanted], out) }
+        } => {
+            let start = put_about(*conit, *replica, &[*moment, *wanted], room, start);
+            put(b" = wait-stale", room, start)
+        }
         _ => unreachable!(),
     }
 }
 
-fn print_request(request: &Request, out: &mut Bytes) -> Result<(), NoMemory>
-    ensures ok { OnOk result (out.new ≡ out.old ++ spaced (request_tokens request.now)) }
-    ensures err { OnErr result (BeginsWith out.old out.new) }
+// What a reply is about, and its numbers.
+fn put_about(conit: u32, replica: u32, numbers: &[u64], room: &mut Room, start: usize) -> usize
+    requires few { length numbers.now ≤ 4 }
+    requires fits { 126 ≤ start }
+    requires within { start ≤ 600 }
+    ensures start { (result ≤ start) × (start ≤ result + 126) }
+    ensures text { drop result room.new
+        ≡ spaced (map decimal (conit ∷ replica ∷ numbers.now)) ++ drop start room.old }
+{
+    let start = put_numbers(numbers, room, start);
+    put_pair(u64::from(conit), u64::from(replica), room, start)
+}
+
+fn put_request(request: &Request, room: &mut Room, start: usize) -> usize
+    requires fits { 362 ≤ start }
+    requires within { start ≤ 600 }
+    ensures start { (result ≤ start) × (start ≤ result + 362) }
+    ensures text { drop result room.new ≡ spaced (request_tokens request.now) ++ drop start room.old }
 {
     match request {
         Request::Write { weights, op } => {
-            print_op(b"write", op, out)?;
-            print_weights(weights.items(), out)
+            let start = put_weights(weights.items(), room, start);
+            let start = put_op(op, room, start);
+            put(b" write", room, start)
         }
         Request::Held { weight, op } => {
-            print_op(b"held", op, out)?;
-            print_weight(weight, out)
+            let start = put_weight(weight, room, start);
+            let start = put_op(op, room, start);
+            put(b" held", room, start)
         }
         Request::Reserve { conit, amount } => {
-            put_row(b"reserve", &[u64::from(*conit), *amount], out)
+            let start = put_pair(u64::from(*conit), *amount, room, start);
+            put(b" reserve", room, start)
         }
         Request::Release { conit, amount } => {
-            put_row(b"release", &[u64::from(*conit), *amount], out)
+            let start = put_pair(u64::from(*conit), *amount, room, start);
+            put(b" release", room, start)
         }
         Request::Read { key, needs } => {
-            put_row(b"read", &[*key], out)?;
-            print_needs(needs.items(), out)
+            let start = put_needs(needs.items(), room, start);
+            let start = put_number(b' ', *key, room, start);
+            put(b" read", room, start)
         }
     }
 }
 
-// The word of a request, and its operation.
-fn print_op(request: &[u8], op: &Op, out: &mut Bytes) -> Result<(), NoMemory>
-    requires { length request.now ≤ 5 }
-    ensures ok { OnOk result (out.new ≡ out.old ++ spaced (request.now ∷ op_tokens op.now)) }
-    ensures err { OnErr result (BeginsWith out.old out.new) }
+fn put_op(op: &Op, room: &mut Room, start: usize) -> usize
+    requires fits { 69 ≤ start }
+    requires within { start ≤ 600 }
+    ensures start { (result ≤ start) × (start ≤ result + 69) }
+    ensures text { drop result room.new ≡ spaced (op_tokens op.now) ++ drop start room.old }
 {
     match op {
-        Op::Put { key, value } => put_change(request, b"put", *key, *value, out),
-        Op::Add { key, delta } => put_change(request, b"add", *key, *delta, out),
+        Op::Put { key, value } => {
+            let start = put_change(*key, *value, room, start);
+            put(b" put", room, start)
+        }
+        Op::Add { key, delta } => {
+            let start = put_change(*key, *delta, room, start);
+            put(b" add", room, start)
+        }
         Op::Shift { from, to, amount } => {
-            put_two_words(request, b"shift", &[*from, *to, *amount], out)
+            let start = put_number(b' ', *amount, room, start);
+            let start = put_pair(*from, *to, room, start);
+            put(b" shift", room, start)
         }
     }
 }
 
-fn print_weights(weights: &[Weight], out: &mut Bytes) -> Result<(), NoMemory>
-    ensures ok { OnOk result (out.new ≡ out.old ++ spaced (map weight_token weights.now)) }
-    ensures err { OnErr result (BeginsWith out.old out.new) }
+// A key, and a number with its sign.
+fn put_change(key: u64, number: i64, room: &mut Room, start: usize) -> usize
+    requires fits { 43 ≤ start }
+    requires within { start ≤ 600 }
+    ensures start { (result ≤ start) × (start ≤ result + 43) }
+    ensures text { drop result room.new
+        ≡ spaced (decimal key ∷ signed_decimal number ∷ []) ++ drop start room.old }
 {
-    for weight in weights {
-        print_weight(weight, out)?;
+    let start = put_signed(b' ', number, room, start);
+    put_number(b' ', key, room, start)
+}
+
+fn put_weights(weights: &[Weight], room: &mut Room, start: usize) -> usize
+    requires fits { 64 * length weights.now ≤ start }
+    requires within { start ≤ 600 }
+    ensures start { (result ≤ start) × (start ≤ result + 64 * length weights.now) }
+    ensures text { drop result room.new ≡ spaced (map weight_token weights.now) ++ drop start room.old }
+{
+    let mut begin = start;
+    let mut left = weights.len();
+    while left > 0 {
+        left -= 1;
+        begin = put_weight(&weights[left], room, begin);
     }
-    Ok(())
+    begin
 }
 
-fn print_weight(weight: &Weight, out: &mut Bytes) -> Result<(), NoMemory>
-    ensures ok { OnOk result (out.new ≡ out.old ++ spaced (weight_token weight.now ∷ [])) }
-    ensures err { OnErr result (BeginsWith out.old out.new) }
+fn put_weight(weight: &Weight, room: &mut Room, start: usize) -> usize
+    requires fits { 64 ≤ start }
+    requires within { start ≤ 600 }
+    ensures start { (result ≤ start) × (start ≤ result + 64) }
+    ensures text { drop result room.new ≡ spaced (weight_token weight.now ∷ []) ++ drop start room.old }
 {
-    let mut text = ShortText::new();
-    text.put_marked(b':', weight.oweight);
-    text.put_marked_signed(b':', weight.nweight);
-    text.put_marked(b' ', u64::from(weight.conit));
-    out.append(text.bytes())
+    let start = put_number(b':', weight.oweight, room, start);
+    let start = put_signed(b':', weight.nweight, room, start);
+    put_number(b' ', u64::from(weight.conit), room, start)
 }
 
-fn print_needs(needs: &[Need], out: &mut Bytes) -> Result<(), NoMemory>
-    ensures ok { OnOk result (out.new ≡ out.old ++ spaced (map need_token needs.now)) }
-    ensures err { OnErr result (BeginsWith out.old out.new) }
+fn put_needs(needs: &[Need], room: &mut Room, start: usize) -> usize
+    requires fits { 84 * length needs.now ≤ start }
+    requires within { start ≤ 600 }
+    ensures start { (result ≤ start) × (start ≤ result + 84 * length needs.now) }
+    ensures text { drop result room.new ≡ spaced (map need_token needs.now) ++ drop start room.old }
 {
-    for need in needs {
-        print_need(need, out)?;
+    let mut begin = start;
+    let mut left = needs.len();
+    while left > 0 {
+        left -= 1;
+        begin = put_need(&needs[left], room, begin);
     }
-    Ok(())
+    begin
 }
 
-fn print_need(need: &Need, out: &mut Bytes) -> Result<(), NoMemory>
-    ensures ok { OnOk result (out.new ≡ out.old ++ spaced (need_token need.now ∷ [])) }
-    ensures err { OnErr result (BeginsWith out.old out.new) }
+fn put_need(need: &Need, room: &mut Room, start: usize) -> usize
+    requires fits { 84 ≤ start }
+    requires within { start ≤ 600 }
+    ensures start { (result ≤ start) × (start ≤ result + 84) }
+    ensures text { drop result room.new ≡ spaced (need_token need.now ∷ []) ++ drop start room.old }
 {
-    let mut text = ShortText::new();
-    text.put_marked(b':', need.stale);
-    text.put_marked(b':', need.order);
-    text.put_marked(b':', need.num);
-    text.put_marked(b' ', u64::from(need.conit));
-    out.append(text.bytes())
+    let start = put_number(b':', need.stale, room, start);
+    let start = put_number(b':', need.order, room, start);
+    let start = put_number(b':', need.num, room, start);
+    put_number(b' ', u64::from(need.conit), room, start)
 }

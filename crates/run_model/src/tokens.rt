@@ -43,7 +43,7 @@ pub fn put_row(word: &[u8], numbers: &[u64], out: &mut Bytes) -> Result<(), NoMe
 }
 
 // Puts a word and numbers, with a space before each.
-pub(crate) fn add_row(row: &mut ShortText, word: &[u8], numbers: &[u64])
+fn add_row(row: &mut ShortText, word: &[u8], numbers: &[u64])
     requires { length word.now + 21 * length numbers.now < row.old.room }
     ensures items { row.new.items ≡ spaced (word.now ∷ map decimal numbers.now) ++ row.old.items }
     ensures room { row.old.room ≤ row.new.room + (length word.now + 1 + 21 * length numbers.now) }
@@ -53,7 +53,7 @@ pub(crate) fn add_row(row: &mut ShortText, word: &[u8], numbers: &[u64])
 }
 
 // Puts numbers, with a space before each.
-pub(crate) fn add_numbers(row: &mut ShortText, numbers: &[u64])
+fn add_numbers(row: &mut ShortText, numbers: &[u64])
     requires { 21 * length numbers.now ≤ row.old.room }
     ensures items { row.new.items ≡ spaced (map decimal numbers.now) ++ row.old.items }
     ensures room { row.old.room ≤ row.new.room + 21 * length numbers.now }
@@ -65,103 +65,7 @@ pub(crate) fn add_numbers(row: &mut ShortText, numbers: &[u64])
     }
 }
 
-/// Appends two words, a key, and a number with its sign, with a space before each.
-pub(crate) fn put_change(
-    first: &[u8],
-    word: &[u8],
-    key: u64,
-    number: i64,
-    out: &mut Bytes,
-) -> Result<(), NoMemory>
-    requires first { length first.now ≤ 16 }
-    requires word { length word.now ≤ 16 }
-    ensures ok { OnOk result
-        (out.new ≡ out.old ++ spaced (first.now ∷ word.now ∷ decimal key ∷ signed_decimal number ∷ [])) }
-    ensures err { OnErr result (BeginsWith out.old out.new) }
-{
-    let mut row = ShortText::new();
-    row.put_marked_signed(b' ', number);
-    row.put_marked(b' ', key);
-    row.put_word(b' ', word);
-    row.put_word(b' ', first);
-    out.append(row.bytes())
-}
-
-/// Appends two words and numbers, with a space before each.
-pub(crate) fn put_two_words(
-    first: &[u8],
-    word: &[u8],
-    numbers: &[u64],
-    out: &mut Bytes,
-) -> Result<(), NoMemory>
-    requires first { length first.now ≤ 5 }
-    requires word { length word.now ≤ 10 }
-    requires few { length numbers.now ≤ 4 }
-    ensures ok { OnOk result (out.new ≡ out.old ++ spaced (first.now ∷ word.now ∷ map decimal numbers.now)) }
-    ensures err { OnErr result (BeginsWith out.old out.new) }
-{
-    let mut row = ShortText::new();
-    add_row(&mut row, word, numbers);
-    row.put_word(b' ', first);
-    out.append(row.bytes())
-}
-
-/// Appends `=`, a reply's name, what it is about, and its numbers, with a space before each.
-pub(crate) fn put_reply_at(
-    word: &[u8],
-    conit: u32,
-    replica: u32,
-    numbers: &[u64],
-    out: &mut Bytes,
-) -> Result<(), NoMemory>
-    requires { length word.now ≤ 10 }
-    ensures ok { OnOk result
-        (out.new ≡ out.old ++ spaced (codes "=" ∷ word.now ∷ map decimal (conit ∷ replica ∷ numbers.now))) }
-    ensures err { OnErr result (BeginsWith out.old out.new) }
-{
-    let about = [u64::from(conit), u64::from(replica)];
-    put_two_words(b"=", word, &about, out)?;
-    put_numbers(numbers, out)
-}
-
-/// Appends `= value`, a number and more numbers, with a space before each.
-pub(crate) fn put_values(value: i64, sums: &[i64], out: &mut Bytes) -> Result<(), NoMemory>
-    requires { length sums.now ≤ 4 }
-    ensures ok { OnOk result
-        (out.new ≡ out.old ++ spaced (codes "=" ∷ codes "value" ∷ map signed_decimal (value ∷ sums.now))) }
-    ensures err { OnErr result (BeginsWith out.old out.new) }
-{
-    let mut row = ShortText::new();
-    row.put_marked_signed(b' ', value);
-    row.put_word(b' ', b"value");
-    row.put_word(b' ', b"=");
-    out.append(row.bytes())?;
-    put_sums(sums, out)
-}
-
-// Appends at most four numbers with their signs, with a space before each.
-fn put_sums(sums: &[i64], out: &mut Bytes) -> Result<(), NoMemory>
-    requires { length sums.now ≤ 4 }
-    ensures ok { OnOk result (out.new ≡ out.old ++ spaced (map signed_decimal sums.now)) }
-    ensures err { OnErr result (out.new ≡ out.old) }
-{
-    let mut row = ShortText::new();
-    add_sums(&mut row, sums);
-    out.append(row.bytes())
-}
-
-// Puts numbers with their signs, with a space before each.
-fn add_sums(row: &mut ShortText, sums: &[i64])
-    requires { 22 * length sums.now ≤ row.old.room }
-    ensures items { row.new.items ≡ spaced (map signed_decimal sums.now) ++ row.old.items }
-{
-    let mut left = sums.len();
-    while left > 0 {
-        left -= 1;
-        row.put_marked_signed(b' ', sums[left]);
-    }
-}
-
+/// Appends numbers, with a space before each.
 pub(crate) fn put_numbers(numbers: &[u64], out: &mut Bytes) -> Result<(), NoMemory>
     ensures ok { OnOk result (out.new ≡ out.old ++ spaced (map decimal numbers.now)) }
     ensures err { OnErr result (BeginsWith out.old out.new) }
