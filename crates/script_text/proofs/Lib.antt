@@ -6,3 +6,5 @@ pub mod RangesKept
 pub mod ScriptRun
 pub mod ReaderLemmas
 pub mod Begun
+pub mod AheadLemmas
+pub mod GoodLemmas

@@ -1,7 +1,7 @@
 -- Scripts as their reader has them, growing by a line.
-use Rattle.std.proofs.Common.{◌≡◌, ℕ, Bool, true, false, not, ◌||◌, List, [], ◌∷◌, ◌++◌, Option, Some, None, Result, Ok, Err, cond, length, refl, sym, ap, ◌∙◌}
+use Rattle.std.proofs.Common.{◌≡◌, ℕ, Bool, true, false, not, ◌||◌, List, [], ◌∷◌, ◌++◌, Result, Ok, Err, length, refl, ap, ◌∙◌}
 use Rattle.std.specs.List.{fold}
-use Rattle.std.specs.Prelude.{replicate, MatchOption}
+use Rattle.std.specs.Prelude.{replicate, OnOk}
 use Rattle.std.proofs.lemmas.List.{length-set, length-replicate}
 use Rattle.std.proofs.lemmas.List.Folds.{list_any-append}
 use Rattle.tact_base.specs.Setup.{Setup, IsSetup}
@@ -10,14 +10,13 @@ use Rattle.run_model.specs.declared.script_line.Line.TheVariants as line
 use Rattle.run_model.proofs.PrefixLemmas.{EachAfter-nil, EachAfter-push}
 use Rattle.script_text.specs.Scripts.{FitsAfter, IsScript}
 use Rattle.script_text.specs.Sending.{with_sent, sent_after, sent_by}
-use Rattle.run_model.specs.declared.status.LineKind.{LineKind}
-use Rattle.run_model.specs.declared.status.LineKind.TheVariants.{LoansOver}
 use Rattle.run_record.specs.declared.line_fault.LineFault.{LineFault}
 use Rattle.run_record.specs.declared.line_fault.LineFault.TheVariants as faults
-use Rattle.run_record.specs.Fields.{Fails}
-use Rattle.script_text.specs.Readings.{IsBegun, IsNextSetup}
-use Rattle.script_text.specs.Setups.{opening, setup_of, setup_after, sets_up, is_past_setup}
-use Rattle.script_text.specs.Texts.{line_after, later_line}
+use Rattle.run_record.specs.Fields.{Gives}
+use Rattle.script_text.specs.Readings.{IsBegun}
+use Rattle.script_text.specs.Setups.{opening, setup_of, sets_up, is_past_setup}
+use Rattle.script_text.specs.Forms.{later_at}
+use Rattle.script_text.specs.Texts.{line_after, later_line, of_whole, with_line}
 
 length-with_sent : (sent : List (List ℕ)) (from to : ℕ) → length (with_sent sent from to) ≡ length sent
 length-with_sent sent from to = length-set sent from _
@@ -64,27 +63,17 @@ unfolding line_after
 line_after_is [] ts setup past sent script setup-is past-is sent-is = absurd script
 line_after_is (first ∷ rest) ts setup past sent script setup-is past-is sent-is = rw (setup-is, past-is, sent-is) refl
 
--- the setup after a line, by what was made of it
-pub next_is : (s : Setup) (l : Line) (next : Option Setup) (old new : Setup)
-    → old ≡ s
-    → MatchOption next (new ≡ old) (λ made. new ≡ made)
-    → IsNextSetup s l next
-    → new ≡ setup_after s l
-next_is s l None old new here kept is = kept ∙ here ∙ sym is
-next_is s l (Some made) old new here kept is = kept ∙ sym is
-
--- the fault of a line whose loans pass its alpha comes first
-kind_or : LineKind → Result Bool LineKind → LineKind
-kind_or d (Ok b) = d
-kind_or d (Err kind) = kind
-
-pub over_fails : (over : Bool) (rest : Result Line LineKind) (fault : LineFault)
-    → Fails fault (cond over (Err LoansOver) (let no : Result Bool LineKind = Ok false in no))
-    → Fails fault (cond over (Err LoansOver) rest)
-unfolding kind_or
-over_fails over rest faults.NoMemory failed = tt
-over_fails true rest (faults.Kind kind) failed = ap (λ (r : Result Bool LineKind). Err (kind_or LoansOver r)) failed
-over_fails false rest (faults.Kind kind) failed = cc
+-- the lines with a later line, by what is judged of it
+pub joined_is : {X : Type 0} (result : Result X LineFault) (ls new : List Line) (ts : List (List ℕ)) (l : Line) (setup : Setup) (past : Bool) (sent : List (List ℕ))
+    → line_after ls ts ≡ later_line setup past sent ts
+    → later_at setup.replicas setup.conits ts ≡ Ok l
+    → Gives (λ _. l) result (of_whole setup past sent l)
+    → OnOk result (new ≡ ls ++ l ∷ [])
+    → Gives (λ _. new) result (with_line ls ts)
+unfolding with_line later_line
+joined_is (Ok x) ls new ts l setup past sent after at whole added = rw (after, at, whole, added) refl
+joined_is (Err faults.NoMemory) ls new ts l setup past sent after at whole added = tt
+joined_is (Err (faults.Kind kind)) ls new ts l setup past sent after at whole added = rw (after, at, whole) refl
 
 -- what a `start` line begins
 pub start_is_begun : (replicas conits alpha loan : ℕ) (config : Setup)

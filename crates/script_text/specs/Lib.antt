@@ -1,4 +1,5 @@
 pub mod Words
+pub mod GoodLines
 pub mod Setups
 pub mod Sending
 pub mod LineRanges

@@ -1,10 +1,10 @@
 -- What the reader of a script keeps of the lines so far.
-use Rattle.std.specs.Prelude.{◌≡◌, false, List, [], ◌∷◌, Option, Some, None}
+use Rattle.std.specs.Prelude.{◌≡◌, false, [], ◌∷◌}
 use Rattle.tact_base.specs.Setup.{Setup}
 use Rattle.run_model.specs.declared.script_line.Line.{Line}
 use Rattle.script_text.specs.Scripts.{IsScript}
 use Rattle.script_text.specs.Sending.{sent_by}
-use Rattle.script_text.specs.Setups.{setup_of, setup_after, is_past_setup}
+use Rattle.script_text.specs.Setups.{setup_of, is_past_setup}
 use Rattle.script_text.specs.declared.reader.Reader.{Reader}
 
 pub record IsReading (reader : Reader) : Type 0 where
@@ -12,11 +12,6 @@ pub record IsReading (reader : Reader) : Type 0 where
   pub past : reader.past ≡ is_past_setup reader.lines
   pub sent : reader.sent.receivers.items ≡ sent_by reader.lines
   pub script : IsScript reader.lines
-
--- the setup that a line makes of one, if it sets up
-abbrev pub IsNextSetup : Setup → Line → Option Setup → Type 0
-IsNextSetup setup line None = setup_after setup line ≡ setup
-IsNextSetup setup line (Some next) = setup_after setup line ≡ next
 
 -- a first line, and the setup that it makes
 pub record IsBegun (first : Line) (config : Setup) : Type 0 where

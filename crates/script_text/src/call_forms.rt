@@ -6,12 +6,11 @@ ghost use Rattle.run_record.specs.Fields.{Gives};
 ghost use Rattle.script_text.specs.LineRanges.{bare, IsLineInRange};
 ghost use Rattle.script_text.specs.Forms.{write_line, held_line, reserve_line, release_line, read_line};
 
+use crate::fields::{client_at, number_at, op_at, replica_at};
 use crate::forms::conit_at;
+use crate::lists::{needs_at, weights_at};
 use run_model::{Line, LineKind};
-use run_record::{
-    LineFault, ListEnd, client_at, end_at, needs_at, number_at, op_at, replica_at, weight_at,
-    weights_at,
-};
+use run_record::{LineFault, end_at, weight_at};
 use tact_base::{AMOUNT_MAX, KEY_MAX};
 
 /// `write R K OP WEIGHT..`
@@ -25,7 +24,7 @@ pub(crate) fn write_line(rest: &[u8], replicas: u32, conits: u32) -> Result<Line
     let (replica, rest) = replica_at(rest, replicas)?;
     let (client, rest) = client_at(rest)?;
     let (op, rest) = op_at(rest)?;
-    let (weights, rest) = match weights_at(rest, conits, ListEnd::Line) {
+    let (weights, rest) = match weights_at(rest, conits) {
         Ok(read) => read,
         Err(fault) => return Err(fault),
     };
@@ -112,7 +111,7 @@ pub(crate) fn read_line(rest: &[u8], replicas: u32, conits: u32) -> Result<Line,
     let (replica, rest) = replica_at(rest, replicas)?;
     let (client, rest) = client_at(rest)?;
     let (key, rest) = number_at(rest, KEY_MAX)?;
-    let (needs, rest) = match needs_at(rest, conits, ListEnd::Line) {
+    let (needs, rest) = match needs_at(rest, conits) {
         Ok(read) => read,
         Err(fault) => return Err(fault),
     };

@@ -8,7 +8,7 @@ ghost use Rattle.script_text.specs.Forms.{first_at, later_at, later_by, AreStart
 use crate::call_forms::{held_line, read_line, release_line, reserve_line, write_line};
 use crate::forms::{at_line, bound_line, ref_line, restart_line, show_line, start_line};
 use crate::peer_forms::{back_line, lend_line, send_line, sync_line, take_line};
-use crate::word::{Word, word_of};
+use crate::word::{Word, word_at, word_of};
 use run_model::{Line, LineKind};
 use run_record::{LineFault, token_at};
 use std::alloc::Global;
@@ -72,8 +72,8 @@ pub(crate) fn later_at(
     ensures names { IfOk result (IsLineInRange (bare replicas conits)) }
     ensures line { Gives (λ x. x) result (later_at replicas conits (tokens raw.now)) }
 {
-    let (token, rest) = token_at(raw)?;
-    match word_of(token) {
+    let (word, rest) = word_at(raw)?;
+    match word {
         None => Err(LineFault::Kind(LineKind::UnknownWord)),
         Some(word) => later_by(alloc, word, rest, replicas, conits),
     }

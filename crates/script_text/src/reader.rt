@@ -1,27 +1,32 @@
 //! The reader of a script, line by line.
-ghost use Rattle.std.specs.Prelude.{◌≡◌, ◌+◌, ◌<◌, ◌≤◌, ◌||◌, not, ℕ, List, [], ◌∷◌, ◌++◌, OnOk, IfOk, IfErr, IfNone, IfSome, MatchOption, Result, Ok, Err, Option, Some, None, length};
+ghost use Rattle.std.specs.Prelude.{◌≡◌, ◌+◌, ◌<◌, ◌≤◌, ◌||◌, not, ℕ, List, [], ◌∷◌, ◌++◌, OnOk, IfOk, IfErr, IfNone, IfSome, IsTrue, false, Result, Ok, Err, Option, Some, None, length};
 ghost use Rattle.std.specs.Option.{option_map};
 ghost use Rattle.tact_base.specs.declared.limits.TheConstants.{SCRIPT_LINES};
 ghost use Rattle.run_model.specs.declared.script_line.Line.{Line};
 ghost use Rattle.run_model.specs.declared.status.LineKind.{LineKind};
 ghost use Rattle.run_record.specs.Splitting.{tokens, raw_lines};
 ghost use Rattle.run_record.specs.Fields.{Gives, Fails};
+ghost use Rattle.run_record.specs.Lines.{fault_of_bytes};
 ghost use Rattle.script_text.specs.Forms.{AreStartNumbers};
+ghost use Rattle.script_text.specs.GoodLines.{IsGood};
 ghost use Rattle.script_text.specs.LineRanges.{IsLineInRange};
-ghost use Rattle.script_text.specs.Readings.{IsReading, IsBegun, IsNextSetup};
-ghost use Rattle.script_text.specs.Scripts.{IsPlacedBy, FitsWhere, FitsAfter};
+ghost use Rattle.script_text.specs.Readings.{IsReading, IsBegun};
+ghost use Rattle.script_text.specs.Scripts.{IsPlacedBy};
 ghost use Rattle.script_text.specs.Sending.{sent_after};
-ghost use Rattle.script_text.specs.Setups.{setup_of, sets_up};
-ghost use Rattle.script_text.specs.Texts.{fault_of, first_line, of_first, of_whole, later_line, line_after, with_line, lines_after, begun_by, read_from, goes_on, script_of, Reads};
+ghost use Rattle.script_text.specs.Setups.{bounded, setup_after, sets_up};
+ghost use Rattle.run_model.specs.declared.script_line.Line.TheVariants.{Bound};
+ghost use Rattle.tact_base.specs.Setup.{IsSetup};
+ghost use Rattle.script_text.specs.Texts.{fault_of, first_line, of_first, of_whole, with_line, lines_after, begun_by, read_from, goes_on, script_of, Reads};
 
 use crate::dispatch::{first_at, later_at};
 use crate::fault::ScriptFault;
+use crate::good_lines::are_good;
 use crate::sent::Sent;
 use crate::setups::{bounded, opening};
 use run_model::{Config, Line, LineKind};
 use run_record::{LineFault, fault_of_bytes, is_skipped, split_line};
 use std::alloc::Global;
-use tact_base::{Items, NoMemory, SCRIPT_LINES};
+use tact_base::{Items, LINE_MAX, NoMemory, SCRIPT_LINES};
 
 /// The lines of a script so far, the setup that they made, whether they are past it, and the messages that
 /// they sent.
@@ -33,16 +38,32 @@ pub(crate) struct Reader {
     pub(crate) sent: Sent,
 }
 
-// What is judged of every line, whatever it says.
+// What is judged of every line, whatever it says. That all its bytes are good may be known.
 #[tactic(auto, unfolding(crate::specs::Texts::fault_of))]
-fn fault_of(number: u64, raw: &[u8]) -> Option<LineKind>
+fn fault_of(number: u64, raw: &[u8], is_good: bool) -> Option<LineKind>
+    requires { IsTrue is_good → IsGood raw.now }
     ensures few { IfNone result (number ≤ SCRIPT_LINES) }
     ensures fault { result ≡ fault_of number raw.now }
 {
     if number > SCRIPT_LINES {
         Some(LineKind::TooManyLines)
+    } else if is_good {
+        fault_of_good(raw)
     } else {
         fault_of_bytes(raw)
+    }
+}
+
+// What is judged of the bytes of a line that has good ones alone.
+#[tactic(auto, unfolding(run_record::specs::Lines::fault_of_bytes))]
+fn fault_of_good(raw: &[u8]) -> Option<LineKind>
+    requires { IsGood raw.now }
+    ensures { result ≡ fault_of_bytes raw.now }
+{
+    if raw.len() > LINE_MAX {
+        Some(LineKind::LongLine)
+    } else {
+        None
     }
 }
 
@@ -91,156 +112,139 @@ fn on_line(number: u64, fault: LineFault) -> ScriptFault
     }
 }
 
-// What is judged of a whole line, and the setup that it makes, if it sets up.
-fn judge(
+// Makes the setup of a `bound` line where it may stand.
+fn bind(
+    alloc: Global,
+    config: &mut Config,
+    past: bool,
+    owner: u32,
+    conit: u32,
+    alpha: u64,
+    loan: u64,
+) -> Result<(), LineFault>
+    requires owner_in { owner < config.old.replicas }
+    requires conit_in { conit < config.old.conits }
+    ensures placed { OnOk result (IsSetup (bounded config.old owner conit alpha loan) × (past ≡ false)) }
+    ensures config { OnOk result (config.new ≡ bounded config.old owner conit alpha loan) }
+    ensures whole { Gives (λ _. Bound owner conit alpha loan) result
+        (of_whole config.old past [] (Bound owner conit alpha loan)) }
+{
+    let next = bounded(alloc, config, owner, conit, alpha, loan)?;
+    if past {
+        return Err(LineFault::Kind(LineKind::LateBound));
+    }
+    *config = next;
+    Ok(())
+}
+
+// What a line makes of the setup, of whether a script is past it, and of the messages that were sent, where the line
+// may stand.
+fn note(
     alloc: Global,
     line: &Line,
-    config: &Config,
-    past: bool,
-    sent: &Sent,
-) -> Result<Option<Config>, LineFault>
-    requires names { IsLineInRange config.now line.now }
-    requires all { length sent.now.receivers.items ≡ config.now.replicas }
-    ensures placed { OnOk result (IsPlacedBy config.now past sent.now.receivers.items line.now) }
-    ensures next { IfOk result (IsNextSetup config.now line.now) }
-    ensures whole { Gives (λ _. line.now) result (of_whole config.now past sent.now.receivers.items line.now) }
+    config: &mut Config,
+    past: &mut bool,
+    sent: &mut Sent,
+) -> Result<(), LineFault>
+    requires names { IsLineInRange config.old line.now }
+    requires all { length sent.old.receivers.items ≡ config.old.replicas }
+    ensures placed { OnOk result (IsPlacedBy config.old past.old sent.old.receivers.items line.now) }
+    ensures config { OnOk result (config.new ≡ setup_after config.old line.now) }
+    ensures past { OnOk result (past.new ≡ (past.old || not (sets_up line.now))) }
+    ensures sent { OnOk result (sent.new.receivers.items ≡ sent_after sent.old.receivers.items line.now) }
+    ensures whole { Gives (λ _. line.now) result (of_whole config.old past.old sent.old.receivers.items line.now) }
 {
     match line {
+        Line::Start { .. } => unreachable!(),
         Line::Bound {
             owner,
             conit,
             alpha,
             loan,
-        } => {
-            let next = bounded(alloc, config, *owner, *conit, *alpha, *loan)?;
-            if past {
-                return Err(LineFault::Kind(LineKind::LateBound));
-            }
-            Ok(Some(next))
-        }
+        } => return bind(alloc, config, *past, *owner, *conit, *alpha, *loan),
         Line::Take {
             replica,
             from,
             number,
         } => {
-            if sent.is_sent(*from, *number, *replica) {
-                Ok(None)
-            } else {
-                Err(LineFault::Kind(LineKind::NoMessage))
+            if !sent.is_sent(*from, *number, *replica) {
+                return Err(LineFault::Kind(LineKind::NoMessage));
             }
         }
-        _ => Ok(None),
-    }
-}
-
-// A later line that isn't skipped, where there is this setup and these messages were sent, and the setup that
-// it makes, if it sets up.
-#[tactic(auto, unfolding(crate::specs::Texts::later_line))]
-fn later_line(
-    alloc: Global,
-    raw: &[u8],
-    config: &Config,
-    past: bool,
-    sent: &Sent,
-) -> Result<(Line, Option<Config>), LineFault>
-    requires all { length sent.now.receivers.items ≡ config.now.replicas }
-    ensures fits { IfOk result (λ x. FitsWhere config.now past sent.now.receivers.items x.0) }
-    ensures next { IfOk result (λ x. IsNextSetup config.now x.0 x.1) }
-    ensures line { Gives (λ x. x.0) result (later_line config.now past sent.now.receivers.items (tokens raw.now)) }
-{
-    let line = later_at(alloc, raw, config.replicas(), config.conits())?;
-    let next = judge(alloc, &line, config, past, sent)?;
-    Ok((line, next))
-}
-
-// A later line that isn't skipped, after those that were read, and the setup that it makes, if it sets up.
-fn line_after(
-    reader: &Reader,
-    alloc: Global,
-    raw: &[u8],
-) -> Result<(Line, Option<Config>), LineFault>
-    requires { IsReading reader.now }
-    ensures fits { IfOk result (λ x. FitsAfter reader.now.lines x.0) }
-    ensures next { IfOk result (λ x. IsNextSetup (setup_of reader.now.lines) x.0 x.1) }
-    ensures line { Gives (λ x. x.0) result (line_after reader.now.lines (tokens raw.now)) }
-{
-    later_line(alloc, raw, &reader.config, reader.past, &reader.sent)
-}
-
-// Whether a script is past its setup after one more line.
-fn is_past(past: bool, line: &Line) -> bool
-    ensures { result ≡ (past || not (sets_up line.now)) }
-{
-    match line {
-        Line::Start { .. } => past,
-        Line::Bound { .. } => past,
-        _ => true,
-    }
-}
-
-// Adds the messages that a line sends, if it sends some.
-fn note_sent(sent: &mut Sent, line: &Line, config: &Config) -> Result<(), NoMemory>
-    requires names { IsLineInRange config.now line.now }
-    requires all { length sent.old.receivers.items ≡ config.now.replicas }
-    ensures { OnOk result (sent.new.receivers.items ≡ sent_after sent.old.receivers.items line.now) }
-{
-    match line {
         Line::Send {
             from,
             to,
             firsts: _,
-        } => sent.add(*from, *to),
+        } => sent.add(*from, *to)?,
         Line::Sync { first, second } => {
             sent.add(*first, *second)?;
-            sent.add(*second, *first)
+            sent.add(*second, *first)?;
         }
-        _ => Ok(()),
+        _ => {}
     }
+    *past = true;
+    Ok(())
 }
 
-// Replaces the setup by the next one, if there is one.
-fn set_config(config: &mut Config, next: Option<Config>)
-    ensures { MatchOption next (config.new ≡ config.old) (λ made. config.new ≡ made) }
-{
-    if let Some(made) = next {
-        *config = made;
-    }
-}
-
-// Adds a line that may follow those that were read.
-fn add_line(reader: &mut Reader, line: Line, next: Option<Config>) -> Result<(), NoMemory>
+// Adds a line where it may follow those that were read.
+fn join(reader: &mut Reader, alloc: Global, line: Line) -> Result<(), LineFault>
     requires reading { IsReading reader.old }
-    requires fits { FitsAfter reader.old.lines line }
-    requires next { IsNextSetup (setup_of reader.old.lines) line next }
+    requires names { IsLineInRange reader.old.config line }
     ensures reading { OnOk result (IsReading reader.new) }
     ensures added { OnOk result (reader.new.lines ≡ reader.old.lines ++ line ∷ []) }
+    ensures whole { Gives (λ _. line) result
+        (of_whole reader.old.config reader.old.past reader.old.sent.receivers.items line) }
 {
-    note_sent(&mut reader.sent, &line, &reader.config)?;
-    let past = is_past(reader.past, &line);
-    set_config(&mut reader.config, next);
-    reader.past = past;
+    note(
+        alloc,
+        &line,
+        &mut reader.config,
+        &mut reader.past,
+        &mut reader.sent,
+    )?;
     reader.lines.push_amply(line)?;
     Ok(())
 }
 
-// One more line of the text, after those that were read.
-#[tactic(auto, unfolding(crate::specs::Texts::lines_after, crate::specs::Texts::with_line))]
-fn read_line(reader: &mut Reader, alloc: Global, number: u64, raw: &[u8]) -> Result<(), LineFault>
+// A later line that isn't skipped, after those that were read.
+#[tactic(auto, unfolding(crate::specs::Texts::later_line, crate::specs::Texts::with_line))]
+fn read_tokens(reader: &mut Reader, alloc: Global, raw: &[u8]) -> Result<(), LineFault>
     requires { IsReading reader.old }
+    ensures reading { OnOk result (IsReading reader.new) }
+    ensures grows { OnOk result (length reader.new.lines ≤ length reader.old.lines + 1) }
+    ensures read { Gives (λ _. reader.new.lines) result (with_line reader.old.lines (tokens raw.now)) }
+{
+    let replicas = reader.config.replicas();
+    let conits = reader.config.conits();
+    match later_at(alloc, raw, replicas, conits) {
+        Ok(line) => join(reader, alloc, line),
+        Err(fault) => Err(fault),
+    }
+}
+
+// One more line of the text, after those that were read.
+#[tactic(auto, unfolding(crate::specs::Texts::lines_after))]
+fn read_line(
+    reader: &mut Reader,
+    alloc: Global,
+    number: u64,
+    raw: &[u8],
+    is_good: bool,
+) -> Result<(), LineFault>
+    requires reading { IsReading reader.old }
+    requires good { IsTrue is_good → IsGood raw.now }
     ensures reading { OnOk result (IsReading reader.new) }
     ensures few { OnOk result (number ≤ SCRIPT_LINES) }
     ensures grows { OnOk result (length reader.new.lines ≤ length reader.old.lines + 1) }
     ensures read { Gives (λ _. reader.new.lines) result (lines_after number reader.old.lines raw.now) }
 {
-    if let Some(kind) = fault_of(number, raw) {
+    if let Some(kind) = fault_of(number, raw, is_good) {
         return Err(LineFault::Kind(kind));
     }
     if is_skipped(raw) {
         return Ok(());
     }
-    let (line, next) = line_after(reader, alloc, raw)?;
-    add_line(reader, line, next)?;
-    Ok(())
+    read_tokens(reader, alloc, raw)
 }
 
 // The first line of the text, or a later one where all before it are skipped: what it begins, if it isn't
@@ -251,7 +255,7 @@ fn first_of(alloc: Global, number: u64, raw: &[u8]) -> Result<Option<(Line, Conf
     ensures begun { IfOk result (λ found. IfSome found (λ x. IsBegun x.0 x.1)) }
     ensures read { Gives (λ found. begun_by (option_map (λ x. x.0) found)) result (lines_after number [] raw.now) }
 {
-    if let Some(kind) = fault_of(number, raw) {
+    if let Some(kind) = fault_of(number, raw, false) {
         return Err(LineFault::Kind(kind));
     }
     if is_skipped(raw) {
@@ -323,11 +327,12 @@ pub(crate) fn read_later(
     ensures ok { OnOk result (read_from first reader.old.lines (raw_lines text.now) ≡ Ok reader.new.lines) }
     ensures err { IfErr result (λ fault. Reads (Err fault) (read_from first reader.old.lines (raw_lines text.now))) }
 {
+    let is_good = are_good(text);
     let mut rest = text;
     let mut number = first;
     while !rest.is_empty() {
         let (raw, after) = split_line(rest);
-        match read_line(reader, alloc, number, raw) {
+        match read_line(reader, alloc, number, raw, is_good) {
             Err(fault) => return Err(on_line(number, fault)),
             Ok(()) => {}
         }
