@@ -40,9 +40,13 @@ IsOf message (act.Send sent) = message ≡ sent
 IsOf message (act.Take taken) = message ≡ taken
 IsOf message other = ⊥
 
--- all messages that each replica sent, at hand
-abbrev pub AreSent : Setup → List Entry → List (List (Option Message)) → Type 0
-AreSent setup history sent = (from : ℕ) → from < setup.replicas → slice_index_or sent from [] ≡ map Some (sent_in (part_of history from))
+-- what entries do
+abbrev pub acts_of : List Entry → List Act
+acts_of entries = map (λ (entry : Entry). entry.act) entries
+
+-- the takings of all messages that each replica sent
+abbrev pub AreSent : Setup → List Entry → List (List Entry) → Type 0
+AreSent setup history sent = (from : ℕ) → from < setup.replicas → acts_of (slice_index_or sent from []) ≡ map act.Take (sent_in (part_of history from))
 
 -- What a stage keeps: the replicas stand for what was played, which is a run; all messages that were sent; and the book
 -- of all writes, where it prints.

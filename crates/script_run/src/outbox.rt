@@ -1,24 +1,26 @@
 //! The messages that one replica sent.
-ghost use Rattle.std.specs.Prelude.{◌≡◌, ◌<◌, [], ◌∷◌, ◌++◌, length, slice_index_or, slice_set, Some, None, OnOk};
+ghost use Rattle.std.specs.Prelude.{◌≡◌, ◌<◌, [], ◌∷◌, ◌++◌, length, slice_get, slice_set, Some, OnOk};
+ghost use Rattle.run_model.specs.declared.entry.Entry.{Entry as Taking};
 
-use run_model::Message;
+use run_model::Entry;
 use std::alloc::Global;
 use std::marker::Model;
 use tact_base::NoMemory;
 
-/// The messages that one replica sent, by their numbers. One that is at hand elsewhere is missing meanwhile.
+/// The messages that one replica sent, by their numbers, each within the entry of its taking: so a message that is taken
+/// needn't be moved.
 #[derive(Drop)]
 pub(crate) struct Outbox {
-    messages: Vec<Option<Message>>,
+    takings: Vec<Entry>,
 }
 
 impl Model for Outbox {
-    ghost use Rattle.std.specs.Prelude.{List, Option};
-    ghost use Rattle.run_model.specs.declared.entry.Message.{Message as Sent};
+    ghost use Rattle.std.specs.Prelude.{List};
+    ghost use Rattle.run_model.specs.declared.entry.Entry.{Entry as Taking};
 
-    ghost Value = { List (Option Sent) };
+    ghost Value = { List Taking };
 
-    ghost view = { λ o. o.messages.items };
+    ghost view = { λ o. o.takings.items };
 }
 
 impl Outbox {
@@ -27,7 +29,7 @@ impl Outbox {
         ensures { result ≡ [] }
     {
         Outbox {
-            messages: Vec::new(alloc),
+            takings: Vec::new(alloc),
         }
     }
 
@@ -35,31 +37,38 @@ impl Outbox {
     pub(crate) fn len(&self) -> usize
         ensures { result ≡ length self.now }
     {
-        self.messages.len()
+        self.takings.len()
     }
 
-    /// Keeps the next one.
-    pub(crate) fn push(&mut self, message: Message) -> Result<(), NoMemory>
-        ensures { OnOk result (self.new ≡ self.old ++ Some message ∷ []) }
+    /// Keeps the taking of the next one. Memory grows fourfold, and for 1,024 of them at first, where that can be had: it
+    /// is then memory of its own, which the system moves without copying it.
+    pub(crate) fn push(&mut self, taking: Entry) -> Result<(), NoMemory>
+        ensures { OnOk result (self.new ≡ self.old ++ taking ∷ []) }
     {
-        self.messages.push(Some(message))?;
+        if self.takings.len() == self.takings.capacity() {
+            let ample = self.takings.len().saturating_mul(3).max(1_024);
+            let _ = self.takings.reserve(ample);
+        }
+        self.takings.push(taking)?;
         Ok(())
     }
 
-    /// Gives the one of a number, which is then missing.
-    pub(crate) fn lend(&mut self, number: usize) -> Option<Message>
+    /// The taking of a number, by this replica at this moment.
+    pub(crate) fn date(&mut self, number: usize, replica: u32, moment: u64)
         requires { number < length self.old }
-        ensures lent { result ≡ slice_index_or self.old number None }
-        ensures missing { self.new ≡ slice_set self.old number None }
+        ensures { (taking : Taking) → slice_get self.old number ≡ Some taking
+            → self.new ≡ slice_set self.old number (record taking { replica = replica; moment = moment }) }
     {
-        self.messages[number].take()
+        let taking = &mut self.takings[number];
+        taking.replica = replica;
+        taking.moment = moment;
     }
 
-    /// Takes it back.
-    pub(crate) fn take_back(&mut self, number: usize, message: Message)
-        requires { number < length self.old }
-        ensures { self.new ≡ slice_set self.old number (Some message) }
+    /// The taking of a number.
+    pub(crate) fn at(&self, number: usize) -> &Entry
+        requires { number < length self.now }
+        ensures { slice_get self.now number ≡ Some result.now }
     {
-        self.messages[number] = Some(message);
+        &self.takings[number]
     }
 }

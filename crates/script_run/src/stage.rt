@@ -94,16 +94,16 @@ impl Stage {
                 client,
                 op,
                 weights,
-            } => {
-                let weights = weights.clone()?;
-                self.call(
-                    *replica,
-                    *client,
-                    Request::Write { weights, op: *op },
-                    witness,
-                    out,
-                )
-            }
+            } => self.call(
+                *replica,
+                *client,
+                Request::Write {
+                    weights: *weights,
+                    op: *op,
+                },
+                witness,
+                out,
+            ),
             Line::Held {
                 replica,
                 client,
@@ -154,16 +154,16 @@ impl Stage {
                 client,
                 key,
                 needs,
-            } => {
-                let needs = needs.clone()?;
-                self.call(
-                    *replica,
-                    *client,
-                    Request::Read { key: *key, needs },
-                    witness,
-                    out,
-                )
-            }
+            } => self.call(
+                *replica,
+                *client,
+                Request::Read {
+                    key: *key,
+                    needs: *needs,
+                },
+                witness,
+                out,
+            ),
             Line::Send { from, to, firsts } => self.send(*from, *to, firsts, witness, out),
             Line::Take {
                 replica,

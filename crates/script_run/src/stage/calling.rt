@@ -82,37 +82,30 @@ fn note_call(
     if !prints {
         return Ok(());
     }
-    match write_of(replica, moment, request, reply)? {
-        None => Ok(()),
-        Some(write) => book.accept(&write),
-    }
-}
-
-// The write that a call accepted, if it did.
-fn write_of(
-    replica: u32,
-    moment: u64,
-    request: &Request,
-    reply: &Reply,
-) -> Result<Option<Write>, NoMemory>
-    ensures { IfOk result (λ write. write ≡ accepted_as replica moment (asked_write request.now) (done_as reply.now)) }
-{
     let Some((index, stamp)) = done_as(reply) else {
-        return Ok(None);
+        return Ok(());
     };
-    let (weights, op) = match request {
-        Request::Write { weights, op } => (weights.clone()?, *op),
-        Request::Held { weight, op } => (only(*weight)?, *op),
-        Request::Reserve { .. } | Request::Release { .. } | Request::Read { .. } => return Ok(None),
-    };
-    Ok(Some(Write {
-        origin: replica,
-        index,
-        stamp,
-        moment,
-        weights,
-        op,
-    }))
+    match request {
+        Request::Write { weights, op } => book.accept(&Write {
+            origin: replica,
+            index,
+            stamp,
+            moment,
+            weights: *weights,
+            op: *op,
+        }),
+        Request::Held { weight, op } => book.accept(&Write {
+            origin: replica,
+            index,
+            stamp,
+            moment,
+            weights: only(*weight)?,
+            op: *op,
+        }),
+        Request::Reserve { .. } => Ok(()),
+        Request::Release { .. } => Ok(()),
+        Request::Read { .. } => Ok(()),
+    }
 }
 
 // The index and the stamp of an accepted write.

@@ -1,13 +1,17 @@
 //! Messages that are sent and taken.
-ghost use Rattle.std.specs.Prelude.{◌≡◌, ◌≢◌, ◌<◌, ◌∷◌, [], ◌++◌, None, Some, length, slice_index_or, slice_set, OnOk};
+ghost use Rattle.std.specs.Prelude.{◌≡◌, ◌≢◌, ◌<◌, ◌∷◌, [], ◌++◌, true, Some, length, slice_get, slice_index_or, slice_set, OnOk};
 ghost use Rattle.run_model.specs.ScriptRuns.{sends, takes, passes};
+ghost use Rattle.run_model.specs.Text.{entry_text};
+ghost use Rattle.run_model.specs.declared.entry.Act.TheVariants.{Take};
+ghost use Rattle.run_model.specs.declared.entry.Entry.{Entry as Made};
 ghost use Rattle.script_text.specs.Fronts.{IsNamed};
 ghost use Rattle.script_run.specs.Stages.{IsOf};
 
 use super::Stage;
 use crate::outbox::Outbox;
 use crate::witness::Witness;
-use run_model::{Act, Entry, Message};
+use given_up::GivenUp;
+use run_model::{Act, Entry, Message, line_of};
 use tact_base::{Bytes, NoMemory, Numbers};
 
 impl Stage {
@@ -42,7 +46,7 @@ impl Stage {
             act: Act::Send { message },
         };
         self.enter(&entry, witness, out)?;
-        keep(&mut self.sent, from, message_in(entry.act))
+        keep(&mut self.sent, from, to, message_in(entry.act))
     }
 
     // One takes the message that another sent under a number.
@@ -64,18 +68,15 @@ impl Stage {
         ensures saw { OnOk result (W.saw witness.new self.new.history.items) }
     {
         let moment = self.moment_of(replica);
-        let message = lend(&mut self.sent, from, number);
-        let Ok(()) = self.set.take(replica, self.handed, &message) else {
+        date(&mut self.sent, from, number, replica, moment);
+        let entry = taking(&self.sent, from, number);
+        let Ok(()) = self
+            .set
+            .take(replica, self.handed, message_taken(&entry.act))
+        else {
             return Err(NoMemory);
         };
-        let entry = Entry {
-            replica,
-            moment,
-            act: Act::Take { message },
-        };
-        self.enter(&entry, witness, out)?;
-        take_back(&mut self.sent, from, number, message_in(entry.act));
-        Ok(())
+        tell(self.prints, &mut self.history, entry, witness, out)
     }
 
     // One sends to another, which takes the message.
@@ -102,38 +103,60 @@ impl Stage {
     }
 }
 
-// Keeps the next message of a replica.
-fn keep(sent: &mut Vec<Outbox>, from: u32, message: Message) -> Result<(), NoMemory>
+// Keeps the next message of a replica, with the one that is to take it.
+fn keep(sent: &mut Vec<Outbox>, from: u32, to: u32, message: Message) -> Result<(), NoMemory>
     requires { from < length sent.old.items }
-    ensures { OnOk result (sent.new.items ≡ slice_set sent.old.items from (slice_index_or sent.old.items from [] ++ Some message ∷ [])) }
+    ensures { OnOk result (sent.new.items ≡ slice_set sent.old.items from (slice_index_or sent.old.items from []
+        ++ (record { replica = to; moment = 0; act = Take message }) ∷ [])) }
 {
     let outbox = &mut sent[from as usize];
-    outbox.push(message)
+    outbox.push(Entry {
+        replica: to,
+        moment: 0,
+        act: Act::Take { message },
+    })
 }
 
-// Gives the message that one sent under a number, which is then missing.
-fn lend(sent: &mut Vec<Outbox>, from: u32, number: u64) -> Message
+// Dates the taking of the message that one sent under a number.
+fn date(sent: &mut Vec<Outbox>, from: u32, number: u64, replica: u32, moment: u64)
     requires from { from < length sent.old.items }
     requires number { number < length (slice_index_or sent.old.items from []) }
-    requires there { (message : Message) × (slice_index_or (slice_index_or sent.old.items from []) number None ≡ Some message) }
-    ensures lent { slice_index_or (slice_index_or sent.old.items from []) number None ≡ Some result }
-    ensures missing { sent.new.items ≡ slice_set sent.old.items from (slice_set (slice_index_or sent.old.items from []) number None) }
+    ensures { (taking : Made) → slice_get (slice_index_or sent.old.items from []) number ≡ Some taking
+        → sent.new.items ≡ slice_set sent.old.items from (slice_set (slice_index_or sent.old.items from []) number (record taking { replica = replica; moment = moment })) }
 {
     let outbox = &mut sent[from as usize];
-    match outbox.lend(number as usize) {
-        Some(message) => message,
-        None => unreachable!(),
+    outbox.date(number as usize, replica, moment);
+}
+
+// The taking of the message that one sent under a number.
+fn taking(sent: &Vec<Outbox>, from: u32, number: u64) -> &Entry
+    requires from { from < length sent.now.items }
+    requires number { number < length (slice_index_or sent.now.items from []) }
+    ensures { slice_get (slice_index_or sent.now.items from []) number ≡ Some result.now }
+{
+    sent[from as usize].at(number as usize)
+}
+
+// Tells a witness of an entry that was made and on which there is no comment, and appends its line, where the stage
+// prints.
+fn tell<W: Witness>(
+    prints: bool,
+    history: &mut GivenUp<Entry>,
+    entry: &Entry,
+    witness: &mut W,
+    out: &mut Bytes,
+) -> Result<(), NoMemory>
+    requires saw { W.saw witness.old history.old.items }
+    ensures told { OnOk result ((history.new.items ≡ history.old.items ++ entry.now ∷ [])
+        × (prints ≡ true → out.new ≡ out.old ++ entry_text entry.now ++ 10 ∷ [])) }
+    ensures saw { OnOk result (W.saw witness.new history.new.items) }
+{
+    if prints {
+        line_of(entry, out)?;
     }
-}
-
-// Takes it back.
-fn take_back(sent: &mut Vec<Outbox>, from: u32, number: u64, message: Message)
-    requires from { from < length sent.old.items }
-    requires number { number < length (slice_index_or sent.old.items from []) }
-    ensures { sent.new.items ≡ slice_set sent.old.items from (slice_set (slice_index_or sent.old.items from []) number (Some message)) }
-{
-    let outbox = &mut sent[from as usize];
-    outbox.take_back(number as usize, message);
+    witness.sees(entry)?;
+    *history = history.and(entry);
+    Ok(())
 }
 
 // The message of an act that sends or takes one.
@@ -144,5 +167,17 @@ fn message_in(act: Act) -> Message
     match act {
         Act::Send { message } | Act::Take { message } => message,
         Act::Call { .. } | Act::Lend { .. } | Act::Back { .. } | Act::Restart => unreachable!(),
+    }
+}
+
+// The message of an act that takes one.
+fn message_taken(act: &Act) -> &Message
+    requires { (message : Message) × (act.now ≡ Take message) }
+    ensures { act.now ≡ Take result.now }
+{
+    match act {
+        Act::Take { message } => message,
+        Act::Call { .. } | Act::Send { .. } | Act::Lend { .. } | Act::Back { .. } | Act::Restart =>
+            unreachable!(),
     }
 }

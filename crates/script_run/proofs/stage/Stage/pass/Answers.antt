@@ -1,10 +1,11 @@
-use Rattle.std.proofs.Common.{◌≡◌, ℕ, List, [], length, Some, ap, ap₂, ◌∙◌, subst, arith}
-use Rattle.std.proofs.lemmas.List.{get_or_read, length-map}
+use Rattle.std.proofs.Common.{◌≡◌, ℕ, List, [], length, get_or, ap, ap₂, ◌∙◌, subst, arith}
+use Rattle.std.proofs.lemmas.List.{get_or_read}
 use Rattle.std.proofs.lemmas.List.FromFn.{length-map-range_with_len}
 use Rattle.std.proofs.lemmas.Result.{on_ok_weaker}
 use Rattle.run_model.specs.Histories.{part_of, sent_in}
 use Rattle.run_model.specs.ScriptRuns.{Played, zeros, sends, takes}
 use Rattle.script_run.specs.Stages.{Enters, played_in}
+use Rattle.script_run.proofs.Outboxes.{as_many_sent}
 use Rattle.script_run.proofs.Passing.{sent_is_named}
 use Rattle.script_run.proofs.Stepping.{enters_twice}
 use Rattle.script_run.proofs.stage.Stage.pass.Goals as goal
@@ -23,8 +24,8 @@ take-requires-clause-message g c =
     let messages = sent_in (part_of old.history.items from) in
     let number : c.len-number.result ≡ length messages =
     c.len-number.ensures
-    ∙ ap length (get_or_read old.sent.items from c.index.result.now (omega (arith, c.requires.from, keeps.sized)) c.index.ensures [] ∙ keeps.sent from c.requires.from)
-    ∙ length-map messages Some in
+    ∙ ap length (get_or_read old.sent.items from c.index.result.now (omega (arith, c.requires.from, keeps.sized)) c.index.ensures [])
+    ∙ as_many_sent (get_or old.sent.items from []) messages (keeps.sent from c.requires.from) in
     sent_is_named old c.send.new.self from c.args.to c.len-number.result c.in_ok-firsts.firsts c.args.out.now c.send.new.out c.in_ok-send.ensures.enters number
 
 pub returns-clause-enters : goal.returns-clause-enters
@@ -38,8 +39,8 @@ returns-clause-enters g c =
     let messages = sent_in (part_of old.history.items from) in
     let number : c.len-number.result ≡ length messages =
     c.len-number.ensures
-    ∙ ap length (get_or_read old.sent.items from c.index.result.now (omega (arith, c.requires.from, keeps.sized)) c.index.ensures [] ∙ keeps.sent from c.requires.from)
-    ∙ length-map messages Some in
+    ∙ ap length (get_or_read old.sent.items from c.index.result.now (omega (arith, c.requires.from, keeps.sized)) c.index.ensures [])
+    ∙ as_many_sent (get_or old.sent.items from []) messages (keeps.sent from c.requires.from) in
     let firsts : c.in_ok-firsts.firsts ≡ zeros setup = c.in_ok-firsts.ensures.cases.1 (λ x y same. same) ∙ keeps.zeros in
     let played : played_in mid ≡ sends setup (played_in old) from c.args.to (zeros setup) = one.goes.played ∙ ap (λ (given : List ℕ). sends setup (played_in old) from c.args.to given) firsts in
     on_ok_weaker c.take.result

@@ -1,4 +1,4 @@
-use Rattle.std.proofs.Common.{◌≡◌, ℕ, ◌<◌, List, [], ◌∷◌, ◌++◌, length, get_or, set, Option, Some, refl, sym, ap, ap₂, ◌∙◌, subst, arith}
+use Rattle.std.proofs.Common.{◌≡◌, ℕ, ◌<◌, List, [], ◌∷◌, ◌++◌, length, get_or, set, refl, sym, ap, ap₂, ◌∙◌, subst, arith}
 use Rattle.std.proofs.lemmas.List.{length-set}
 use Rattle.std.proofs.lemmas.Result.{on_ok_weaker}
 use Rattle.run_model.specs.Messages.{message_of}
@@ -32,18 +32,21 @@ returns-clause-enters g c =
     let moment = ap (λ (moment : ℕ). let e : Entry = record { replica = from; moment = moment; act = act.Send message } in e) c.moment_of-moment.ensures in
     let made = is_made_quiet old keeps from c.requires.from c.send.new.self c.send.ensures.setup (λ part. act.Send message) c.in-Ok.ensures.goes_on entry
     moment tt mid refl refl refl refl refl in
-    let more : List (Option Message) = get_or old.sent.items from [] ++ Some message ∷ [] in
+    let taking : Entry = record { replica = c.args.to; moment = 0; act = act.Take message } in
+    let more : List Entry = get_or old.sent.items from [] ++ taking ∷ [] in
     let before : c.enter.new.self.sent.items ≡ old.sent.items = ap (λ (s : Stage). s.sent.items) c.in_ok-enter.ensures.entered.stage in
     let inside : from < length old.sent.items = omega (arith, c.requires.from, keeps.sized) in
     on_ok_weaker c.keep.result
     (λ kept.
     let all : last.sent.items ≡ set old.sent.items from more =
-    kept ∙ ap₂ (λ (sent : List (List (Option Message))) (m : Message). set sent from (get_or sent from [] ++ Some m ∷ [])) before c.message_in.ensures in
+    kept
+    ∙ ap₂ (λ (sent : List (List Entry)) (m : Message). let e : Entry = record { replica = c.args.to; moment = 0; act = act.Take m } in set sent from (get_or sent from [] ++ e ∷ []))
+    before c.message_in.ensures in
     enters_one old mid c.enter.new.self last keeps entry c.args.out.now c.enter.new.out c.send.ensures.setup refl refl refl refl made
     c.in_ok-enter.ensures.entered refl
     (ap length all ∙ length-set old.sent.items from more ∙ keeps.sized)
-    (subst (λ (sent : List (List (Option Message))). AreSent setup (old.history.items ++ entry ∷ []) sent) (sym all)
-    (sent_more old.history.items entry setup old.sent.items keeps.sent message refl c.requires.from inside))
+    (subst (λ (sent : List (List Entry)). AreSent setup (old.history.items ++ entry ∷ []) sent) (sym all)
+    (sent_more old.history.items entry setup old.sent.items keeps.sent message taking refl refl c.requires.from inside))
     from (λ part moment. act.Send (message_of setup from part moment c.args.to c.args.firsts.now))
     (ap₂ (λ (moment : ℕ) (m : Message). let e : Entry = record { replica = from; moment = moment; act = act.Send m } in e) c.moment_of-moment.ensures due))
     c.keep.ensures
