@@ -1,5 +1,5 @@
 -- A short list that is held in place, with blanks behind its items: they are got back from the items.
-use Rattle.std.proofs.Common.{◌≡◌, ℕ, ◌-◌, ◌≤◌, List, ◌++◌, length, take, drop, replicate, take-append-drop, length-take-le, refl, sym, ap, ap₂, ◌∙◌, arith}
+use Rattle.std.proofs.Common.{◌≡◌, ℕ, ◌-◌, ◌≤◌, List, ◌++◌, length, take, drop, replicate, take-append-drop, length-take-le, sym, ap, ◌∙◌, arith}
 
 pub len_back : {T : Type 0} (most : ℕ) (items : List T) (len : ℕ)
     → len ≤ most

@@ -1,5 +1,4 @@
-ghost use Rattle.std.specs.Prelude.{◌≡◌, ℕ, ◌<◌, [], ◌∷◌, ◌++◌, OnOk, OnErr, IfOk, length, take, map, replicate, slice_set, ◌==◌};
-ghost use Rattle.std.specs.List.{AllZip, range_with_len};
+ghost use Rattle.std.specs.Prelude.{◌≡◌, [], ◌∷◌, ◌++◌, OnOk, OnErr, IfOk, length, take, ◌==◌};
 ghost use Rattle.std.specs.Cmp.Lexicographic.{pointwise, lists_equiv, lists_per};
 
 use std::alloc::{AllocError, AllocFailed, Global};
@@ -39,9 +38,6 @@ impl<T> Model for Items<T> {
 /// A list of bytes.
 pub type Bytes = Items<u8>;
 
-/// A list of u64.
-pub type Numbers = Items<u64>;
-
 impl<T> Items<T> {
     /// The empty list, whose items will lie in memory of `alloc`. Takes no memory.
     pub fn new(alloc: Global) -> Self
@@ -59,6 +55,15 @@ impl<T> Items<T> {
         Ok(Items {
             items: Vec::with_capacity(alloc, count)?,
         })
+    }
+
+    /// The empty list, with memory of `alloc` for `count` items if that can be had.
+    pub fn ample(alloc: Global, count: usize) -> Self
+        ensures { result ≡ [] }
+    {
+        let mut items = Vec::new(alloc);
+        let _ = items.reserve(count);
+        Items { items }
     }
 
     /// The items, in order.
@@ -93,39 +98,17 @@ impl<T: Drop> Items<T> {
         Ok(())
     }
 
-    /// Appends an item, as [`Items::push`]. A list that is full takes memory for four times its items, if it can, so
-    /// that large items are seldom moved.
+    /// Appends an item, as [`Items::push`]. A list that is full takes memory for four times its items, and for 1,024 at
+    /// first, if it can, so that large items are seldom moved.
     pub fn push_amply(&mut self, item: T) -> Result<(), NoMemory>
         ensures ok { OnOk result (self.new ≡ self.old ++ item ∷ []) }
         ensures err { OnErr result (self.new ≡ self.old) }
     {
         if self.items.len() == self.items.capacity() {
-            let ample = self.items.len().saturating_mul(3);
+            let ample = self.items.len().saturating_mul(3).max(1_024);
             let _ = self.items.reserve(ample);
         }
         self.push(item)
-    }
-
-    /// The list of what `item` gives at each number below `count`, in memory of `alloc`.
-    pub fn from_fn<F: Fn(u32) -> T>(alloc: Global, count: u32, item: F) -> Result<Self, NoMemory>
-        ghost value: { ℕ → T }
-        requires callable { (at : ℕ) → at < count → F.pre item at }
-        requires gives { (at : ℕ) (given : T) → at < count → F.post item at given → given ≡ value at }
-        ensures { IfOk result (λ list. list ≡ map value (range_with_len 0 count)) }
-    {
-        let mut list = Items::with_capacity(alloc, count as usize)?;
-        for at in 0..count {
-            list.push(item(at))?;
-        }
-        Ok(list)
-    }
-
-    /// Puts an item in the place of another. Takes no memory.
-    pub fn set(&mut self, place: usize, item: T)
-        requires { place < length self.old }
-        ensures { self.new ≡ slice_set self.old place item }
-    {
-        self.items[place] = item;
     }
 
     /// Drops all items from place `len` on, if there are any. Takes no memory.
@@ -133,19 +116,6 @@ impl<T: Drop> Items<T> {
         ensures { self.new ≡ take len self.old }
     {
         self.items.truncate(len);
-    }
-}
-
-impl<T: Copy + Drop> Items<T> {
-    /// The list that has an item `count` times, in memory of `alloc`.
-    pub fn filled(alloc: Global, item: T, count: u32) -> Result<Self, NoMemory>
-        ensures { IfOk result (λ list. list ≡ replicate count item) }
-    {
-        let mut list = Items::with_capacity(alloc, count as usize)?;
-        for _place in 0..count {
-            list.push(item)?;
-        }
-        Ok(list)
     }
 }
 
@@ -159,45 +129,12 @@ impl<T: Copy> Items<T> {
         Ok(())
     }
 
-    /// The same items in a list of their own, in memory of the same allocator.
-    pub fn copied(&self) -> Result<Self, AllocError>
-        ensures { IfOk result (λ list. list ≡ self.now) }
-    {
-        Ok(Items {
-            items: Vec::from_slice(*self.items.allocator(), &self.items)?,
-        })
-    }
-
     /// A list of these items, in memory of `alloc`.
     pub fn from_slice(alloc: Global, items: &[T]) -> Result<Self, NoMemory>
         ensures { IfOk result (λ list. list ≡ items.now) }
     {
         Ok(Items {
             items: Vec::from_slice(alloc, items)?,
-        })
-    }
-}
-
-impl<T: Clone> Items<T> {
-    /// A list of clones of the items, in memory of `alloc`.
-    pub fn copy(&self, alloc: Global) -> Result<Self, NoMemory>
-        ensures clones { IfOk result (λ list. AllZip T.is_clone self.now list) }
-        ensures equal_if_clones_are { IfOk result
-            (λ list. ((x y : T) → T.is_clone x y → y ≡ x) → list ≡ self.now) }
-    {
-        Ok(Items {
-            items: self.items.to_vec(alloc)?,
-        })
-    }
-}
-
-impl<T: Clone> Clone for Items<T> {
-    ghost is_clone = { λ old new. AllZip T.is_clone old new
-        × (((x y : T) → T.is_clone x y → y ≡ x) → new ≡ old) };
-
-    fn clone(&self) -> Result<Self, AllocError> {
-        Ok(Items {
-            items: self.items.clone()?,
         })
     }
 }

@@ -15,6 +15,7 @@ mod roomy_list;
 mod roomy_queue;
 mod setup;
 mod shared_list;
+mod short_items;
 mod short_text;
 mod slowest;
 mod sums;
@@ -25,7 +26,7 @@ pub use conit_list::{ConitList, ListFault, Need, Needs, OnConit, Weight, Weights
 pub use counts::first_index;
 pub use few::{Blank, Few, Row};
 pub use fit::Fit;
-pub use items::{Bytes, Items, NoMemory, Numbers};
+pub use items::{Bytes, Items, NoMemory};
 pub use laws::{
     committed_is_a_front, in_order_forgets_arrival, in_order_sorts, order_is_total,
     order_keeps_sums,
@@ -40,6 +41,7 @@ pub use roomy_list::{RoomyList, drop_front};
 pub use roomy_queue::RoomyQueue;
 pub use setup::ConfigFault;
 pub use shared_list::SharedList;
+pub use short_items::{Numbers, ShortItems};
 pub use short_text::ShortText;
 pub use slowest::{Slowest, slowest_of};
 pub use sums::sum_on;

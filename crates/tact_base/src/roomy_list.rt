@@ -9,7 +9,7 @@ use std::alloc::Global;
 use std::marker::Model;
 
 // For how many items a list takes memory at least, if it can.
-const LEAST: usize = 1_024;
+const LEAST: usize = 2_048;
 
 /// A list whose memory can be taken ahead: while there is room, an item is put in without any. Contracts
 /// see the items and the room, the number of items that can surely still be put in.

@@ -1,4 +1,4 @@
-ghost use Rattle.std.specs.Prelude.{◌≡◌, IfOk, length, ◌==◌};
+ghost use Rattle.std.specs.Prelude.{◌≡◌, [], IfOk, length, ◌==◌};
 ghost use Rattle.std.specs.Cmp.Lexicographic.{pointwise, lists_equiv, lists_per};
 
 use crate::{Items, NoMemory};
@@ -10,16 +10,18 @@ use std::sync::Arc;
 /// different threads. Contracts see it as the list of its items.
 #[derive(Debug, Drop)]
 pub struct SharedList<T> {
-    list: Arc<Items<T>, Global>,
+    // The list, where it has an item.
+    list: Option<Arc<Items<T>, Global>>,
 }
 
 impl<T> Model for SharedList<T> {
-    ghost use Rattle.std.specs.Prelude.{List};
+    ghost use Rattle.std.specs.Prelude.{List, []};
+    ghost use Rattle.std.specs.Option.{option_map_or};
     ghost use Rattle.std.specs.Arc.{arc_value};
 
     ghost Value = { List T };
 
-    ghost view = { λ l. arc_value l.list };
+    ghost view = { λ l. option_map_or arc_value l.list [] };
 }
 
 impl<T: Drop> SharedList<T> {
@@ -28,32 +30,45 @@ impl<T: Drop> SharedList<T> {
     pub fn new(alloc: Global, list: Items<T>) -> Result<Self, NoMemory>
         ensures { IfOk result (λ shared. shared ≡ list) }
     {
+        if list.is_empty() {
+            return Ok(SharedList::empty());
+        }
         Ok(SharedList {
-            list: Arc::new(alloc, list)?,
+            list: Some(Arc::new(alloc, list)?),
         })
     }
 }
 
 impl<T> SharedList<T> {
+    /// The empty list. Takes no memory.
+    pub fn empty() -> Self
+        ensures { result ≡ [] }
+    {
+        SharedList { list: None }
+    }
+
     /// The items, in order.
     pub fn items(&self) -> &[T]
         ensures { result.now ≡ self.now }
     {
-        self.list.items()
+        match &self.list {
+            None => &[],
+            Some(list) => list.items(),
+        }
     }
 
     /// The number of items.
     pub fn len(&self) -> usize
         ensures { result ≡ length self.now }
     {
-        self.list.len()
+        self.items().len()
     }
 
     /// Whether there is no item.
     pub fn is_empty(&self) -> bool
         ensures { result ≡ (length self.now == 0) }
     {
-        self.list.is_empty()
+        self.items().is_empty()
     }
 }
 
@@ -61,8 +76,11 @@ impl<T: Drop> Clone for SharedList<T> {
     ghost is_clone = { λ old new. new ≡ old };
 
     fn clone(&self) -> Result<Self, AllocError> {
-        Ok(SharedList {
-            list: Arc::try_clone(&self.list)?,
+        Ok(match &self.list {
+            None => SharedList::empty(),
+            Some(list) => SharedList {
+                list: Some(Arc::try_clone(list)?),
+            },
         })
     }
 }

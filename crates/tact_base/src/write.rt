@@ -2,7 +2,7 @@ ghost use Rattle.std.specs.Prelude.{◌≡◌};
 ghost use Rattle.tact_base.specs.Covers.{later_cover};
 ghost use Rattle.tact_base.specs.WriteOrder.{comes_before, write_place};
 
-use crate::{Items, SharedList, Weights};
+use crate::{Items, SharedList, ShortItems, Weights};
 use std::alloc::AllocError;
 
 /// What a replica is known to have of one origin: a state that this origin was in.
@@ -116,4 +116,4 @@ pub type WriteList = Items<Write>;
 pub type SharedWrites = SharedList<Write>;
 
 /// A list of covers, by origin.
-pub type Covers = Items<Cover>;
+pub type Covers = ShortItems<Cover>;
