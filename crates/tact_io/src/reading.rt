@@ -33,7 +33,10 @@ impl From<NoMemory> for ReadEnd {
 }
 
 /// The bytes that are read at once.
-const BLOCK: usize = 16_384;
+const BLOCK: usize = 4_096;
+
+/// For how many bytes memory is taken at first, if it can be had.
+const AMPLE: usize = 131_072;
 
 /// Reads to the end of input, which may have at most `most` bytes. It stops once there are more.
 /// After an error the bytes that were read are gone.
@@ -50,7 +53,7 @@ pub fn read_all<S: Source>(alloc: Global, source: &mut S, most: u64) -> Result<B
     ensures complete { ¬ HasRisen (S.faults source.old) (S.faults source.new)
         → IfSome (S.left source.old) (λ left. length left ≤ most → IsOkUnless result ReadEnd.NoMemory) }
 {
-    let mut bytes = Bytes::new(alloc);
+    let mut bytes = Bytes::ample(alloc, AMPLE);
     let mut block = [0; BLOCK];
     loop {
         let count = source.read(&mut block)?;
