@@ -1,7 +1,7 @@
-ghost use Rattle.std.specs.Prelude.{◌≡◌};
+ghost use Rattle.std.specs.Prelude.{◌≡◌, []};
 
 use crate::{Reply, Request};
-use std::alloc::AllocError;
+use std::alloc::{AllocError, Global};
 use tact_base::{Covers, Numbers, SharedWrites};
 
 /// What one replica tells another. The lists by origin have a number for each replica, those by conit one
@@ -26,6 +26,36 @@ pub struct Message {
     pub lent: Numbers,
     /// By conit, all that the sender ever gave back to the receiver.
     pub returned: Numbers,
+}
+
+impl Message {
+    /// A message with empty lists, whose numbers are 0, in memory of `alloc`: it stands where one is made later. Takes no
+    /// memory.
+    pub fn blank(alloc: Global) -> Message
+        ensures { result ≡ record {
+          from = 0;
+          to = 0;
+          number = 0;
+          haves = [];
+          covers = [];
+          firsts = [];
+          writes = [];
+          lent = [];
+          returned = [];
+        } }
+    {
+        Message {
+            from: 0,
+            to: 0,
+            number: 0,
+            haves: Numbers::new(alloc),
+            covers: Covers::new(alloc),
+            firsts: Numbers::new(alloc),
+            writes: SharedWrites::empty(),
+            lent: Numbers::new(alloc),
+            returned: Numbers::new(alloc),
+        }
+    }
 }
 
 /// What a replica does in one step.

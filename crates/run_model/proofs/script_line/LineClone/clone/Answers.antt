@@ -13,7 +13,7 @@ returns c =
       | in-Reserve w ↦ w.result-is ∙ sym w.in-Reserve.is
       | in-Release w ↦ w.result-is ∙ sym w.in-Release.is
       | in-Read+in_ok-clone-in-Read w ↦ rw (w.result-is, w.in_ok-clone-in-Read.ensures.cases, w.in-Read.is) refl
-      | in-Send+in_ok-clone-in-Send w ↦ rw (w.result-is, w.in_ok-clone-in-Send.ensures.cases.1 (λ x y same. same), w.in-Send.is) refl
+      | in-Send+in_ok-clone-in-Send w ↦ rw (w.result-is, w.in_ok-clone-in-Send.ensures.cases, w.in-Send.is) refl
       | in-Take w ↦ w.result-is ∙ sym w.in-Take.is
       | in-Sync w ↦ w.result-is ∙ sym w.in-Sync.is
       | in-Lend w ↦ w.result-is ∙ sym w.in-Lend.is
