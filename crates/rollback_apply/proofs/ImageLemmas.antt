@@ -4,12 +4,11 @@ use Rattle.std.proofs.Common.{if◌then◌else◌, nat_le, slice_get, List, [], 
 use Rattle.std.proofs.Common.{Option, Some, None, refl, sym, ap, ap₂, ◌∙◌, ◌*◌, map, arith}
 use Rattle.std.specs.List.{sum_by}
 use Rattle.std.proofs.lemmas.Bool.{or_parts, eqb-true, le-leb}
-use Rattle.std.proofs.lemmas.List.{same_from_push, take_all, take_more, take_more_set, take-append-drop, take-append-le, take-map, drop-map, map-append, length-map, length-take}
+use Rattle.std.proofs.lemmas.List.{get_or-map, get_or-take, same_from_push, take_all, take_more, take_more_set, take-append-drop, take-append-le, take-map, drop-map, map-append, length-map, length-take}
 use Rattle.std.proofs.lemmas.List.Elements.{All-append, All-cons, All-drop, All-get_or, All-head, All-tail, All-take, All-weaker}
 use Rattle.std.proofs.lemmas.List.Sums.{fold-append, sum_by-append, sum_by-cons, sum_by-le-sum_by}
-use Rattle.std.proofs.lemmas.Option.{slice_get-map}
-use Rattle.std.specs.Option.{option_map, option_map_or}
-use Rattle.std.proofs.Math.Seq.{drop-append_seam, drop-cons}
+use Rattle.std.specs.Option.{option_map_or}
+use Rattle.std.proofs.Math.Seq.{drop-append_seam, drop-cons, take-add}
 use Rattle.tact_base.proofs.ListLemmas.{fold-push}
 use Rattle.tact_base.specs.Images.{Image, capped, with_value, shift_acts, after_op, image_from, ops_of}
 use Rattle.tact_base.specs.declared.write.Op.{Op}
@@ -358,12 +357,41 @@ behind_put writes old new from before at write d above within next is put behind
     ∙ ap (λ (ops : List Op). write.op ∷ ops) (behind ∙ ap (λ (count : ℕ). ops_of (drop count writes)) (omega (arith, next, above)))
     ∙ ap ops_of (sym rest)
 
+-- keys that get places, and more layers behind, leave the first ones applied
+pub applied-longer : (base : Image) (old new : CurrentState) (layers longer : List Layer) (count : ℕ)
+    → Extends old new
+    → take (length layers) longer ≡ layers
+    → count ≤ length layers
+    → IsApplied base old (take count layers)
+    → IsApplied base new (take count longer)
+applied-longer base old new layers longer count more front within applied =
+    let same : take count longer ≡ take count layers =
+    sym (take-within count (length layers) longer within) ∙ ap (take count) front in
+    rw same (applied-more base old new (take count layers) more applied)
+
+-- what keys hold after more operations than are applied
+pub held-behind : (base : Image) (current : CurrentState) (layers : List Layer) (applied more key : ℕ)
+    → IsApplied base current (take applied layers)
+    → image_from (holds current) (ops_in (take more (drop applied layers))) key
+    ≡ image_from base (ops_in (take (applied + more) layers)) key
+held-behind base current layers applied more key is =
+    let front = ops_in (take applied layers) in
+    let rest = ops_in (take more (drop applied layers)) in
+    ap (λ (image : Image). image_from image rest key) (same_image (holds current) (image_from base front) is.fold)
+    ∙ sym (ap (λ (image : Image). image key) (fold-append after_op base front rest))
+    ∙ ap (λ (ops : List Op). image_from base ops key)
+    (sym (ap ops_in (take-add applied more layers) ∙ map-append op_in (take applied layers) (take more (drop applied layers))))
+
 -- one more item at a place of a list
 module _ {A : Type 0} where
-  pub take-insert : (xs : List A) (at : ℕ) (x : A) → at ≤ length xs → take at (insert xs at x) ≡ take at xs
+  take-insert : (xs : List A) (at : ℕ) (x : A) → at ≤ length xs → take at (insert xs at x) ≡ take at xs
   take-insert xs at x within =
       let whole : at ≤ length (take at xs) = omega (arith, length-take at xs, within) in
       take-append-le at (take at xs) (x ∷ drop at xs) whole ∙ take_all at (take at xs) (omega (arith, length-take at xs))
+
+  pub take-insert-le : (xs : List A) (n at : ℕ) (x : A) → n ≤ at → at ≤ length xs → take n (insert xs at x) ≡ take n xs
+  take-insert-le xs n at x before within =
+      sym (take-within n at (insert xs at x) before) ∙ ap (take n) (take-insert xs at x within) ∙ take-within n at xs before
 
   pub All-insert : (P : A → Type 0) (xs : List A) (at : ℕ) (x : A) → P x → All P xs → All P (insert xs at x)
   All-insert P xs at x here all =
@@ -375,43 +403,51 @@ map-insert {A} {B} f xs at x =
     ∙ ap₂ (λ (front rest : List B). front ++ f x ∷ rest) (sym (take-map f at xs)) (sym (drop-map f at xs))
 
 -- the undo at a place has what the keys of the operation there held before it
-pub undos_of-at : (image : Image) (ops : List Op) (at : ℕ) (op : Op) (held : KeyValues)
-    → slice_get ops at ≡ Some op
-    → slice_get (undos_of image ops) at ≡ Some held
-    → held ≡ key_values (image_from image (take at ops)) op
-undos_of-at image [] at op held there kept = cc
-undos_of-at image (first ∷ ops) zero op held there kept =
-    let same : first ≡ op = cc in
-    let is : key_values image first ≡ held = cc in
-    sym is ∙ ap (λ op. key_values image op) same
-undos_of-at image (first ∷ ops) (suc at) op held there kept = undos_of-at (after_op image first) ops at op held there kept
+undos_of-at : (image : Image) (ops : List Op) (at : ℕ) (d : Op) (e : KeyValues)
+    → at < length ops
+    → get_or (undos_of image ops) at e ≡ key_values (image_from image (take at ops)) (get_or ops at d)
+undos_of-at image [] at d e within = absurd (omega (arith, within))
+undos_of-at image (op ∷ ops) zero d e within = refl
+undos_of-at image (op ∷ ops) (suc at) d e within = undos_of-at (after_op image op) ops at d e (omega (arith, within))
 
--- what a key held before the operation at a place, where this is tentative, is told by its undo
-pub value_before-tentative : (state : ImageState) (place key : ℕ) (layers : List Layer) (layer : Layer)
+-- and so has the layer there, where so many are applied
+pub held-at : (base : Image) (current : CurrentState) (layers : List Layer) (at applied : ℕ) (d : Layer)
+    → at < applied
+    → at < length layers
+    → IsApplied base current (take applied layers)
+    → (get_or layers at d).held ≡ key_values (image_from base (ops_in (take at layers))) (get_or layers at d).op
+held-at base current layers at applied d before within is =
+    let front = take applied layers in
+    let ops = ops_in front in
+    let here : at < length front = omega (arith, before, within, length-take applied layers) in
+    let same : get_or front at d ≡ get_or layers at d = get_or-take applied layers at d before in
+    let op_is : get_or ops at d.op ≡ (get_or layers at d).op =
+    get_or-map op_in front at d d.op here ∙ ap op_in same in
+    let front_is : take at ops ≡ ops_in (take at layers) =
+    take-map op_in at front ∙ ap ops_in (take-within at applied layers (omega (arith, before))) in
+    ap held_of (sym same)
+    ∙ sym (get_or-map held_of front at d d.held here)
+    ∙ ap (λ (undos : List KeyValues). get_or undos at d.held) is.undone
+    ∙ undos_of-at base ops at d.op d.held (omega (arith, here, length-map front op_in))
+    ∙ ap₂ (λ (before : List Op) (op : Op). key_values (image_from base before) op) front_is op_is
+
+-- what a key held before the operation at a place, where this is tentative, is told by what its keys held
+pub value_before-tentative : (state : ImageState) (place key : ℕ) (op : Op) (held : KeyValues)
     → state.committed ≤ place
-    → state.ops ≡ ops_in layers
-    → map held_of layers ≡ undos_of (base_of state) (ops_in layers)
-    → slice_get layers (place - state.committed) ≡ Some layer
-    → value_among layer.held layer.op key ≡ value_before state place key
-value_before-tentative state place key layers layer tentative ops all kept =
-    let op = layer.op in
-    let held = layer.held in
-    let at = place - state.committed in
-    let there : slice_get state.ops at ≡ Some op =
-    ap (λ ops. slice_get ops at) ops ∙ slice_get-map op_in layers at ∙ ap (λ found. option_map op_in found) kept in
-    let kept_held : slice_get (map held_of layers) at ≡ Some held =
-    slice_get-map held_of layers at ∙ ap (λ found. option_map held_of found) kept in
+    → slice_get state.ops (place - state.committed) ≡ Some op
+    → held ≡ key_values (image_from (base_of state) (take (place - state.committed) state.ops)) op
+    → value_among held op key ≡ value_before state place key
+value_before-tentative state place key op held tentative there is =
     let before = image_from (base_of state) (take (place - state.committed) state.ops) in
     let above : nat_le state.committed place ≡ true = le-leb state.committed place tentative in
-    let is : held ≡ key_values before op = undos_of-at (base_of state) state.ops at op held there (rw (all, sym ops) at kept_held) in
     rw (above, there) (among before is (key == first_key op) (key == second_key op) refl refl) where
-      among : (before : Image) → layer.held ≡ key_values before layer.op
+      among : (before : Image) → held ≡ key_values before op
           → (first last : Bool)
-          → (key == first_key layer.op) ≡ first
-          → (key == second_key layer.op) ≡ last
-          → value_among layer.held layer.op key ≡ (if names layer.op key then Some (before key) else None)
+          → (key == first_key op) ≡ first
+          → (key == second_key op) ≡ last
+          → value_among held op key ≡ (if names op key then Some (before key) else None)
       among before is true last is_first is_last =
-          rw is_first (ap (λ values. Some values.first) is ∙ ap (λ named. Some (before named)) (sym (eqb-true key (first_key layer.op) is_first)))
+          rw is_first (ap (λ values. Some values.first) is ∙ ap (λ named. Some (before named)) (sym (eqb-true key (first_key op) is_first)))
       among before is false true is_first is_last =
-          rw (is_first, is_last) (ap (λ values. Some values.second) is ∙ ap (λ named. Some (before named)) (sym (eqb-true key (second_key layer.op) is_last)))
+          rw (is_first, is_last) (ap (λ values. Some values.second) is ∙ ap (λ named. Some (before named)) (sym (eqb-true key (second_key op) is_last)))
       among before is false false is_first is_last = rw (is_first, is_last) refl

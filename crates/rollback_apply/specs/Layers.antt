@@ -7,6 +7,7 @@ use Rattle.tact_base.specs.declared.write.Op.{Op}
 use Rattle.rollback_apply.specs.Current.{CurrentState, place_of, holds, lacking}
 use Rattle.rollback_apply.specs.Keys.{first_key, second_key, with_key_values, undos_of}
 use Rattle.rollback_apply.specs.declared.keys.KeyValues.{KeyValues}
+use Rattle.rollback_apply.specs.declared.lagging.TheConstants.{LAG}
 use Rattle.rollback_apply.specs.declared.layers.Layer.{Layer}
 use Rattle.rollback_apply.specs.declared.layers.Layers.{Layers}
 use Rattle.rollback_apply.specs.declared.layers.Places.{Places}
@@ -60,9 +61,11 @@ pub record HasMemory (layers : Layers) (more : ℕ) : Type 0 where
   pub listed : vec_len layers.tentative + more ≤ vec_capacity layers.tentative
   pub keys : 2 * more ≤ layers.current.spare
 
--- Between calls all tentative operations are applied, so many are committed, and there is memory for as many more as the
--- room says.
-pub record IsKept (layers : Layers) (committed room : ℕ) : Type 0 where
-  pub applies : Applies layers (length layers.tentative.items)
+-- Between calls so many tentative operations are applied, and at most `LAG` behind them aren't, so many are committed, and
+-- there is memory for as many more as the room says.
+pub record IsKept (layers : Layers) (applied committed room : ℕ) : Type 0 where
+  pub applies : Applies layers applied
+  pub within : applied ≤ length layers.tentative.items
+  pub few : length layers.tentative.items ≤ applied + LAG
   pub counted : length layers.settled.items ≡ committed
   pub memory : HasMemory layers room

@@ -1,13 +1,16 @@
-ghost use Rattle.std.specs.Prelude.{◌≡◌, ℕ, ◌+◌, ◌-◌, ◌<◌, ◌≤◌, [], ◌∷◌, ◌++◌, vec_len, length, insert, take, drop, IsTrue, OnOk, IfOk};
+ghost use Rattle.std.specs.Prelude.{◌≡◌, ℕ, ◌+◌, ◌-◌, ◌<◌, ◌≤◌, [], ◌∷◌, ◌++◌, vec_len, length, insert, take, drop, get_or, IsTrue, OnOk, IfOk};
 ghost use Rattle.std.specs.Vec.{vec_capacity};
-ghost use Rattle.tact_base.specs.Images.{ops_of};
+ghost use Rattle.tact_base.specs.Images.{image_from, image_of, ops_of};
 ghost use Rattle.tact_base.specs.declared.write.Op as operation;
 ghost use Rattle.rollback_apply.specs.Current.{holds, IsPlace, Extends, KeepPlaces};
 ghost use Rattle.rollback_apply.specs.Keys as keys;
+ghost use Rattle.rollback_apply.specs.declared.lagging.TheConstants.{LAG};
+ghost use Rattle.rollback_apply.specs.declared.layers.Layer.{Layer};
 ghost use Rattle.rollback_apply.specs.Layers.{ops_in, wanted, all_wanted, Applies, ArePlaced, HasMemory, HasPlaces, NamesFirst, NamesSecond, SetsKeys};
 
 use crate::current::Current;
 use crate::keys::{KeyValues, first_key, second_key, values_after};
+use crate::lagging::{LAG, value_late, values_late};
 use crate::values::entries_for;
 use given_up::GivenUp;
 use std::alloc::Global;
@@ -36,7 +39,7 @@ pub struct Layer {
     pub held: KeyValues,
 }
 
-/// The tentative operations, and what keys hold after them, or after the first ones while the others are undone. Those
+/// The tentative operations, and what keys hold after the first ones, which are applied; the caller knows how many. Those
 /// that are committed are seen by contracts alone.
 #[derive(Debug, Drop)]
 pub struct Layers {
@@ -77,47 +80,111 @@ impl Layers {
         Ok(more)
     }
 
-    /// Undoes operations from the last one back to the one at `from`. Takes no memory.
-    pub fn undo_from(&mut self, from: usize)
-        requires within { from ≤ vec_len self.old.tentative }
-        requires applies { Applies self.old (length self.old.tentative.items) }
+    /// Undoes the operations from `from` on, from the last that is applied back, where the first `applied` are. The
+    /// answer is how many are applied then. Takes no memory.
+    pub fn undo_back(&mut self, from: usize, applied: usize) -> usize
+        requires within { applied ≤ vec_len self.old.tentative }
+        requires applies { Applies self.old applied }
+        ensures above { result ≤ from }
+        ensures fewer { result ≤ applied }
         ensures settled { self.new.settled ≡ self.old.settled }
         ensures tentative { self.new.tentative ≡ self.old.tentative }
-        ensures applies { Applies self.new from }
+        ensures applies { Applies self.new result }
         ensures places { self.new.current.places ≡ self.old.current.places }
         ensures spare { self.new.current.spare ≡ self.old.current.spare }
     {
-        let mut at = self.tentative.len();
+        let mut at = applied;
         while at > from {
             at -= 1;
             self.undo(at);
         }
+        at
     }
 
-    /// Applies operations from the one at `from` on, in order, where those before it are applied. Takes no memory.
-    pub fn apply_from(&mut self, from: usize)
-        requires within { from ≤ vec_len self.old.tentative }
-        requires applies { Applies self.old from }
+    /// Applies operations in order up to the first `count`, where the first `applied` are applied. The answer is how many
+    /// are applied then. Takes no memory.
+    pub fn apply_to(&mut self, applied: usize, count: usize) -> usize
+        requires applied { applied ≤ vec_len self.old.tentative }
+        requires within { count ≤ vec_len self.old.tentative }
+        requires applies { Applies self.old applied }
+        ensures kept { applied ≤ result }
+        ensures above { count ≤ result }
+        ensures within { result ≤ vec_len self.new.tentative }
         ensures settled { self.new.settled ≡ self.old.settled }
-        ensures applies { Applies self.new (length self.new.tentative.items) }
+        ensures applies { Applies self.new result }
         ensures ops { ops_in self.new.tentative.items ≡ ops_in self.old.tentative.items }
         ensures count { vec_len self.new.tentative ≡ vec_len self.old.tentative }
         ensures capacity { vec_capacity self.new.tentative ≡ vec_capacity self.old.tentative }
         ensures spare { self.new.current.spare ≡ self.old.current.spare }
     {
-        for at in from..self.tentative.len() {
+        let mut at = applied;
+        while at < count {
             self.apply(at);
+            at += 1;
         }
+        at
     }
 
-    /// Puts an operation before the one at `at`, where this one and those behind it are undone. Takes no memory.
+    /// Applies operations in order until at most `LAG` aren't, where the first `applied` are. The answer is how many are
+    /// applied then. Takes no memory.
+    pub fn limit_lag(&mut self, applied: usize) -> usize
+        requires within { applied ≤ vec_len self.old.tentative }
+        requires applies { Applies self.old applied }
+        ensures within { result ≤ vec_len self.new.tentative }
+        ensures few { vec_len self.new.tentative ≤ result + LAG }
+        ensures settled { self.new.settled ≡ self.old.settled }
+        ensures applies { Applies self.new result }
+        ensures ops { ops_in self.new.tentative.items ≡ ops_in self.old.tentative.items }
+        ensures count { vec_len self.new.tentative ≡ vec_len self.old.tentative }
+        ensures capacity { vec_capacity self.new.tentative ≡ vec_capacity self.old.tentative }
+        ensures spare { self.new.current.spare ≡ self.old.current.spare }
+    {
+        let count = self.tentative.len().saturating_sub(LAG);
+        self.apply_to(applied, count)
+    }
+
+    /// What a key holds after the first `count` operations, of which the first `applied` are applied, and at most `LAG`
+    /// aren't. It costs a look where all are, and else what `value_late` does. Takes no memory.
+    pub fn value_in(&self, applied: usize, count: usize, key: u64) -> i64
+        requires applied { applied ≤ count }
+        requires within { count ≤ vec_len self.now.tentative }
+        requires few { count ≤ applied + LAG }
+        requires applies { Applies self.now applied }
+        ensures { result ≡ image_from (image_of (ops_in self.now.settled.items)) (ops_in (take count self.now.tentative.items)) key }
+    {
+        if applied == count {
+            return self.current.get(key);
+        }
+        value_late(&self.current, &self.tentative[applied..count], key)
+    }
+
+    /// What the keys of the operation at a place held before it, where the first `applied` operations are applied, and at
+    /// most `LAG` before the place aren't. It costs a look where it is applied, and else what `values_late` does. Takes
+    /// no memory.
+    pub fn held_before(&self, applied: usize, at: usize) -> KeyValues
+        requires within { at < vec_len self.now.tentative }
+        requires few { at ≤ applied + LAG }
+        requires applies { Applies self.now applied }
+        ensures { (d : Layer)
+            → result
+            ≡ keys.key_values
+            (image_from (image_of (ops_in self.now.settled.items)) (ops_in (take at self.now.tentative.items)))
+            (get_or self.now.tentative.items at d).op }
+    {
+        let Layer { op, held, .. } = self.tentative[at];
+        if at < applied {
+            return held;
+        }
+        values_late(&self.current, &self.tentative[applied..at], op)
+    }
+
+    /// Puts an operation before the one at `at`, where this one and those behind it aren't applied. Takes no memory.
     pub fn insert(&mut self, at: usize, op: Op)
         requires within { at ≤ vec_len self.old.tentative }
-        requires applies { Applies self.old at }
         requires capacity { vec_len self.old.tentative < vec_capacity self.old.tentative }
         requires spare { wanted self.old.current op ≤ self.old.current.spare }
         ensures settled { self.new.settled ≡ self.old.settled }
-        ensures applies { Applies self.new at }
+        ensures applies { (count : ℕ) → count ≤ at → Applies self.old count → Applies self.new count }
         ensures ops { ops_in self.new.tentative.items ≡ insert (ops_in self.old.tentative.items) at op }
         ensures capacity { vec_capacity self.old.tentative ≤ vec_capacity self.new.tentative }
         ensures spare { self.old.current.spare ≤ self.new.current.spare + wanted self.old.current op }
@@ -126,16 +193,15 @@ impl Layers {
         insert_layer(&mut self.tentative, at, layer_of(op, places));
     }
 
-    /// Puts the operations of writes in place of those from `from` on, which are undone one by one as they make room.
-    /// The places of these are known where they come again in their order. Takes no memory.
+    /// Puts the operations of writes in place of those from `from` on, where these aren't applied. The places of these are
+    /// known where they come again in their order. Takes no memory.
     pub fn replace_from(&mut self, from: usize, writes: &[Write])
         requires within { from ≤ vec_len self.old.tentative }
-        requires applies { Applies self.old (length self.old.tentative.items) }
         requires more { vec_len self.old.tentative ≤ from + length writes.now }
         requires capacity { from + length writes.now ≤ vec_capacity self.old.tentative }
         requires spare { all_wanted self.old.current (ops_of writes.now) ≤ self.old.current.spare }
         ensures settled { self.new.settled ≡ self.old.settled }
-        ensures applies { Applies self.new from }
+        ensures applies { (count : ℕ) → count ≤ from → Applies self.old count → Applies self.new count }
         ensures ops { ops_in self.new.tentative.items ≡ ops_in (take from self.old.tentative.items) ++ ops_of writes.now }
         ensures capacity { vec_capacity self.old.tentative ≤ vec_capacity self.new.tentative }
         ensures spare { self.old.current.spare ≤ self.new.current.spare + all_wanted self.old.current (ops_of writes.now) }
@@ -152,13 +218,12 @@ impl Layers {
         }
     }
 
-    /// Commits the first `count` operations: nothing undoes them any more. Takes no memory.
+    /// Commits the first `count` operations, which are applied: nothing undoes them any more. Takes no memory.
     pub fn settle(&mut self, count: usize)
         requires within { count ≤ vec_len self.old.tentative }
-        requires applies { Applies self.old (length self.old.tentative.items) }
         ensures settled { self.new.settled.items ≡ self.old.settled.items ++ take count self.old.tentative.items }
         ensures tentative { self.new.tentative.items ≡ drop count self.old.tentative.items }
-        ensures applies { Applies self.new (length self.new.tentative.items) }
+        ensures applies { (applied : ℕ) → count ≤ applied → Applies self.old applied → Applies self.new (applied - count) }
         ensures capacity { vec_capacity self.new.tentative ≡ vec_capacity self.old.tentative }
         ensures current { self.new.current ≡ self.old.current }
     {
@@ -217,10 +282,9 @@ impl Layers {
         requires more { vec_len self.old.tentative ≤ count }
         requires capacity { count ≤ vec_capacity self.old.tentative }
         requires spare { all_wanted self.old.current (ops_of writes.now) ≤ self.old.current.spare }
-        requires placed { ArePlaced self.old.current self.old.tentative.items }
         ensures settled { self.new.settled ≡ self.old.settled }
         ensures current { Extends self.old.current self.new.current }
-        ensures placed { ArePlaced self.new.current self.new.tentative.items }
+        ensures placed { ArePlaced self.old.current self.old.tentative.items → ArePlaced self.new.current self.new.tentative.items }
         ensures count { vec_len self.new.tentative ≡ count }
         ensures tentative { take (length self.old.tentative.items) self.new.tentative.items ≡ self.old.tentative.items }
         ensures capacity { vec_capacity self.old.tentative ≤ vec_capacity self.new.tentative }
@@ -237,21 +301,20 @@ impl Layers {
         }
     }
 
-    // Puts an operation at a place of the list, where the first `left` are applied, and those behind the place were put
-    // before. Where the last one that is applied names the same keys, or stands at the place, it is undone. The answer is
-    // how many are applied then, those before `from` at least.
+    // Puts an operation at a place of the list, where the first `left` wait for their new places, and those behind the
+    // place were put before. Where the last one that waits names the same keys, its places are taken. The answer is how
+    // many wait then, those before `from` at least.
     fn put(&mut self, from: usize, at: usize, left: usize, op: Op) -> usize
         requires from { from ≤ at }
         requires within { at < vec_len self.old.tentative }
         requires above { from ≤ left }
         requires left { left ≤ at + 1 }
-        requires applies { Applies self.old left }
         requires spare { wanted self.old.current op ≤ self.old.current.spare }
         ensures above { from ≤ result }
         ensures left { result ≤ at }
         ensures settled { self.new.settled ≡ self.old.settled }
         ensures places { KeepPlaces self.old.current self.new.current }
-        ensures applies { Applies self.new result }
+        ensures applies { (count : ℕ) → count ≤ from → Applies self.old count → Applies self.new count }
         ensures front { take at self.new.tentative.items ≡ take at self.old.tentative.items }
         ensures rest { ops_in (drop at self.new.tentative.items) ≡ op ∷ ops_in (drop (at + 1) self.old.tentative.items) }
         ensures count { vec_len self.new.tentative ≡ vec_len self.old.tentative }
@@ -262,33 +325,26 @@ impl Layers {
             self.move_back(left - 1, at, op);
             return left - 1;
         }
-        if left > at {
-            self.undo(at);
-            self.put_new(at, op);
-            return at;
-        }
         self.put_new(at, op);
-        left
+        left.min(at)
     }
 
     // Puts operations so many places later, from the last one of the first `left` on, as long as writes there name their
-    // keys. The answer is how many are left, which are applied.
+    // keys. The answer is how many are left.
     fn carry(&mut self, from: usize, left: usize, later: usize, writes: &[Write]) -> usize
         requires above { from ≤ left }
         requires within { left + later ≤ from + length writes.now }
         requires count { vec_len self.old.tentative ≡ from + length writes.now }
-        requires applies { Applies self.old left }
         requires rest { ops_in (drop (left + later) self.old.tentative.items) ≡ ops_of (drop (left + later - from) writes.now) }
         ensures above { from ≤ result }
         ensures left { result ≤ left }
         ensures settled { self.new.settled ≡ self.old.settled }
-        ensures places { self.new.current.places ≡ self.old.current.places }
-        ensures applies { Applies self.new result }
+        ensures current { self.new.current ≡ self.old.current }
+        ensures applies { (count : ℕ) → count ≤ from → Applies self.old count → Applies self.new count }
         ensures front { take from self.new.tentative.items ≡ take from self.old.tentative.items }
         ensures rest { ops_in (drop (result + later) self.new.tentative.items) ≡ ops_of (drop (result + later - from) writes.now) }
         ensures count { vec_len self.new.tentative ≡ vec_len self.old.tentative }
         ensures capacity { vec_capacity self.new.tentative ≡ vec_capacity self.old.tentative }
-        ensures spare { self.new.current.spare ≡ self.old.current.spare }
     {
         let mut kept = left;
         while kept > from {
@@ -312,26 +368,22 @@ impl Layers {
         same_keys(self.tentative[at].op, op)
     }
 
-    // Undoes the operation at `last`, which is the last that is applied, and puts one of the same keys at a place that
-    // isn't before it.
+    // Puts an operation at a place that isn't before that of one with the same keys, whose places it takes.
     fn move_back(&mut self, last: usize, at: usize, op: Op)
         requires last { last ≤ at }
         requires within { at < vec_len self.old.tentative }
-        requires applies { Applies self.old (last + 1) }
         requires first { NamesFirst self.old.tentative.items last op }
         requires second { NamesSecond self.old.tentative.items last op }
         ensures settled { self.new.settled ≡ self.old.settled }
-        ensures places { self.new.current.places ≡ self.old.current.places }
-        ensures applies { Applies self.new last }
+        ensures current { self.new.current ≡ self.old.current }
+        ensures applies { (count : ℕ) → count ≤ at → Applies self.old count → Applies self.new count }
         ensures front { take at self.new.tentative.items ≡ take at self.old.tentative.items }
         ensures rest { ops_in (drop at self.new.tentative.items) ≡ op ∷ ops_in (drop (at + 1) self.old.tentative.items) }
         ensures count { vec_len self.new.tentative ≡ vec_len self.old.tentative }
         ensures capacity { vec_capacity self.new.tentative ≡ vec_capacity self.old.tentative }
-        ensures spare { self.new.current.spare ≡ self.old.current.spare }
     {
-        let Layer { places, held, .. } = self.tentative[last];
+        let places = self.tentative[last].places;
         self.tentative[at] = layer_of(op, places);
-        set_places(&mut self.current, places, held);
     }
 
     // Puts an operation at a place of the list, where the one there isn't applied. Its keys get places where they have

@@ -4,8 +4,10 @@
 mod current;
 mod image;
 mod keys;
+mod lagging;
 mod layers;
 mod values;
 
 pub use image::Image;
+pub use lagging::LAG;
 pub use values::value_after;

@@ -1,5 +1,6 @@
-use Rattle.std.proofs.Common.{◌≡◌, ℕ, ◌+◌, ◌-◌, ◌≤◌, ◌++◌, List, length, take, ap, ap₂, sym, ◌∙◌, arith}
+use Rattle.std.proofs.Common.{◌≡◌, ℕ, ◌+◌, ◌-◌, ◌≤◌, ◌++◌, List, length, vec_len, take, ap, ap₂, sym, ◌∙◌, arith}
 use Rattle.std.proofs.lemmas.List.{length-append, length-map, length-take, take-map}
+use Rattle.std.specs.Vec.{vec_capacity}
 use Rattle.tact_base.specs.Images.{ops_of}
 use Rattle.tact_base.specs.declared.write.Op.{Op}
 use Rattle.tact_base.specs.declared.write.Write.{Write}
@@ -70,37 +71,40 @@ module _ (state : ImageState) (layers : List Layer) (new : List Op) (writes : Li
 pub replace_from-requires-clause-more : goal.replace_from-requires-clause-more
 replace_from-requires-clause-more c =
     let image = c.self.inside in
-    let layers = image.layers.tentative.items in
+    let layers = c.undo_back-applied.new.self.tentative.items in
+    let ops : ops_in layers ≡ c.args.self.now.ops = rw c.undo_back-applied.ensures.tentative (ap (λ (image : ImageState). image.ops) c.self.view_is) in
     let count =
     many_layers c.args.self.now layers (ops_of c.args.new.now) c.args.rest.now c.args.place image.committed
-    (ap (λ (image : ImageState). image.committed) c.self.view_is) (ap (λ (image : ImageState). image.ops) c.self.view_is)
-    c.requires.joined c.requires.within in
+    (ap (λ (image : ImageState). image.committed) c.self.view_is) ops c.requires.joined c.requires.within in
     omega (arith, count)
 
 pub replace_from-requires-clause-capacity : goal.replace_from-requires-clause-capacity
 replace_from-requires-clause-capacity c =
     let image = c.self.inside in
-    let layers = image.layers.tentative.items in
+    let layers = c.undo_back-applied.new.self.tentative.items in
+    let ops : ops_in layers ≡ c.args.self.now.ops = rw c.undo_back-applied.ensures.tentative (ap (λ (image : ImageState). image.ops) c.self.view_is) in
     let count =
     many_layers c.args.self.now layers (ops_of c.args.new.now) c.args.rest.now c.args.place image.committed
-    (ap (λ (image : ImageState). image.committed) c.self.view_is) (ap (λ (image : ImageState). image.ops) c.self.view_is)
-    c.requires.joined c.requires.within in
-    omega (arith, count, c.self.invariant.memory.listed, c.requires.room, length-map c.args.new.now op_of, ap (λ (image : ImageState). image.room) c.self.view_is)
+    (ap (λ (image : ImageState). image.committed) c.self.view_is) ops c.requires.joined c.requires.within in
+    let listed : vec_len c.undo_back-applied.new.self.tentative + image.room ≤ vec_capacity c.undo_back-applied.new.self.tentative =
+    rw c.undo_back-applied.ensures.tentative c.self.invariant.memory.listed in
+    omega (arith, count, listed, c.requires.room, length-map c.args.new.now op_of, ap (λ (image : ImageState). image.room) c.self.view_is)
 
 pub replace_from-requires-clause-spare : goal.replace_from-requires-clause-spare
 replace_from-requires-clause-spare c =
     let image = c.self.inside in
-    let layers = image.layers.tentative.items in
-    let index = c.args.place - image.committed in
-    let before = image.layers.current in
+    let undone = c.undo_back-applied.new.self in
+    let layers = undone.tentative.items in
+    let ops : ops_in layers ≡ c.args.self.now.ops = rw c.undo_back-applied.ensures.tentative (ap (λ (image : ImageState). image.ops) c.self.view_is) in
     let joined =
     all_joined c.args.self.now layers (ops_of c.args.new.now) c.args.rest.now c.args.place image.committed
-    (ap (λ (image : ImageState). image.committed) c.self.view_is) (ap (λ (image : ImageState). image.ops) c.self.view_is)
-    c.requires.joined c.requires.within in
+    (ap (λ (image : ImageState). image.committed) c.self.view_is) ops c.requires.joined c.requires.within in
     omega (
       arith,
-      joined_wanted before layers (ops_of c.args.new.now) (ops_of c.args.rest.now) index c.self.invariant.applies.placed joined,
+      joined_wanted undone.current layers (ops_of c.args.new.now) (ops_of c.args.rest.now) (c.args.place - image.committed)
+          c.undo_back-applied.ensures.applies.placed joined,
       c.self.invariant.memory.keys,
+      c.undo_back-applied.ensures.spare,
       c.requires.room,
       length-map c.args.new.now op_of,
       ap (λ (image : ImageState). image.room) c.self.view_is,
@@ -109,36 +113,41 @@ replace_from-requires-clause-spare c =
 pub returns-clause-ops : goal.returns-clause-ops
 returns-clause-ops c =
     let image = c.self.inside in
-    let layers = image.layers.tentative.items in
+    let layers = c.undo_back-applied.new.self.tentative.items in
     let counted = ap (λ (image : ImageState). image.committed) c.self.view_is in
-    let ops = ap (λ (image : ImageState). image.ops) c.self.view_is in
+    let ops : ops_in layers ≡ c.args.self.now.ops = rw c.undo_back-applied.ensures.tentative (ap (λ (image : ImageState). image.ops) c.self.view_is) in
     ops_after c.args.self.now layers (ops_of c.args.new.now) c.args.rest.now c.args.place image.committed counted ops
     c.requires.joined c.requires.within c.replace_from.new.self.tentative.items
-    c.apply_from.new.self.tentative.items c.replace_from.ensures.ops c.apply_from.ensures.ops
+    c.limit_lag-self-inside.new.self.tentative.items c.replace_from.ensures.ops c.limit_lag-self-inside.ensures.ops
     ∙ ap₂ (λ (count : ℕ) (all : List Op). take (c.args.place - count) all ++ ops_of c.args.rest.now) counted ops
 
 pub invariant_of-self : goal.invariant_of-self
 invariant_of-self c =
     let image = c.self.inside in
-    let layers = image.layers.tentative.items in
+    let undone = c.undo_back-applied.new.self in
+    let layers = undone.tentative.items in
     let counted = ap (λ (image : ImageState). image.committed) c.self.view_is in
-    let ops = ap (λ (image : ImageState). image.ops) c.self.view_is in
+    let ops : ops_in layers ≡ c.args.self.now.ops = rw c.undo_back-applied.ensures.tentative (ap (λ (image : ImageState). image.ops) c.self.view_is) in
+    let last = c.limit_lag-self-inside.ensures in
     let count =
     count_after c.args.self.now layers (ops_of c.args.new.now) c.args.rest.now c.args.place image.committed counted ops
     c.requires.joined c.requires.within c.replace_from.new.self.tentative.items
-    c.apply_from.new.self.tentative.items c.replace_from.ensures.ops c.apply_from.ensures.ops in
-    let before = image.layers.current in
+    c.limit_lag-self-inside.new.self.tentative.items c.replace_from.ensures.ops last.ops in
     let joined =
     all_joined c.args.self.now layers (ops_of c.args.new.now) c.args.rest.now c.args.place image.committed counted ops c.requires.joined c.requires.within in
+    let listed : vec_len undone.tentative + image.room ≤ vec_capacity undone.tentative =
+    rw c.undo_back-applied.ensures.tentative c.self.invariant.memory.listed in
     record {
-      applies = c.apply_from.ensures.applies;
-      counted = rw (c.apply_from.ensures.settled, c.replace_from.ensures.settled) c.self.invariant.counted;
+      applies = last.applies;
+      within = omega (arith, last.within);
+      few = omega (arith, last.few);
+      counted = rw (last.settled, c.replace_from.ensures.settled, c.undo_back-applied.ensures.settled) c.self.invariant.counted;
       memory = record {
         listed = omega (
           arith,
           count,
-          c.self.invariant.memory.listed,
-          c.apply_from.ensures.capacity,
+          listed,
+          last.capacity,
           c.replace_from.ensures.capacity,
           c.requires.room,
           length-map c.args.new.now op_of,
@@ -147,10 +156,12 @@ invariant_of-self c =
         keys = omega (
           arith,
           count,
-          joined_wanted before layers (ops_of c.args.new.now) (ops_of c.args.rest.now) (c.args.place - image.committed) c.self.invariant.applies.placed joined,
+          joined_wanted undone.current layers (ops_of c.args.new.now) (ops_of c.args.rest.now) (c.args.place - image.committed)
+              c.undo_back-applied.ensures.applies.placed joined,
           c.self.invariant.memory.keys,
+          c.undo_back-applied.ensures.spare,
           c.replace_from.ensures.spare,
-          c.apply_from.ensures.spare,
+          last.spare,
           c.requires.room,
           length-map c.args.new.now op_of,
           ap (λ (image : ImageState). image.room) c.self.view_is,

@@ -21,8 +21,8 @@ loop-kept-preserved c =
       left = omega (arith, l.invariant.left);
       count = done.count ∙ l.invariant.count;
       settled = done.settled ∙ l.invariant.settled;
-      places = done.places ∙ l.invariant.places;
-      applies = done.applies;
+      current = done.current ∙ l.invariant.current;
+      applies = λ count before applies. done.applies count (omega (arith, before, above)) (l.invariant.applies count before applies);
       front =
           sym (take-within from at new (omega (arith, above)))
           ∙ ap (take from) done.front
@@ -34,5 +34,4 @@ loop-kept-preserved c =
           (done.rest ∙ ap (λ (write : Write). write.op ∷ ops_in (drop (at + 1) old)) (sym c.index-writes-at.is))
           l.invariant.rest;
       capacity = done.capacity ∙ l.invariant.capacity;
-      spare = done.spare ∙ l.invariant.spare;
     }

@@ -14,7 +14,7 @@ loop-place-init c =
     record {
       settled = refl;
       current = refl;
-      placed = are_placed-stay old.current c.look_up-places.new.current old.tentative.items c.look_up-places.ensures.extends.places c.requires.placed;
+      placed = λ placed. are_placed-stay old.current c.look_up-places.new.current old.tentative.items c.look_up-places.ensures.extends.places placed;
       count = sym c.len-place.ensures;
       front = take-length old.tentative.items;
       capacity = omega arith;
@@ -31,9 +31,9 @@ loop-place-preserved c =
     record {
       settled = l.invariant.settled;
       current = l.invariant.current;
-      placed =
+      placed = λ placed.
           rw c.push_layer.ensures.items
-          (All-append P l.self.tentative.items _ l.invariant.placed
+          (All-append P l.self.tentative.items _ (l.invariant.placed placed)
           (All-one P layer (rw (c.layer_of-layer.ensures.op, c.layer_of-layer.ensures.places, l.invariant.current) c.look_up-places.ensures.places)));
       count = omega (arith, ap length c.push_layer.ensures.items, length-append l.self.tentative.items (layer ∷ []), l.invariant.count);
       front =

@@ -7,7 +7,7 @@ abbrev pub invariant-loop-place : goal.invariant-loop-place
 invariant-loop-place l = record {
   settled : l.self.settled ≡ l.initial.self.settled;
   current : l.self.current ≡ l.initial.self.current;
-  placed : ArePlaced l.self.current l.self.tentative.items;
+  placed : ArePlaced l.fn.self.current l.fn.self.tentative.items → ArePlaced l.self.current l.self.tentative.items;
   count : vec_len l.self.tentative ≡ l._place;
   front : take (length l.fn.self.tentative.items) l.self.tentative.items ≡ l.fn.self.tentative.items;
   capacity : vec_capacity l.fn.self.tentative ≤ vec_capacity l.self.tentative;

@@ -3,6 +3,7 @@ use Rattle.std.proofs.lemmas.List.{map-append, take-append-drop, take_more}
 use Rattle.tact_base.specs.Images.{ops_of}
 use Rattle.tact_base.specs.declared.write.Op.{Op}
 use Rattle.tact_base.specs.declared.write.Write.{Write}
+use Rattle.rollback_apply.specs.Current.{CurrentState}
 use Rattle.rollback_apply.specs.Layers.{ops_in, wanted, all_wanted}
 use Rattle.rollback_apply.proofs.ImageLemmas.{op_in, op_of, all_wanted-push, all_wanted-stays, behind_put, fewer_wanted, same-places, take-within}
 use Rattle.rollback_apply.proofs.layers.Layers.replace_from.Goals as goal
@@ -50,7 +51,7 @@ loop-at-preserved c =
       within = omega (arith, above, put.left, carried.left, l.invariant.within);
       count = carried.count ∙ put.count ∙ l.invariant.count;
       settled = carried.settled ∙ put.settled ∙ l.invariant.settled;
-      applies = carried.applies;
+      applies = λ count before applies. carried.applies count before (put.applies count before (l.invariant.applies count before applies));
       front =
           carried.front
           ∙ sym (take-within from at between.tentative.items (omega (arith, above)))
@@ -62,23 +63,17 @@ loop-at-preserved c =
       spare = omega (
         arith,
         put.spare,
-        carried.spare,
+        ap (λ (current : CurrentState). current.spare) carried.current,
         l.invariant.spare,
         ap (λ count. all_wanted l.self.current (ops_of (take count writes))) more,
         wanted_here,
         wanted_all,
         all_wanted-push l.self.current (ops_of (take n writes)) write.op,
         all_wanted-stays l.self.current between.current (ops_of (take n writes)) put.places,
-        all_wanted-stays between.current new.current (ops_of (take n writes)) (same-places between.current new.current carried.places),
+        all_wanted-stays between.current new.current (ops_of (take n writes)) (same-places between.current new.current (ap (λ (current : CurrentState). current.places) carried.current)),
         fewer_wanted new.current writes (last - from) n (omega (arith, put.left, carried.left)),
       );
     }
-
-pub returns-clause-applies : goal.returns-clause-applies
-returns-clause-applies c =
-    let l = c.loop-at in
-    let left : l.left ≡ c.args.from = omega (arith, c.loop-at-test.false, l.invariant.above, l.invariant.left) in
-    rw (← left) l.invariant.applies
 
 pub returns-clause-ops : goal.returns-clause-ops
 returns-clause-ops c =

@@ -1,4 +1,4 @@
-use Rattle.std.proofs.Common.{◌≡◌, ◌+◌, ◌-◌, ◌≤◌, vec_len, length, take, drop}
+use Rattle.std.proofs.Common.{◌≡◌, ℕ, ◌+◌, ◌-◌, ◌≤◌, vec_len, length, take, drop}
 use Rattle.std.specs.Vec.{vec_capacity}
 use Rattle.tact_base.specs.Images.{ops_of}
 use Rattle.rollback_apply.specs.Layers.{ops_in, all_wanted, Applies}
@@ -11,7 +11,7 @@ invariant-loop-at l = record {
   within : l.at ≤ l.from + length l.writes;
   count : vec_len l.self.tentative ≡ l.from + length l.writes;
   settled : l.self.settled ≡ l.fn.self.settled;
-  applies : Applies l.self l.left;
+  applies : (count : ℕ) → count ≤ l.from → Applies l.fn.self count → Applies l.self count;
   front : take l.from l.self.tentative.items ≡ take l.from l.fn.self.tentative.items;
   rest : ops_in (drop l.at l.self.tentative.items) ≡ ops_of (drop (l.at - l.from) l.writes);
   capacity : vec_capacity l.fn.self.tentative ≤ vec_capacity l.self.tentative;

@@ -1,10 +1,10 @@
 use Rattle.std.proofs.Common.{◌≡◌, ◌≤◌, vec_len}
 use Rattle.rollback_apply.specs.Layers.{Applies}
-use Rattle.rollback_apply.proofs.layers.Layers.undo_from.Given as goal
+use Rattle.rollback_apply.proofs.layers.Layers.undo_back.Given as goal
 
 abbrev pub invariant-loop-at : goal.invariant-loop-at
 invariant-loop-at l = record {
-  above : l.from ≤ l.at;
+  above : l.at ≤ l.fn.applied;
   within : l.at ≤ vec_len l.self.tentative;
   settled : l.self.settled ≡ l.initial.self.settled;
   tentative : l.self.tentative ≡ l.initial.self.tentative;

@@ -1,10 +1,12 @@
-use Rattle.std.proofs.Common.{◌≡◌, vec_len}
+use Rattle.std.proofs.Common.{◌≡◌, ◌-◌, ◌≤◌, vec_len}
 use Rattle.std.specs.Vec.{vec_capacity}
 use Rattle.rollback_apply.specs.Layers.{ops_in, Applies}
-use Rattle.rollback_apply.proofs.layers.Layers.apply_from.Given as goal
+use Rattle.rollback_apply.proofs.layers.Layers.apply_to.Given as goal
 
 abbrev pub invariant-loop-at : goal.invariant-loop-at
 invariant-loop-at l = record {
+  above : l.fn.applied ≤ l.at;
+  within : l.at ≤ vec_len l.self.tentative;
   settled : l.self.settled ≡ l.initial.self.settled;
   applies : Applies l.self l.at;
   ops : ops_in l.self.tentative.items ≡ ops_in l.initial.self.tentative.items;
@@ -12,3 +14,6 @@ invariant-loop-at l = record {
   capacity : vec_capacity l.self.tentative ≡ vec_capacity l.initial.self.tentative;
   left : l.self.current.spare ≡ l.initial.self.current.spare;
 }
+
+abbrev pub decreases-loop-at : goal.decreases-loop-at
+decreases-loop-at l = l.count - l.at
