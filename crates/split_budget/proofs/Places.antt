@@ -1,11 +1,12 @@
 -- Where the numbers of a replica on a conit stand, and what is read there and after a write.
-use Rattle.std.proofs.Common.{◌≡◌, ℕ, ◌*◌, ◌/◌, ◌%◌, ◌<◌, ◌≤◌, List, length, get_or, set, replicate, sym, ap, ◌∙◌, inl, inr, ◌⊎◌, ⊎_elim, arith}
+use Rattle.std.proofs.Common.{◌≡◌, ℕ, ◌+◌, ◌-◌, ◌*◌, ◌/◌, ◌%◌, ◌<◌, ◌≤◌, List, length, get_or, set, map, take, drop, replicate, sym, ap, ◌∙◌, inl, inr, ◌⊎◌, ⊎_elim, arith}
 use Rattle.std.proofs.lemmas.Bool.{cases_eq, cases_lt}
-use Rattle.std.proofs.lemmas.List.{get_or-set_same, get_or-set_other, set_past, get_or_read, get_or_past, get_or-replicate, length-replicate}
-use Rattle.std.proofs.lemmas.Nat.{div-mul-add, mod-mul-add}
+use Rattle.std.proofs.lemmas.List.{get_or-set_same, get_or-set_other, set_past, get_or_read, get_or_past, get_or-replicate, get_or-take, get_or-drop, length-replicate, length-take-le, length-drop}
+use Rattle.std.proofs.lemmas.List.FromFn.{fill_by_all}
+use Rattle.std.proofs.lemmas.Nat.{div-mul-add, mod-mul-add, mul-le}
 use Rattle.tact_base.proofs.ListLemmas.{get_or-map_range}
 use Rattle.tact_base.proofs.SetupLemmas.{place_in}
-use Rattle.tact_base.specs.Setup.{Setup, place_of}
+use Rattle.tact_base.specs.Setup.{Setup, place_of, conits_of}
 use Rattle.split_budget.specs.Budgets.{by_place}
 
 -- a place tells the replica and the conit
@@ -64,3 +65,19 @@ get_or-replicate_same n i x =
     ⊎_elim (λ (within : i < n). get_or-replicate n i x x within)
     (λ (past : n ≤ i). get_or_past (replicate n x) i x (rw (length-replicate n x) past))
     (cases_lt i n)
+
+-- the numbers of a replica on all conits stand side by side
+pub row_at : (s : Setup) (xs : List ℕ) (replica first : ℕ)
+    → length xs ≡ s.replicas * s.conits
+    → replica < s.replicas
+    → first ≡ place_of s replica 0
+    → take (first + s.conits - first) (drop first xs) ≡ map (λ conit. get_or xs (place_of s replica conit) 0) (conits_of s)
+row_at s xs replica first long in_r at =
+    let width : first + s.conits - first ≡ s.conits = omega arith in
+    let within : first + s.conits ≤ length xs = omega (arith, mul-le (replica + 1) s.conits s.replicas s.conits (omega (arith, in_r)) (omega arith), at, long) in
+    rw width (fill_by_all (λ conit. get_or xs (place_of s replica conit) 0) (take s.conits (drop first xs)) s.conits 0
+    (length-take-le s.conits (drop first xs) (rw (length-drop first xs) (omega (arith, within))))
+    (λ conit in_conit.
+    get_or-take s.conits (drop first xs) conit 0 in_conit
+    ∙ get_or-drop first xs conit 0
+    ∙ ap (λ place. get_or xs place 0) (omega (arith, at))))

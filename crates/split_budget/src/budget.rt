@@ -1,5 +1,5 @@
-ghost use Rattle.std.specs.Prelude.{◌≡◌};
-ghost use Rattle.tact_base.specs.Setup.{place_of};
+ghost use Rattle.std.specs.Prelude.{◌≡◌, ◌*◌, ◌<◌, length, map, slice_index};
+ghost use Rattle.tact_base.specs.Setup.{place_of, conits_of};
 ghost use Rattle.split_budget.specs.Budgets.{setup_of};
 
 use tact_base::Numbers;
@@ -25,5 +25,15 @@ impl Budget {
         ensures { result ≡ place_of (setup_of self.now) replica conit }
     {
         replica as usize * self.conits as usize + conit as usize
+    }
+
+    // The numbers of a replica, by conit.
+    pub(crate) fn row<'a>(&self, numbers: &'a [u64], replica: u32) -> &'a [u64]
+        requires sized { length numbers.now ≡ self.now.replicas * self.now.conits }
+        requires replica { replica < self.now.replicas }
+        ensures { result.now ≡ map (λ conit. slice_index numbers.now (place_of (setup_of self.now) replica conit)) (conits_of (setup_of self.now)) }
+    {
+        let first = self.place_of(replica, 0);
+        &numbers[first..first + self.conits as usize]
     }
 }

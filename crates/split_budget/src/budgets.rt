@@ -1,5 +1,5 @@
-ghost use Rattle.std.specs.Prelude.{◌≡◌, ◌+◌, ◌-◌, ◌<◌, ◌≤◌, [], ◌∷◌, ◌++◌, All, IfOk, OnOk, OnErr, IsOk, max, slice_index, slice_set, unsigned_abs};
-ghost use Rattle.tact_base.specs.Setup.{place_of};
+ghost use Rattle.std.specs.Prelude.{◌≡◌, ◌+◌, ◌-◌, ◌<◌, ◌≤◌, [], ◌∷◌, ◌++◌, All, IfOk, OnOk, OnErr, IsOk, map, max, slice_index, slice_set, unsigned_abs};
+ghost use Rattle.tact_base.specs.Setup.{place_of, conits_of};
 ghost use Rattle.tact_base.specs.declared.fit.Fit.TheVariants.{Fits};
 ghost use Rattle.tact_base.specs.declared.limits.TheConstants.{LENT_MAX};
 ghost use Rattle.split_budget.specs.Budgets.{IsBudget, setup_of, opening, IsPeer, reserved_on, lent_to, returned_by};
@@ -149,6 +149,22 @@ impl Budgets {
         ensures kept { KeepsBudgets self.now }
     {
         self.returned[self.config.place_of(owner, conit)]
+    }
+
+    /// What was ever lent to the holder, by conit, as [`Budgets::lent`] tells it. Takes no memory.
+    pub fn all_lent(&self, holder: u32) -> &[u64]
+        requires { IsPeer self.now holder }
+        ensures { result.now ≡ map (lent_to self.now holder) (conits_of self.now.setup) }
+    {
+        self.config.row(&self.lent, holder)
+    }
+
+    /// What was ever given back to the owner, by conit, as [`Budgets::returned`] tells it. Takes no memory.
+    pub fn all_returned(&self, owner: u32) -> &[u64]
+        requires { IsPeer self.now owner }
+        ensures { result.now ≡ map (returned_to self.now owner) (conits_of self.now.setup) }
+    {
+        self.config.row(&self.returned, owner)
     }
 
     /// What of its share of the owner's bound on the conit the replica could give back. Takes no memory.
