@@ -32,6 +32,7 @@ pub mod DroppedParts
 pub mod DroppedLemmas
 pub mod TrimmedStands
 pub mod SentMessages
+pub mod FilledRows
 pub mod TrimmedReads
 pub mod TrimmedWrites
 pub mod TrimmedLogs

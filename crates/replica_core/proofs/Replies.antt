@@ -1,10 +1,8 @@
 -- The reply that a replica gives by what it keeps is the one that is due.
-use Rattle.std.proofs.Common.{◌≡◌, ℕ, ◌<◌, ◌≤◌, nat_lt, max, Bool, cond, List, length, get_or, unsigned_abs, All, Option, unwrap_or, sym, ap, ap₂, ◌∙◌}
+use Rattle.std.proofs.Common.{◌≡◌, ℕ, ◌<◌, nat_lt, max, cond, List, unsigned_abs, All, Option, unwrap_or, sym, ap, ap₂, ◌∙◌}
 use Rattle.std.proofs.lemmas.List.Elements.{All-weaker}
 use Rattle.tact_base.specs.declared.conit_list.Weight.{Weight}
-use Rattle.tact_base.specs.declared.write.Op.{Op}
 use Rattle.run_model.specs.Histories.{moment_at}
-use Rattle.run_model.specs.Missing.{reserved}
 use Rattle.run_model.specs.Ranges.{IsRequestInRange, IsWeightInRange}
 use Rattle.run_model.specs.Replies.{done, reply_of}
 use Rattle.run_model.specs.declared.call.Reply.{Reply}

@@ -180,6 +180,13 @@ impl Seen {
         last_of(self.ordered.committed()).or(self.last_dropped)
     }
 
+    /// Puts the operations that wait into the values that are kept, so that the next values cost little. Takes no memory.
+    pub(crate) fn catch_up(&mut self)
+        ensures { self.new ≡ self.old }
+    {
+        self.image.catch_up();
+    }
+
     /// The value of a key after all writes. Takes no memory.
     pub(crate) fn get(&self, key: u64) -> i64
         ensures { result ≡ image_of (ops_of self.now.writes) key }

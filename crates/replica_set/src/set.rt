@@ -129,6 +129,35 @@ impl ReplicaSet {
         one.send(moment, to, firsts)
     }
 
+    /// A replica sends the message to another that is due after its part, as [`ReplicaSet::send`], and it is put in
+    /// the place of `message`, whose memory it uses.
+    ///
+    /// `Full` comes exactly where the replica made 20,000 entries or its clock stands at 2^40. Both faults leave
+    /// all replicas as they were, and of `message` nothing is said then.
+    pub fn send_into(
+        &mut self,
+        from: u32,
+        moment: u64,
+        to: u32,
+        firsts: &Numbers,
+        message: &mut Message,
+    ) -> Result<(), CoreFault>
+        requires from { from < self.old.setup.replicas }
+        requires moment { moment ≤ MOMENT_MAX }
+        requires to { to < self.old.setup.replicas }
+        requires other { to ≢ from }
+        requires firsts { length firsts.now ≡ self.old.setup.replicas }
+        ensures goes_on { OnOk result (GoesOn self.old self.new from moment (λ part. act.Send message.new)) }
+        ensures due { OnOk result ((history : List Entry) → StandsFor history self.old
+            → message.new ≡ message_of self.old.setup from (part_of history from) (moment_at (part_of history from) moment) to firsts.now) }
+        ensures setup { self.new.setup ≡ self.old.setup }
+        ensures fault { IfErr result (λ fault. HoldsAt self.old from (λ core. IsFaultOf core fault)) }
+        ensures err { OnErr result (self.new ≡ self.old) }
+    {
+        let sender = &mut self.replicas[from as usize];
+        sender.send_into(moment, to, firsts, message)
+    }
+
     /// A replica takes a message, which fits it unless it is full; a message that was sent to it in a run does
     /// (`sent_message_fits`). The moment of the entry is the greater of the handed one and that of the replica's last
     /// entry.

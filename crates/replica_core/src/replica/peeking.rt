@@ -1,5 +1,5 @@
 //! The message that a replica would send now.
-ghost use Rattle.std.specs.Prelude.{◌≡◌, ◌≢◌, ◌<◌, List, length, IfOk};
+ghost use Rattle.std.specs.Prelude.{◌≡◌, ◌≢◌, ◌<◌, List, length, IfOk, OnOk};
 ghost use Rattle.run_model.specs.Histories.{moment_at};
 ghost use Rattle.run_model.specs.Messages.{message_of};
 ghost use Rattle.run_model.specs.declared.entry.Entry.{Entry};
@@ -20,6 +20,26 @@ impl Replica {
         ensures due { IfOk result (λ message. (part : List Entry) → Stands part self.now.core
             → message ≡ message_of self.now.core.setup self.now.core.replica part (moment_at part moment) to firsts.now) }
     {
-        self.next_message(moment.max(self.last), to, firsts.items())
+        let mut message = Message::blank(self.alloc);
+        self.put_message(moment, to, firsts, &mut message)?;
+        Ok(message)
+    }
+
+    // Puts the message that `send` would send in the place of another.
+    pub(super) fn put_message(
+        &self,
+        moment: u64,
+        to: u32,
+        firsts: &Numbers,
+        message: &mut Message,
+    ) -> Result<(), NoMemory>
+        requires to { to < self.now.core.setup.replicas }
+        requires other { to ≢ self.now.core.replica }
+        requires firsts { length firsts.now ≡ self.now.core.setup.replicas }
+        ensures due { OnOk result ((part : List Entry) → Stands part self.now.core
+            → message.new ≡ message_of self.now.core.setup self.now.core.replica part (moment_at part moment) to firsts.now) }
+    {
+        let moment = moment.max(self.last);
+        self.put_next_message(moment, to, firsts.items(), message)
     }
 }

@@ -1,5 +1,5 @@
 //! Reads, and what they look at.
-ghost use Rattle.std.specs.Prelude.{◌≡◌, ◌≢◌, ◌<◌, ◌≤◌, [], ◌∷◌, All, length, map};
+ghost use Rattle.std.specs.Prelude.{◌≡◌, ◌≢◌, ℕ, ◌<◌, ◌≤◌, [], ◌∷◌, All, None, length, map};
 ghost use Rattle.tact_base.specs.Sums.{net_sum};
 ghost use Rattle.tact_base.specs.declared.limits.TheConstants.{ALPHA_MAX, AMOUNT_MAX, LIST_MAX, MOMENT_MAX};
 ghost use Rattle.access_gate.specs.Verdicts.{AreOuts};
@@ -31,14 +31,27 @@ impl Replica {
         reply
     }
 
-    // The reply to a read whose entry has this moment.
-    pub(super) fn read_at(&self, moment: u64, key: u64, needs: &[Need]) -> Reply
-        requires { AreNeedsInRange self.now.core.setup needs.now }
-        ensures { result ≡ read_reply self.now.core moment key needs.now }
+    // The reply to a read whose entry has this moment. The operations of all writes are put into the values that are kept
+    // before one is looked up.
+    pub(super) fn read_at(&mut self, moment: u64, key: u64, needs: &[Need]) -> Reply
+        requires { AreNeedsInRange self.old.core.setup needs.now }
+        ensures reply { result ≡ read_reply self.old.core moment key needs.now }
+        ensures same { self.new ≡ self.old }
     {
         if let Some(refusal) = self.first_refusal(moment, needs) {
             return refusal;
         }
+        self.seen.catch_up();
+        self.value_reply(key, needs)
+    }
+
+    // The reply to a read whose needs are met.
+    fn value_reply(&self, key: u64, needs: &[Need]) -> Reply
+        requires { AreNeedsInRange self.now.core.setup needs.now }
+        ensures { (moment : ℕ)
+            → first_some (need_refusal self.now.core moment) needs.now ≡ None
+            → result ≡ read_reply self.now.core moment key needs.now }
+    {
         Reply::Value {
             value: self.get(key),
             sums: self.sums(needs),

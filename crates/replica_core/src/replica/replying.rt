@@ -17,22 +17,22 @@ use tact_base::Weight;
 impl Replica {
     /// The reply that `call` would give to a request at this moment, whichever client asks: the first case that
     /// applies. Who has to keep an entry before the replica makes it, in a journal say, knows it by this. Takes no
-    /// memory, and changes nothing.
-    pub fn reply(&self, moment: u64, request: &Request) -> Reply
-        requires free { is_full self.now.core ≡ false }
+    /// memory, and changes nothing that contracts see: the operations that wait are applied before a value is looked up.
+    pub fn reply(&mut self, moment: u64, request: &Request) -> Reply
+        requires free { is_full self.old.core ≡ false }
         requires moment { moment ≤ MOMENT_MAX }
-        requires in_range { IsRequestInRange self.now.core.setup request.now }
-        ensures due { (part : List Entry) → Stands part self.now.core
-            → result ≡ reply_of self.now.core.setup self.now.core.replica part (moment_at part moment) request.now }
+        requires in_range { IsRequestInRange self.old.core.setup request.now }
+        ensures due { (part : List Entry) → Stands part self.old.core
+            → result ≡ reply_of self.old.core.setup self.old.core.replica part (moment_at part moment) request.now }
+        ensures same { self.new ≡ self.old }
     {
+        let at = moment.max(self.last);
         match request {
             Request::Write { weights, op: _ } => self.write_reply(weights.items()),
             Request::Held { weight, op: _ } => self.held_reply(weight),
             Request::Reserve { conit, amount } => self.reserve_reply(*conit, *amount),
             Request::Release { conit, amount } => self.release_reply(*conit, *amount),
-            Request::Read { key, needs } => {
-                self.read_at(moment.max(self.last), *key, needs.items())
-            }
+            Request::Read { key, needs } => self.read_at(at, *key, needs.items()),
         }
     }
 

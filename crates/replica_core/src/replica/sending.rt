@@ -15,7 +15,8 @@ use super::Replica;
 use crate::CoreFault;
 use run_model::Message;
 use tact_base::{
-    Cover, Covers, MESSAGE_WRITES, NoMemory, Numbers, SharedWrites, Write, WriteList, first_index,
+    Cover, Covers, MESSAGE_WRITES, NoMemory, Numbers, REPLICAS_MAX, SharedWrites, Write, WriteList,
+    first_index,
 };
 
 impl Replica {
@@ -39,10 +40,40 @@ impl Replica {
         ensures fault { IfErr result (IsFaultOf self.old.core) }
         ensures err { OnErr result (self.new ≡ self.old) }
     {
-        self.may_enter()?;
-        let message = self.message(moment, to, firsts)?;
-        self.enter_sending(moment, to, firsts, &message);
+        let mut message = Message::blank(self.alloc);
+        self.send_into(moment, to, firsts, &mut message)?;
         Ok(message)
+    }
+
+    /// Sends the next message to another replica, as [`Replica::send`], and puts it in the place of `message`, whose
+    /// memory it uses: so a message needn't be moved to where it is to lie.
+    ///
+    /// `Full` comes exactly where 20,000 entries were made or the clock stands at 2^40. Both faults leave the
+    /// replica as it was, and of `message` nothing is said then.
+    pub fn send_into(
+        &mut self,
+        moment: u64,
+        to: u32,
+        firsts: &Numbers,
+        message: &mut Message,
+    ) -> Result<(), CoreFault>
+        requires moment { moment ≤ MOMENT_MAX }
+        requires to { to < self.old.core.setup.replicas }
+        requires other { to ≢ self.old.core.replica }
+        requires firsts { length firsts.now ≡ self.old.core.setup.replicas }
+        ensures goes_on { OnOk result (GoesOn self.old.core self.new.core moment (λ part. act.Send message.new)) }
+        ensures due { OnOk result ((part : List Entry) → Stands part self.old.core
+            → message.new ≡ message_of self.old.core.setup self.old.core.replica part (moment_at part moment) to firsts.now) }
+        ensures same { IsSameReplica self.old.core self.new.core }
+        ensures spare { self.new.spare ≡ self.old.spare }
+        ensures not_full { OnOk result (is_full self.old.core ≡ false) }
+        ensures fault { IfErr result (IsFaultOf self.old.core) }
+        ensures err { OnErr result (self.new ≡ self.old) }
+    {
+        self.may_enter()?;
+        self.put_message(moment, to, firsts, message)?;
+        self.enter_sending(moment, to, firsts, message);
+        Ok(())
     }
 
     /// Goes on by the sending of a message that is the one `message` gives now. Who has to keep the entry before the
@@ -64,43 +95,42 @@ impl Replica {
         self.enter(moment);
     }
 
-    // The message that is sent at this moment, where these firsts are given.
-    pub(crate) fn next_message(
+    // Puts the message that is sent at this moment, where these firsts are given, in the place of another.
+    pub(crate) fn put_next_message(
         &self,
         moment: u64,
         to: u32,
         given: &[u64],
-    ) -> Result<Message, NoMemory>
+        message: &mut Message,
+    ) -> Result<(), NoMemory>
         requires to { to < self.now.core.setup.replicas }
         requires other { to ≢ self.now.core.replica }
         requires given { length given.now ≡ self.now.core.setup.replicas }
-        ensures message { IfOk result (λ message. message ≡ next_message self.now.core moment to given.now) }
+        ensures { OnOk result (message.new ≡ next_message self.now.core moment to given.now) }
     {
-        let firsts = self.firsts(to, given)?;
-        Ok(Message {
-            from: self.replica,
-            to,
-            number: self.sends,
-            haves: self.haves()?,
-            covers: self.told_covers(moment)?,
-            writes: SharedWrites::new(self.alloc, self.writes(firsts.items())?)?,
-            firsts,
-            lent: self.lent(to)?,
-            returned: self.returned(to)?,
-        })
+        message.from = self.replica;
+        message.to = to;
+        message.number = self.sends;
+        self.put_haves(&mut message.haves)?;
+        self.put_covers(moment, &mut message.covers)?;
+        self.put_firsts(to, given, &mut message.firsts)?;
+        let writes = self.writes(message.firsts.items())?;
+        message.writes = SharedWrites::new(self.alloc, writes)?;
+        message.lent.replace(self.budgets.all_lent(to))?;
+        message.returned.replace(self.budgets.all_returned(to))
     }
 
     // By origin, where the told writes begin.
-    fn firsts(&self, to: u32, given: &[u64]) -> Result<Numbers, NoMemory>
+    fn put_firsts(&self, to: u32, given: &[u64], firsts: &mut Numbers) -> Result<(), NoMemory>
         requires to { to < self.now.core.setup.replicas }
         requires given { length given.now ≡ self.now.core.setup.replicas }
-        ensures { IfOk result (λ firsts. firsts ≡ map (first_told self.now.core to given.now) (origins_of self.now.core)) }
+        ensures { OnOk result (firsts.new ≡ map (first_told self.now.core to given.now) (origins_of self.now.core)) }
     {
-        let mut firsts = Numbers::with_capacity(self.alloc, self.config.replicas() as usize)?;
+        let mut row = [0; REPLICAS_MAX as usize];
         for origin in 0..self.config.replicas() {
-            firsts.push(self.first_told(to, given, origin))?;
+            row[origin as usize] = self.first_told(to, given, origin);
         }
-        Ok(firsts)
+        firsts.replace(&row[..self.config.replicas() as usize])
     }
 
     // Where the told writes of an origin begin.
@@ -114,40 +144,29 @@ impl Replica {
         first_index(to, origin, self.have(origin), self.known(to, origin), given)
     }
 
-    fn haves(&self) -> Result<Numbers, NoMemory>
-        ensures { IfOk result (λ haves. haves ≡ map (λ origin. length (log_at self.now.core origin)) (origins_of self.now.core)) }
+    // By origin, how many writes it has.
+    fn put_haves(&self, haves: &mut Numbers) -> Result<(), NoMemory>
+        ensures { OnOk result (haves.new ≡ map (λ origin. length (log_at self.now.core origin)) (origins_of self.now.core)) }
     {
-        let mut haves = Numbers::with_capacity(self.alloc, self.config.replicas() as usize)?;
+        let mut row = [0; REPLICAS_MAX as usize];
         for origin in 0..self.config.replicas() {
-            haves.push(self.have(origin))?;
+            row[origin as usize] = self.have(origin);
         }
-        Ok(haves)
+        haves.replace(&row[..self.config.replicas() as usize])
     }
 
-    fn told_covers(&self, moment: u64) -> Result<Covers, NoMemory>
-        ensures { IfOk result (λ covers. covers ≡ map (cover_told self.now.core moment) (origins_of self.now.core)) }
+    // The cover of each origin: of itself its own state, at this moment.
+    fn put_covers(&self, moment: u64, covers: &mut Covers) -> Result<(), NoMemory>
+        ensures { OnOk result (covers.new ≡ map (cover_told self.now.core moment) (origins_of self.now.core)) }
     {
-        let mut covers = Covers::with_capacity(self.alloc, self.config.replicas() as usize)?;
-        for origin in 0..self.config.replicas() {
-            covers.push(self.told_cover(origin, moment))?;
-        }
-        Ok(covers)
-    }
-
-    // The cover of an origin: of itself its own state, at this moment.
-    fn told_cover(&self, origin: u32, moment: u64) -> Cover
-        requires { origin < self.now.core.setup.replicas }
-        ensures { result ≡ cover_told self.now.core moment origin }
-    {
-        if origin == self.replica {
-            Cover {
-                count: self.have(origin),
-                stamp: self.clock,
-                moment,
-            }
-        } else {
-            self.cover(origin)
-        }
+        covers.replace(self.vector.covers())?;
+        let own = Cover {
+            count: self.have(self.replica),
+            stamp: self.clock,
+            moment,
+        };
+        covers.set(self.replica as usize, own);
+        Ok(())
     }
 
     // From each origin in rising order the writes from its first on, none of which is given up, as many as there is
@@ -190,32 +209,6 @@ impl Replica {
         let first = first.min(have);
         self.logs
             .slice(origin, first, (most as u64).min(have - first))
-    }
-
-    // What the replica ever lent to a peer, by conit.
-    fn lent(&self, holder: u32) -> Result<Numbers, NoMemory>
-        requires holder { holder < self.now.core.setup.replicas }
-        requires other { holder ≢ self.now.core.replica }
-        ensures { IfOk result (λ lent. lent ≡ map (lent_to self.now.core.budgets holder) (conits_of self.now.core.setup)) }
-    {
-        let mut lent = Numbers::with_capacity(self.alloc, self.config.conits() as usize)?;
-        for conit in 0..self.config.conits() {
-            lent.push(self.budgets.lent(holder, conit))?;
-        }
-        Ok(lent)
-    }
-
-    // What the replica ever gave back to a peer, by conit.
-    fn returned(&self, owner: u32) -> Result<Numbers, NoMemory>
-        requires owner { owner < self.now.core.setup.replicas }
-        requires other { owner ≢ self.now.core.replica }
-        ensures { IfOk result (λ returned. returned ≡ map (returned_to self.now.core.budgets owner) (conits_of self.now.core.setup)) }
-    {
-        let mut returned = Numbers::with_capacity(self.alloc, self.config.conits() as usize)?;
-        for conit in 0..self.config.conits() {
-            returned.push(self.budgets.returned(owner, conit))?;
-        }
-        Ok(returned)
     }
 }
 

@@ -29,6 +29,9 @@ use tact_base::{Cover, NoMemory, Numbers, Write};
 use version_vector::Vector;
 use write_log::Logs;
 
+// For how many more told writes of each origin room is made at once, if it can.
+const AHEAD: u64 = 64;
+
 impl Replica {
     /// Takes a message that fits (`fits`): of each other origin the writes that it lacks, unless they would leave
     /// a gap, and the cover, where it vouches for no more than the log has; what the sender is known to have,
@@ -79,7 +82,7 @@ impl Replica {
         ensures enough { count ≤ self.old.beside → IsOk result }
         ensures err { OnErr result (self.new ≡ self.old) }
     {
-        if count > self.beside {
+        if count > self.beside && self.make_room(count.saturating_add(AHEAD)).is_err() {
             self.make_room(count)?;
         }
         Ok(())

@@ -10,10 +10,11 @@ pub returns-clause-answers : goal.returns-clause-answers
 returns-clause-answers c =
     let old = c.args.self.now.core in
     let needs = c.args.needs.now in
-    let kept : IsKept old = subst (λ (s : ReplicaState). IsKept s.core) c.self.view_is c.self.invariant.0 in
-    let at : c.max.result ≡ max c.args.moment old.counts.last = c.max.ensures ∙ ap (λ (s : ReplicaState). max c.args.moment s.core.counts.last) c.self.view_is in
+    let kept : IsKept old = subst (λ (s : ReplicaState). IsKept s.core) c.read_at.view_is c.read_at.invariant.0 in
+    let at : c.max.result ≡ max c.args.moment old.counts.last = c.max.ensures ∙ ap (λ (s : ReplicaState). max c.args.moment s.core.counts.last) c.read_at.view_is in
     Answers-is old (entered (with_call old c.args.client) c.args.moment) c.close_call.new.self.core c.args.moment c.args.client (request.Read c.args.key needs)
     (read_reply old (max c.args.moment old.counts.last) c.args.key needs) c.read_at-reply.result
-    (ap (λ (s : ReplicaState). s.core) c.close_call.ensures)
-    (c.read_at-reply.ensures ∙ ap₂ (λ (moment : ℕ) (listed : List Need). read_reply old moment c.args.key listed) at c.items.ensures.items)
+    (ap (λ (s : ReplicaState). s.core) c.close_call.ensures
+    ∙ ap (λ (s : ReplicaState). entered (with_call s.core c.args.client) c.args.moment) c.read_at-reply.ensures.same)
+    (c.read_at-reply.ensures.reply ∙ ap₂ (λ (moment : ℕ) (listed : List Need). read_reply old moment c.args.key listed) at c.items.ensures.items)
     (read_answered old kept c.args.moment c.args.client c.args.key needs c.requires)

@@ -1,5 +1,4 @@
-use Rattle.std.proofs.Common.{◌≡◌, ◌+◌, List, length, None, refl, sym, ap, ap₂, ◌∙◌, subst}
-use Rattle.tact_base.specs.declared.conit_list.Weight.{Weight}
+use Rattle.std.proofs.Common.{◌≡◌, ◌+◌, length, None, refl, sym, ap, ◌∙◌, subst}
 use Rattle.run_model.specs.Replies.{first_some}
 use Rattle.run_model.specs.declared.call.Reply.TheVariants as reply
 use Rattle.run_model.specs.declared.call.Request.TheVariants as request

@@ -1,12 +1,11 @@
-use Rattle.std.proofs.Common.{◌≡◌, ◌≤◌, ◌<◌, length, take, sym, ap, ◌∙◌, subst, ⊎_elim, arith}
+use Rattle.std.proofs.Common.{◌≡◌, ◌≤◌, ◌<◌, sym, ap, ◌∙◌, subst, ⊎_elim, arith}
 use Rattle.std.proofs.lemmas.Bool.{cases_eq}
-use Rattle.std.proofs.lemmas.List.{get_or-take, length-take-le}
-use Rattle.std.proofs.lemmas.List.FromFn.{fill_by_all}
 use Rattle.tact_base.specs.declared.limits.TheConstants.{ALPHA_MAX}
 use Rattle.split_budget.specs.Budgets.{all_out}
 use Rattle.access_gate.specs.Verdicts.{AreOuts}
 use Rattle.replica_core.specs.Reading.{out_at}
 use Rattle.replica_core.specs.States.{ReplicaState, HasBudgets}
+use Rattle.replica_core.proofs.FilledRows.{filled_front}
 use Rattle.replica_core.proofs.Reading.{AreOuts-kept}
 use Rattle.replica_core.proofs.replica.Replica.outs.Goals as goal
 
@@ -15,13 +14,10 @@ returns-clause-outs c =
     let core = c.args.self.now.core in
     let outs = c.loop-holder.outs in
     let replicas = ap (λ (s : ReplicaState). s.core.setup.replicas) c.self.view_is in
-    let count : c.replicas.result ≡ core.setup.replicas = c.replicas.ensures.count ∙ replicas in
-    let size : length (take c.replicas.result outs) ≡ core.setup.replicas = length-take-le c.replicas.result outs (omega (arith, c.loop-holder.invariant.sized, c.replicas.ensures.high)) ∙ count in
     c.new.ensures
-    ∙ fill_by_all (out_at core c.args.conit) (take c.replicas.result outs) core.setup.replicas 0 size
-    (λ k within.
-    get_or-take c.replicas.result outs k 0 (omega (arith, within, count))
-    ∙ c.loop-holder.invariant.filled k (omega (arith, within, c.loop-holder-test.false, c.replicas-holder-end.ensures.count, replicas)))
+    ∙ filled_front (out_at core c.args.conit) outs c.replicas.result core.setup.replicas (c.replicas.ensures.count ∙ replicas)
+    (omega (arith, c.loop-holder.invariant.sized, c.replicas.ensures.high))
+    (λ k within. c.loop-holder.invariant.filled k (omega (arith, within, c.loop-holder-test.false, c.replicas-holder-end.ensures.count, replicas)))
 
 pub returns-clause-all : goal.returns-clause-all
 returns-clause-all c =

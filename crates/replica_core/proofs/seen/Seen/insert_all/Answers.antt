@@ -1,4 +1,4 @@
-use Rattle.std.proofs.Common.{◌≡◌, ℕ, ◌<◌, ◌+◌, ◌-◌, ◌++◌, All, List, length, take, false, nat_le, sym, ap, ◌∙◌, subst, arith}
+use Rattle.std.proofs.Common.{◌≡◌, ℕ, ◌<◌, ◌-◌, ◌++◌, All, List, length, take, false, nat_le, sym, ap, ◌∙◌, subst, arith}
 use Rattle.std.proofs.lemmas.Bool.{lt-leb}
 use Rattle.std.proofs.lemmas.List.{length-map, take-map}
 use Rattle.std.proofs.lemmas.List.Elements.{All-append, All-weaker}
@@ -12,8 +12,7 @@ use Rattle.tact_base.specs.declared.write.Write.{Write}
 use Rattle.commit_order.proofs.BatchOrder.{filter-with_writes}
 use Rattle.commit_order.specs.Batches.{with_writes}
 use Rattle.conit_weights.specs.Running.{conits_of}
-use Rattle.rollback_apply.specs.Image.{ImageState}
-use Rattle.replica_core.specs.Seen.{SeenState, HasImage, AreOnConits}
+use Rattle.replica_core.specs.Seen.{SeenState, AreOnConits}
 use Rattle.replica_core.proofs.ImageSteps.{op_of, late-alone, late-stays, tentative-joined, HasImage-admitted, sorted-with_writes, length-with_writes}
 use Rattle.replica_core.proofs.SeenLemmas.{HasSums-admitted}
 use Rattle.replica_core.proofs.seen.Seen.insert_all.Goals as goal

@@ -1,0 +1,9 @@
+use Rattle.std.proofs.Common.{◌≡◌, ℕ, ◌<◌, length, get_or}
+use Rattle.replica_core.specs.Sending.{first_told}
+use Rattle.replica_core.proofs.replica.Replica.put_firsts.Given as goal
+
+abbrev pub invariant-loop-origin : goal.invariant-loop-origin
+invariant-loop-origin l = record {
+  sized : length l.row ≡ 8;
+  filled : (at : ℕ) → at < l.origin → get_or l.row at 0 ≡ first_told l.self.core l.to l.given at;
+}
