@@ -74,7 +74,7 @@ impl Event {
             } => Event::Post {
                 from: *from,
                 to: *to,
-                firsts: firsts.copy(alloc)?,
+                firsts: Numbers::from_slice(alloc, firsts.items())?,
                 place: *place,
             },
             Event::Take { notice } => Event::Take { notice: *notice },

@@ -96,6 +96,7 @@ impl Book {
         let all = writes.items();
         image.reserve(all.len() as u64)?;
         image.insert_all(0, all, all);
+        image.catch_up();
         Ok(image.get(key))
     }
 

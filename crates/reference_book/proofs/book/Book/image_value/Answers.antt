@@ -7,7 +7,7 @@ use Rattle.tact_base.specs.Images.{Image, image_of, image_from, empty_image, ops
 use Rattle.tact_base.specs.WriteOrder.{in_order}
 use Rattle.tact_base.specs.declared.write.Op.{Op}
 use Rattle.tact_base.specs.declared.write.Write.{Write}
-use Rattle.rollback_apply.specs.Image.{base_of, AreJoined}
+use Rattle.rollback_apply.specs.Image.{ImageState, base_of, value_in, AreJoined}
 use Rattle.rollback_apply.proofs.ImageLemmas.{same_image}
 use Rattle.reference_book.specs.Books.{writes_in}
 use Rattle.reference_book.proofs.Histories.{writes_in-is}
@@ -35,6 +35,7 @@ returns-clause-value c =
     c.insert_all.ensures.ops
     ∙ ap₂ (λ (n : ℕ) (ws : List Write). take n c.reserve.new.self.ops ++ ops_of ws) none sorted in
     to_z-of_z w64 c.get.result fits ∙ c.get.ensures
+    ∙ ap (λ (image : ImageState). value_in image c.args.key) c.catch_up.ensures
     ∙ ap₂ (λ (from : Image) (done : List Op). image_from from done c.args.key) base ops
 
 pub returns-clause-of_history : goal.returns-clause-of_history
