@@ -1,8 +1,7 @@
 -- Tokens that were read in front, as the readers of a line give them.
-use Rattle.std.proofs.Common.{◌≡◌, ℕ, zero, suc, ◌+◌, ◌-◌, ◌*◌, ◌^◌, ◌<◌, ◌≤◌, add-one, true, false, List, [], ◌∷◌, ◌++◌, length, get_or, take, drop, drop-cons, take_while, Ok, refl, sym, ap, ◌∙◌, ⊎_elim, inr, arith}
+use Rattle.std.proofs.Common.{◌≡◌, ℕ, suc, ◌+◌, ◌-◌, ◌<◌, ◌≤◌, true, false, List, [], ◌∷◌, ◌++◌, length, get_or, take, drop, drop-cons, take_while, Ok, refl, sym, ap, ◌∙◌, ⊎_elim, inl, inr, arith}
 use Rattle.std.specs.Char.{is_ascii_digit}
 use Rattle.std.specs.Prelude.{ℤ}
-use Rattle.std.proofs.Math.Nat.{pow-suc}
 use Rattle.std.proofs.lemmas.Bool.Decides.{nat_tests}
 use Rattle.std.proofs.lemmas.List.{append-nil, take_all, take-append-drop}
 use Rattle.std.proofs.lemmas.List.Sums.{take_while-cons}
@@ -77,27 +76,20 @@ digit_next (a ∷ b ∷ rest) most value some digit space is within =
     (read_begins (a ∷ b ∷ rest) most value 1 (one_digit (a ∷ b ∷ rest) value some digit other is) within)
     (inr (ap (λ (k : ℕ). k ∷ rest) space))
 
--- more places, and a greater power
-tens_up : (i k : ℕ) → 10 ^ i ≤ 10 ^ (i + k)
-tens_up i zero =
-    let none : i + zero ≡ i = omega arith in
-    rw none (omega arith)
-tens_up i (suc k) =
-    let next : i + suc k ≡ suc (i + k) = omega arith in
-    let more : 10 ^ (i + suc k) ≡ 10 ^ (i + k) * 10 = rw next (pow-suc 10 (i + k)) in
-    omega (arith, more, tens_up i k)
-
--- one more digit of fewer than 19
-pub digit_fits : (value digit count : ℕ)
-    → count < 19
-    → value < 10 ^ count
-    → digit ≤ 9
-    → (10 * value + digit < 10 ^ 19) × (10 * value + digit < 10 ^ (count + 1))
-digit_fits value digit count few within small =
-    let more : 10 ^ (count + 1) ≡ 10 ^ count * 10 = rw (add-one count) (pow-suc 10 count) in
-    let rest : count + 1 + (18 - count) ≡ 19 = omega (arith, few) in
-    let up : 10 ^ (count + 1) ≤ 10 ^ 19 = rw rest at (tens_up (count + 1) (18 - count)) in
-    (omega (arith, more, within, small, up), omega (arith, more, within, small))
+-- the number of one digit that ends the line
+pub digit_last : (bytes : List ℕ) (most value : ℕ)
+    → length bytes ≡ 1
+    → is_ascii_digit (get_or bytes 0 0) ≡ true
+    → value ≡ get_or bytes 0 0 - 48
+    → value ≤ most
+    → IsNext (λ token. in_line (whole_number token most)) bytes value []
+digit_last [] most value single digit is within = absurd (omega (arith, single))
+digit_last (a ∷ b ∷ rest) most value single digit is within = absurd (omega (arith, single))
+digit_last (a ∷ []) most value single digit is within =
+    let small : a ≤ 57 = grind (arith, nat_tests, digit) in
+    let digits : take_while is_ascii_digit (a ∷ []) ≡ a ∷ [] = rw (take_while-cons is_ascii_digit a [], digit) refl in
+    let reads : ReadsNumber (a ∷ []) 0 (Ok value) 1 = rw digits (omega arith, omega (arith, small), omega (arith, is), omega arith) in
+    number_is_next (a ∷ []) [] [] most value (read_begins (a ∷ []) most value 1 reads within) (inl (refl, refl))
 
 -- a word in front, and a space
 pub past_word_is : (rest word : List ℕ) (place : ℕ)

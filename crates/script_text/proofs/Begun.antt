@@ -1,5 +1,5 @@
 -- A reader that has a first line alone.
-use Rattle.std.proofs.Common.{◌≡◌, ℕ, Bool, false, List, [], ◌∷◌, sym, ap, ◌∙◌, subst}
+use Rattle.std.proofs.Common.{◌≡◌, false, [], ◌∷◌, sym, ap, ◌∙◌, subst}
 use Rattle.std.specs.Prelude.{replicate}
 use Rattle.tact_base.specs.Setup.{Setup}
 use Rattle.run_model.specs.declared.script_line.Line.{Line}
@@ -11,7 +11,7 @@ use Rattle.script_text.specs.Setups.{setup_of, is_past_setup}
 use Rattle.script_text.proofs.SetupGrowth.{unsent}
 
 pub begun_is : (reader : Reader) (first : Line)
-    → reader.lines ≡ first ∷ []
+    → reader.lines.items ≡ first ∷ []
     → IsBegun first reader.config
     → reader.past ≡ false
     → reader.sent.receivers.items ≡ replicate reader.config.replicas []

@@ -6,5 +6,6 @@ pub mod RangesKept
 pub mod ScriptRun
 pub mod ReaderLemmas
 pub mod Begun
+pub mod Reading
 pub mod AheadLemmas
 pub mod GoodLemmas

@@ -1,24 +1,22 @@
 -- What lines have made goes on with each line that may follow.
-use Rattle.std.proofs.Common.{◌≡◌, ◌≢◌, ℕ, ◌+◌, ◌<◌, ◌≤◌, ◌==◌, Bool, true, false, cond, nat_le, List, [], ◌∷◌, ◌++◌, length, get_or, map, Option, None, Some, refl, sym, ap, ◌∙◌, subst, arith, get_or-set_same}
+use Rattle.std.proofs.Common.{◌≡◌, ℕ, ◌+◌, ◌<◌, ◌≤◌, ◌==◌, Bool, true, false, cond, nat_le, List, [], ◌∷◌, ◌++◌, length, get_or, Option, Some, refl, sym, ap, ◌∙◌, subst, arith, get_or-set_same}
 use Rattle.std.specs.List.{slice_get}
 use Rattle.std.specs.Option.{option_map_or}
 use Rattle.std.proofs.lemmas.Bool.{eq-eqb, leb-true}
 use Rattle.std.proofs.lemmas.List.{length-map, get_or_push, length_push}
 use Rattle.std.proofs.lemmas.Option.{slice_get-get_or}
-use Rattle.tact_base.specs.declared.limits.TheConstants.{CLIENTS, HISTORY_MAX, STAMP_MAX}
+use Rattle.tact_base.specs.declared.limits.TheConstants.{HISTORY_MAX, STAMP_MAX}
 use Rattle.tact_base.specs.Setup.{Setup, IsSetup}
 use Rattle.run_model.specs.Histories.{part_of, sent_in}
 use Rattle.run_model.specs.Loans.{home, free}
 use Rattle.run_model.specs.ScriptRuns.{Played, enters, calls, sends, takes, takes_one, passes, zeros, after_line}
 use Rattle.run_model.specs.declared.call.Request.{Request}
 use Rattle.run_model.specs.declared.call.Request.TheVariants as request
-use Rattle.run_model.specs.declared.entry.Message.{Message}
 use Rattle.run_model.specs.declared.script_line.Line.{Line}
 use Rattle.run_model.specs.declared.script_line.Line.TheVariants as line
-use Rattle.script_text.specs.Fronts.{IsNamed}
 use Rattle.script_text.specs.LineRanges.{IsCallInRange, AreTwoInRange, IsAmountInRange, IsLineInRange}
 use Rattle.script_text.specs.Sending.{with_sent, sent_after, is_sent}
-use Rattle.script_text.proofs.Counts.{count_of, entry_stays, grows_by_entry, passing_grows}
+use Rattle.script_text.proofs.Counts.{count_of, entry_stays, passing_grows}
 use Rattle.script_text.proofs.Played.{IsPlayed, receiver_of, entry_of, calling, sending, taking, lending, returning, restarting, call_is_lawful, send_is_lawful, take_is_lawful, loan_is_lawful, return_is_lawful, restart_is_lawful, played_quiet, played_sent, named_message}
 
 -- the last of a list that grew at its end

@@ -31,8 +31,7 @@ use Rattle.run_promises.proofs.DueInRange.{due_message_in_range}
 use Rattle.run_promises.proofs.Kept.{IsPart-run}
 use Rattle.run_promises.proofs.PartSound.{PartSound, PartSound-part}
 use Rattle.script_text.specs.Fronts.{IsNamed}
-use Rattle.script_text.specs.LineRanges.{AreTwoInRange}
-use Rattle.script_text.specs.Sending.{with_sent, is_sent}
+use Rattle.script_text.specs.Sending.{is_sent}
 
 -- whom a message is for
 abbrev pub receiver_of : Message → ℕ

@@ -1,15 +1,15 @@
 -- A line is in range of each setup with the same counts.
-use Rattle.std.proofs.Common.{◌≡◌, ℕ, ◌<◌, List, All, sym, subst, ◌∙◌}
+use Rattle.std.proofs.Common.{ℕ, ◌<◌, subst, ◌∙◌}
 use Rattle.std.proofs.lemmas.List.Elements.{All-weaker}
 use Rattle.tact_base.specs.Setup.{Setup}
 use Rattle.tact_base.specs.declared.conit_list.Need.{Need}
 use Rattle.tact_base.specs.declared.conit_list.Weight.{Weight}
-use Rattle.run_model.specs.Ranges.{IsWeightInRange, IsNeedInRange, AreWeightsInRange, AreNeedsInRange, IsRequestInRange}
+use Rattle.run_model.specs.Ranges.{IsWeightInRange, IsNeedInRange, IsRequestInRange}
 use Rattle.run_model.specs.declared.call.Request.{Request}
 use Rattle.run_model.specs.declared.call.Request.TheVariants as request
 use Rattle.run_model.specs.declared.script_line.Line.{Line}
 use Rattle.run_model.specs.declared.script_line.Line.TheVariants as line
-use Rattle.script_text.specs.LineRanges.{IsCallInRange, AreTwoInRange, IsAmountInRange, AreFirstsInRange, IsLineInRange}
+use Rattle.script_text.specs.LineRanges.{IsCallInRange, AreTwoInRange, IsAmountInRange, IsLineInRange}
 use Rattle.script_text.proofs.SetupGrowth.{SameCounts}
 
 module _ (s t : Setup) (same : SameCounts s t) where

@@ -1,7 +1,7 @@
 -- Scripts as their reader has them, growing by a line.
 use Rattle.std.proofs.Common.{◌≡◌, ℕ, Bool, true, false, not, ◌||◌, List, [], ◌∷◌, ◌++◌, Result, Ok, Err, length, refl, ap, ◌∙◌}
 use Rattle.std.specs.List.{fold}
-use Rattle.std.specs.Prelude.{replicate, OnOk}
+use Rattle.std.specs.Prelude.{replicate}
 use Rattle.std.proofs.lemmas.List.{length-set, length-replicate}
 use Rattle.std.proofs.lemmas.List.Folds.{list_any-append}
 use Rattle.tact_base.specs.Setup.{Setup, IsSetup}
@@ -68,7 +68,7 @@ pub joined_is : {X : Type 0} (result : Result X LineFault) (ls new : List Line) 
     → line_after ls ts ≡ later_line setup past sent ts
     → later_at setup.replicas setup.conits ts ≡ Ok l
     → Gives (λ _. l) result (of_whole setup past sent l)
-    → OnOk result (new ≡ ls ++ l ∷ [])
+    → new ≡ ls ++ l ∷ []
     → Gives (λ _. new) result (with_line ls ts)
 unfolding with_line later_line
 joined_is (Ok x) ls new ts l setup past sent after at whole added = rw (after, at, whole, added) refl

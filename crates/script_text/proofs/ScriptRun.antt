@@ -1,15 +1,15 @@
 -- The history of a script is a run, and before each line it is ready for it.
-use Rattle.std.proofs.Common.{◌≡◌, ℕ, ◌+◌, ◌*◌, ◌<◌, ◌≤◌, Bool, true, false, List, [], ◌∷◌, ◌++◌, length, get_or, refl, sym, ap, ◌∙◌, subst, append_assoc, arith}
+use Rattle.std.proofs.Common.{◌≡◌, ℕ, ◌+◌, ◌*◌, ◌<◌, ◌≤◌, Bool, true, false, List, [], ◌∷◌, ◌++◌, length, refl, sym, ap, ◌∙◌, subst, append_assoc, arith}
 use Rattle.std.specs.Prelude.{replicate}
 use Rattle.std.proofs.lemmas.Bool.{false≢true}
 use Rattle.std.proofs.lemmas.List.{append-nil, length-replicate, length-append, length_push, get_or-replicate}
 use Rattle.std.proofs.lemmas.List.Sums.{fold_push}
 use Rattle.tact_base.proofs.ListLemmas.{from_right}
-use Rattle.tact_base.specs.declared.limits.TheConstants.{HISTORY_MAX, SCRIPT_LINES}
+use Rattle.tact_base.specs.declared.limits.TheConstants.{SCRIPT_LINES}
 use Rattle.tact_base.specs.Setup.{Setup, IsSetup}
-use Rattle.run_model.specs.Histories.{part_of, EachAfter}
-use Rattle.run_model.specs.Runs.{IsLawful, IsRun}
-use Rattle.run_model.specs.ScriptRuns.{Played, not_played, after_line, played_by, history_of}
+use Rattle.run_model.specs.Histories.{EachAfter}
+use Rattle.run_model.specs.Runs.{IsLawful}
+use Rattle.run_model.specs.ScriptRuns.{Played, not_played, after_line, played_by}
 use Rattle.run_model.specs.declared.script_line.Line.{Line}
 use Rattle.run_model.specs.declared.script_line.Line.TheVariants as line
 use Rattle.run_model.proofs.ClockBound.{clock-run}

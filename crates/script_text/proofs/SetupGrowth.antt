@@ -1,6 +1,6 @@
 -- The setup of a script as it grows by a line.
-use Rattle.std.proofs.Common.{◌≡◌, ℕ, ◌<◌, Bool, true, false, not, ◌||◌, List, [], ◌∷◌, ◌++◌, length, refl, sym, ap, ◌∙◌, subst}
-use Rattle.std.specs.List.{fold, list_any}
+use Rattle.std.proofs.Common.{◌≡◌, ℕ, Bool, true, false, not, ◌||◌, List, [], ◌∷◌, ◌++◌, refl, sym, ap, ◌∙◌}
+use Rattle.std.specs.List.{fold}
 use Rattle.std.specs.Prelude.{replicate}
 use Rattle.std.proofs.lemmas.Bool.{false≢true}
 use Rattle.std.proofs.lemmas.List.Folds.{list_any-append}
@@ -11,7 +11,7 @@ use Rattle.run_model.specs.declared.script_line.Line.{Line}
 use Rattle.run_model.specs.declared.script_line.Line.TheVariants as line
 use Rattle.script_text.specs.LineRanges.{IsLineInRange}
 use Rattle.script_text.specs.Scripts.{FitsAfter}
-use Rattle.script_text.specs.Sending.{sent_after, sent_by, is_sent}
+use Rattle.script_text.specs.Sending.{sent_after, sent_by}
 use Rattle.script_text.specs.Setups.{opening, bounded, setup_after, setup_of, sets_up, is_past_setup}
 
 -- a line that doesn't set up leaves the setup

@@ -6,5 +6,6 @@ pub mod LineRanges
 pub mod Scripts
 pub mod Fronts
 pub mod Forms
+pub mod Adding
 pub mod Texts
 pub mod Readings

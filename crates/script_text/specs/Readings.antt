@@ -8,10 +8,10 @@ use Rattle.script_text.specs.Setups.{setup_of, is_past_setup}
 use Rattle.script_text.specs.declared.reader.Reader.{Reader}
 
 pub record IsReading (reader : Reader) : Type 0 where
-  pub setup : reader.config ≡ setup_of reader.lines
-  pub past : reader.past ≡ is_past_setup reader.lines
-  pub sent : reader.sent.receivers.items ≡ sent_by reader.lines
-  pub script : IsScript reader.lines
+  pub setup : reader.config ≡ setup_of reader.lines.items
+  pub past : reader.past ≡ is_past_setup reader.lines.items
+  pub sent : reader.sent.receivers.items ≡ sent_by reader.lines.items
+  pub script : IsScript reader.lines.items
 
 -- a first line, and the setup that it makes
 pub record IsBegun (first : Line) (config : Setup) : Type 0 where

@@ -8,35 +8,27 @@ ghost use Rattle.run_record.specs.Lists.{need_of, weight_of};
 
 use tact_base::{AMOUNT_MAX, MOMENT_MAX, Need, WEIGHT_MAX, Weight};
 
-/// A number of so many digits fits a u64, and isn't read here: one of fewer is.
-const PLAIN_DIGITS: usize = 19;
+/// A number that passes this isn't read on here.
+const DIGITS_MAX: u64 = 1_000_000_000_000_000_000;
 
-// The number of the digits in front, and how many they are: most often one.
+// The number of the digits in front, and how many they are.
 fn plain_digits(bytes: &[u8]) -> Option<(u64, usize)>
     ensures { IfSome result (λ x. ReadsNumber bytes.now 0 (Ok x.0) x.1) }
 {
-    match bytes {
-        [digit, next, ..] if digit.is_ascii_digit() && !next.is_ascii_digit() => {
-            Some((u64::from(*digit - b'0'), 1))
-        }
-        _ => many_digits(bytes),
+    if bytes.is_empty() || !bytes[0].is_ascii_digit() {
+        return None;
     }
-}
-
-fn many_digits(bytes: &[u8]) -> Option<(u64, usize)>
-    ensures { IfSome result (λ x. ReadsNumber bytes.now 0 (Ok x.0) x.1) }
-{
-    let mut value = 0;
-    for place in 0..PLAIN_DIGITS {
-        if place == bytes.len() || !bytes[place].is_ascii_digit() {
-            if place == 0 {
-                return None;
-            }
+    let mut value = u64::from(bytes[0] - b'0');
+    for place in 1..bytes.len() {
+        if !bytes[place].is_ascii_digit() {
             return Some((value, place));
+        }
+        if value > DIGITS_MAX {
+            return None;
         }
         value = 10 * value + u64::from(bytes[place] - b'0');
     }
-    None
+    Some((value, bytes.len()))
 }
 
 // The same of a number that is at most `most`, and what follows it.
@@ -143,8 +135,18 @@ fn past_colon(after: &[u8]) -> Option<&[u8]>
     }
 }
 
-/// The number that the token in front is, and what is left after it: most often a digit, and a space after it.
+/// The number that the token in front is, and what is left after it.
 pub(crate) fn number_ahead(bytes: &[u8], most: u64) -> Option<(u64, &[u8])>
+    ensures within { IfSome result (λ x. x.0 ≤ most) }
+    ensures next { IfSome result (λ x. IsNext (λ token. in_line (whole_number token most)) bytes.now x.0 x.1.now) }
+{
+    let (value, after) = digits_ahead(bytes, most)?;
+    let rest = past_token(after)?;
+    Some((value, rest))
+}
+
+/// The same of a token that is one digit.
+pub(crate) fn digit_ahead(bytes: &[u8], most: u64) -> Option<(u64, &[u8])>
     ensures within { IfSome result (λ x. x.0 ≤ most) }
     ensures next { IfSome result (λ x. IsNext (λ token. in_line (whole_number token most)) bytes.now x.0 x.1.now) }
 {
@@ -152,17 +154,11 @@ pub(crate) fn number_ahead(bytes: &[u8], most: u64) -> Option<(u64, &[u8])>
         [digit, b' ', rest @ ..] if digit.is_ascii_digit() && u64::from(*digit - b'0') <= most => {
             Some((u64::from(*digit - b'0'), rest))
         }
-        _ => any_number_ahead(bytes, most),
+        [digit] if digit.is_ascii_digit() && u64::from(*digit - b'0') <= most => {
+            Some((u64::from(*digit - b'0'), &[]))
+        }
+        _ => None,
     }
-}
-
-fn any_number_ahead(bytes: &[u8], most: u64) -> Option<(u64, &[u8])>
-    ensures within { IfSome result (λ x. x.0 ≤ most) }
-    ensures next { IfSome result (λ x. IsNext (λ token. in_line (whole_number token most)) bytes.now x.0 x.1.now) }
-{
-    let (value, after) = digits_ahead(bytes, most)?;
-    let rest = past_token(after)?;
-    Some((value, rest))
 }
 
 /// The signed number that the token in front is, and what is left after it.

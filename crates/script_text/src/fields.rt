@@ -6,7 +6,7 @@ ghost use Rattle.run_model.specs.Ranges.{IsOpInRange};
 ghost use Rattle.run_record.specs.Splitting.{tokens};
 ghost use Rattle.run_record.specs.Fields.{Gives, number_at, signed_at, replica_at, other_replica_at, client_at, put_at, add_at, shift_at, op_at};
 
-use crate::ahead::{number_ahead, past_word, whole_signed_ahead};
+use crate::ahead::{digit_ahead, number_ahead, past_word, whole_signed_ahead};
 use run_model::LineKind;
 use run_record::LineFault;
 use tact_base::{CLIENTS, KEY_MAX, Op, VALUE_MAX};
@@ -17,6 +17,17 @@ pub(crate) fn number_at(rest: &[u8], most: u64) -> Result<(u64, &[u8]), LineFaul
     ensures number { Gives (λ x. (x.0, tokens x.1.now)) result (number_at most (tokens rest.now)) }
 {
     match number_ahead(rest, most) {
+        Some((number, after)) => Ok((number, after)),
+        None => run_record::number_at(rest, most),
+    }
+}
+
+/// The same of a number that is most often one digit.
+pub(crate) fn small_at(rest: &[u8], most: u64) -> Result<(u64, &[u8]), LineFault>
+    ensures within { IfOk result (λ x. x.0 ≤ most) }
+    ensures number { Gives (λ x. (x.0, tokens x.1.now)) result (number_at most (tokens rest.now)) }
+{
+    match digit_ahead(rest, most) {
         Some((number, after)) => Ok((number, after)),
         None => run_record::number_at(rest, most),
     }
@@ -40,7 +51,7 @@ pub(crate) fn replica_at(rest: &[u8], replicas: u32) -> Result<(u32, &[u8]), Lin
     ensures within { IfOk result (λ x. x.0 < replicas) }
     ensures replica { Gives (λ x. (x.0, tokens x.1.now)) result (replica_at replicas (tokens rest.now)) }
 {
-    let (number, rest) = number_at(rest, u64::from(replicas - 1))?;
+    let (number, rest) = small_at(rest, u64::from(replicas - 1))?;
     Ok((number as u32, rest))
 }
 
@@ -68,7 +79,7 @@ pub(crate) fn client_at(rest: &[u8]) -> Result<(u32, &[u8]), LineFault>
     ensures within { IfOk result (λ x. x.0 < CLIENTS) }
     ensures client { Gives (λ x. (x.0, tokens x.1.now)) result (client_at (tokens rest.now)) }
 {
-    let (number, rest) = number_at(rest, u64::from(CLIENTS - 1))?;
+    let (number, rest) = small_at(rest, u64::from(CLIENTS - 1))?;
     Ok((number as u32, rest))
 }
 

@@ -12,6 +12,7 @@ mod laws;
 mod lists;
 mod peer_forms;
 mod reader;
+mod room;
 mod script;
 mod sent;
 mod setups;

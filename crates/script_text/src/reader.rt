@@ -21,12 +21,13 @@ ghost use Rattle.script_text.specs.Texts.{fault_of, first_line, of_first, of_who
 use crate::dispatch::{first_at, later_at};
 use crate::fault::ScriptFault;
 use crate::good_lines::are_good;
+use crate::room::{first_lines, last_of};
 use crate::sent::Sent;
 use crate::setups::{bounded, opening};
 use run_model::{Config, Line, LineKind};
 use run_record::{LineFault, fault_of_bytes, is_skipped, split_line};
 use std::alloc::Global;
-use tact_base::{Items, LINE_MAX, NoMemory, SCRIPT_LINES};
+use tact_base::{LINE_MAX, NoMemory, SCRIPT_LINES};
 
 /// The lines of a script so far, the setup that they made, whether they are past it, and the messages that
 /// they sent.
@@ -34,7 +35,7 @@ use tact_base::{Items, LINE_MAX, NoMemory, SCRIPT_LINES};
 pub(crate) struct Reader {
     pub(crate) config: Config,
     pub(crate) past: bool,
-    pub(crate) lines: Items<Line>,
+    pub(crate) lines: Vec<Line>,
     pub(crate) sent: Sent,
 }
 
@@ -186,38 +187,24 @@ fn note(
     Ok(())
 }
 
-// Adds a line where it may follow those that were read.
-fn join(reader: &mut Reader, alloc: Global, line: Line) -> Result<(), LineFault>
-    requires reading { IsReading reader.old }
-    requires names { IsLineInRange reader.old.config line }
-    ensures reading { OnOk result (IsReading reader.new) }
-    ensures added { OnOk result (reader.new.lines ≡ reader.old.lines ++ line ∷ []) }
-    ensures whole { Gives (λ _. line) result
-        (of_whole reader.old.config reader.old.past reader.old.sent.receivers.items line) }
-{
-    note(
-        alloc,
-        &line,
-        &mut reader.config,
-        &mut reader.past,
-        &mut reader.sent,
-    )?;
-    reader.lines.push_amply(line)?;
-    Ok(())
-}
-
 // A later line that isn't skipped, after those that were read.
 #[tactic(auto, unfolding(crate::specs::Texts::later_line, crate::specs::Texts::with_line))]
 fn read_tokens(reader: &mut Reader, alloc: Global, raw: &[u8]) -> Result<(), LineFault>
     requires { IsReading reader.old }
     ensures reading { OnOk result (IsReading reader.new) }
-    ensures grows { OnOk result (length reader.new.lines ≤ length reader.old.lines + 1) }
-    ensures read { Gives (λ _. reader.new.lines) result (with_line reader.old.lines (tokens raw.now)) }
+    ensures grows { OnOk result (length reader.new.lines.items ≤ length reader.old.lines.items + 1) }
+    ensures read { Gives (λ _. reader.new.lines.items) result (with_line reader.old.lines.items (tokens raw.now)) }
 {
     let replicas = reader.config.replicas();
     let conits = reader.config.conits();
-    match later_at(alloc, raw, replicas, conits) {
-        Ok(line) => join(reader, alloc, line),
+    match later_at(&mut reader.lines, alloc, raw, replicas, conits) {
+        Ok(()) => note(
+            alloc,
+            last_of(&reader.lines),
+            &mut reader.config,
+            &mut reader.past,
+            &mut reader.sent,
+        ),
         Err(fault) => Err(fault),
     }
 }
@@ -235,8 +222,8 @@ fn read_line(
     requires good { IsTrue is_good → IsGood raw.now }
     ensures reading { OnOk result (IsReading reader.new) }
     ensures few { OnOk result (number ≤ SCRIPT_LINES) }
-    ensures grows { OnOk result (length reader.new.lines ≤ length reader.old.lines + 1) }
-    ensures read { Gives (λ _. reader.new.lines) result (lines_after number reader.old.lines raw.now) }
+    ensures grows { OnOk result (length reader.new.lines.items ≤ length reader.old.lines.items + 1) }
+    ensures read { Gives (λ _. reader.new.lines.items) result (lines_after number reader.old.lines.items raw.now) }
 {
     if let Some(kind) = fault_of(number, raw, is_good) {
         return Err(LineFault::Kind(kind));
@@ -269,11 +256,10 @@ fn first_of(alloc: Global, number: u64, raw: &[u8]) -> Result<Option<(Line, Conf
 fn begun(alloc: Global, line: Line, config: Config) -> Result<Reader, NoMemory>
     requires { IsBegun line config }
     ensures reading { IfOk result IsReading }
-    ensures lines { IfOk result (λ reader. reader.lines ≡ line ∷ []) }
+    ensures lines { IfOk result (λ reader. reader.lines.items ≡ line ∷ []) }
 {
     let sent = Sent::new(alloc, config.replicas())?;
-    let mut lines = Items::new(alloc);
-    lines.push(line)?;
+    let lines = first_lines(alloc, line)?;
     Ok(Reader {
         config,
         past: false,
@@ -287,8 +273,8 @@ fn begun(alloc: Global, line: Line, config: Config) -> Result<Reader, NoMemory>
 pub(crate) fn read_first(alloc: Global, bytes: &[u8]) -> Result<(Reader, u64, &[u8]), ScriptFault>
     ensures reading { IfOk result (λ x. IsReading x.0) }
     ensures few { IfOk result (λ x. x.1 ≤ SCRIPT_LINES + 1) }
-    ensures lines { IfOk result (λ x. length x.0.lines < x.1) }
-    ensures ok { IfOk result (λ x. read_from x.1 x.0.lines (raw_lines x.2.now) ≡ script_of bytes.now) }
+    ensures lines { IfOk result (λ x. length x.0.lines.items < x.1) }
+    ensures ok { IfOk result (λ x. read_from x.1 x.0.lines.items (raw_lines x.2.now) ≡ script_of bytes.now) }
     ensures err { IfErr result (λ fault. Reads (Err fault) (script_of bytes.now)) }
 {
     let mut rest = bytes;
@@ -321,11 +307,11 @@ pub(crate) fn read_later(
 ) -> Result<(), ScriptFault>
     requires reading { IsReading reader.old }
     requires few { first ≤ SCRIPT_LINES + 1 }
-    requires lines { length reader.old.lines < first }
+    requires lines { length reader.old.lines.items < first }
     ensures reading { OnOk result (IsReading reader.new) }
-    ensures few { OnOk result (length reader.new.lines ≤ SCRIPT_LINES) }
-    ensures ok { OnOk result (read_from first reader.old.lines (raw_lines text.now) ≡ Ok reader.new.lines) }
-    ensures err { IfErr result (λ fault. Reads (Err fault) (read_from first reader.old.lines (raw_lines text.now))) }
+    ensures few { OnOk result (length reader.new.lines.items ≤ SCRIPT_LINES) }
+    ensures ok { OnOk result (read_from first reader.old.lines.items (raw_lines text.now) ≡ Ok reader.new.lines.items) }
+    ensures err { IfErr result (λ fault. Reads (Err fault) (read_from first reader.old.lines.items (raw_lines text.now))) }
 {
     let is_good = are_good(text);
     let mut rest = text;

@@ -9,18 +9,19 @@ ghost use Rattle.script_text.specs.Texts.{script_of, Reads};
 
 use crate::fault::ScriptFault;
 use crate::reader::{Reader, read_first, read_later};
+use crate::room::more_room;
 use crate::setups::opening;
 use run_model::{Config, Line};
 use run_record::LineFault;
 use std::alloc::Global;
 use std::marker::Model;
-use tact_base::{Items, NoMemory};
+use tact_base::NoMemory;
 
 /// A script: its setup, and its lines that aren't skipped, the `start` line first.
 #[derive(Debug, Drop)]
 pub struct Script {
     config: Config,
-    lines: Items<Line>,
+    lines: Vec<Line>,
 }
 
 impl Model for Script {
@@ -30,9 +31,9 @@ impl Model for Script {
 
     ghost Value = { List Line };
 
-    ghost view = { λ s. s.lines };
+    ghost view = { λ s. s.lines.items };
 
-    ghost invariant = { λ s. s.config ≡ setup_of s.lines };
+    ghost invariant = { λ s. s.config ≡ setup_of s.lines.items };
 }
 
 impl Script {
@@ -54,7 +55,7 @@ impl Script {
             Err(LineFault::NoMemory) => return Err(NoMemory),
             Err(LineFault::Kind(_)) => unreachable!(),
         };
-        let mut lines = Items::new(alloc);
+        let mut lines = Vec::new(alloc);
         lines.push(Line::Start {
             replicas,
             conits,
@@ -71,7 +72,11 @@ impl Script {
         ensures ok { OnOk result (self.new ≡ self.old ++ line ∷ []) }
         ensures err { OnErr result (self.new ≡ self.old) }
     {
-        self.lines.push_amply(line)
+        if self.lines.len() == self.lines.capacity() {
+            more_room(&mut self.lines)?;
+        }
+        self.lines.push_reserved(line);
+        Ok(())
     }
 
     /// The setup that the `start` line and the `bound` lines make.
@@ -85,7 +90,7 @@ impl Script {
     pub fn lines(&self) -> &[Line]
         ensures { result.now ≡ self.now }
     {
-        self.lines.items()
+        &self.lines
     }
 }
 

@@ -1,8 +1,6 @@
-use Rattle.std.proofs.Common.{rules, arith}
-use Rattle.std.proofs.lemmas.List.{take_rest}
-use Rattle.script_text.proofs.AheadLemmas.{digit_next}
+use Rattle.run_record.proofs.FrontLemmas.{number_is_next}
 use Rattle.script_text.proofs.ahead.number_ahead.Goals as goal
 
-pub returns-in-32-clause-next : goal.returns-in-32-clause-next
-returns-in-32-clause-next c =
-    rw take_rest (digit_next c.args.bytes.now c.args.most c.from-in-32.result (omega arith) (search rules) (search rules) c.from-in-32.ensures (search rules))
+pub returns-clause-next : goal.returns-clause-next
+returns-clause-next c =
+    number_is_next c.args.bytes.now c.in_ok-value.after.now c.in_ok-rest.rest.now c.args.most c.in_ok-value.value c.in_ok-value.ensures.begins c.in_ok-rest.ensures

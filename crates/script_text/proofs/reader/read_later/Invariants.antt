@@ -10,10 +10,10 @@ use Rattle.script_text.proofs.reader.read_later.Given as goal
 abbrev pub invariant-loop-rest : goal.invariant-loop-rest
 invariant-loop-rest l = record {
   reading : IsReading l.reader;
-  lines : length l.reader.lines < l.number;
+  lines : length l.reader.lines.items < l.number;
   few : l.number ≤ SCRIPT_LINES + 1;
   good : IsTrue l.is_good → All IsGood (raw_lines l.rest);
-  read : read_from l.number l.reader.lines (raw_lines l.rest) ≡ read_from l.first l.initial.reader.lines (raw_lines l.text);
+  read : read_from l.number l.reader.lines.items (raw_lines l.rest) ≡ read_from l.first l.initial.reader.lines.items (raw_lines l.text);
 }
 
 abbrev pub decreases-loop-rest : goal.decreases-loop-rest

@@ -1,4 +1,3 @@
-use Rattle.std.proofs.Common.{refl}
 use Rattle.script_text.proofs.ReaderLemmas.{start_is_begun}
 use Rattle.script_text.proofs.reader.setup_by.Goals as goal
 

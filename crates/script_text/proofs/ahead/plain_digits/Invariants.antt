@@ -1,13 +1,13 @@
-use Rattle.std.proofs.Common.{◌≡◌, ◌+◌, ◌^◌, ◌<◌, ◌≤◌, length, take, drop}
+use Rattle.std.proofs.Common.{◌≡◌, ◌+◌, ◌≤◌, length, take, drop}
 use Rattle.std.specs.List.{prefix_len}
 use Rattle.std.specs.Char.{is_ascii_digit}
 use Rattle.tact_base.specs.Numbers.{decimal_value}
-use Rattle.script_text.proofs.ahead.many_digits.Given as goal
+use Rattle.script_text.proofs.ahead.plain_digits.Given as goal
 
 abbrev pub invariant-loop-place : goal.invariant-loop-place
 invariant-loop-place l = record {
+  some : 1 ≤ l.place;
   inside : l.place ≤ length l.bytes;
   digits : l.place + prefix_len is_ascii_digit (drop l.place l.bytes) ≡ prefix_len is_ascii_digit l.bytes;
-  fits : l.value < 10 ^ l.place;
   so_far : l.value ≡ decimal_value (take l.place l.bytes);
 }
