@@ -3,7 +3,8 @@ use Rattle.std.specs.Prelude.{◌≡◌, ℕ, ◌<◌, ◌≤◌, true, List, �
 use Rattle.tact_base.specs.Setup.{Setup}
 use Rattle.tact_base.specs.declared.conit_list.Need.{Need}
 use Rattle.tact_base.specs.declared.limits.TheConstants.{MOMENT_MAX}
-use Rattle.run_model.specs.Histories.{part_of, sent_in}
+use Rattle.run_model.specs.Histories.{part_of, sent_in, moment_at}
+use Rattle.run_model.specs.Messages.{message_of}
 use Rattle.run_model.specs.Runs.{IsRun}
 use Rattle.run_model.specs.ScriptRuns.{Played, zeros, after_line, entries_text, text_after}
 use Rattle.run_model.specs.declared.call.Reply.{Reply}
@@ -17,7 +18,7 @@ use Rattle.run_model.specs.declared.entry.Message.{Message}
 use Rattle.run_model.specs.declared.script_line.Line.{Line}
 use Rattle.run_model.specs.declared.script_line.Line.TheVariants as line
 use Rattle.reference_book.specs.Books.{IsBookOf}
-use Rattle.replica_set.specs.Sets.{StandsFor}
+use Rattle.replica_set.specs.Sets.{SetState, StandsFor, GoesOn}
 use Rattle.script_text.specs.Fronts.{HasItsMessage}
 use Rattle.script_text.specs.LineRanges.{IsLineInRange}
 use Rattle.script_run.specs.declared.stage.Stage.{Stage}
@@ -34,15 +35,19 @@ setup_in stage = stage.set.setup
 abbrev pub played_in : Stage → Played
 played_in stage = record { history = stage.history.items; handed = stage.handed }
 
--- the message that an act sends or takes
-abbrev pub IsOf : Message → Act → Type 0
-IsOf message (act.Send sent) = message ≡ sent
-IsOf message (act.Take taken) = message ≡ taken
-IsOf message other = ⊥
-
 -- what entries do
 abbrev pub acts_of : List Entry → List Act
 acts_of entries = map (λ (entry : Entry). entry.act) entries
+
+-- The replica of an entry sends to another, where these firsts are given: the entry has then the message that is due.
+pub record IsSentBy (old new : SetState) (blank filled : Entry) (handed to : ℕ) (firsts : List ℕ) : Type 0 where
+  pub message : Message
+  pub entry : filled ≡ record blank { act = act.Send message }
+  pub goes_on : GoesOn old new blank.replica handed (λ part. act.Send message)
+  pub due : (history : List Entry)
+      → StandsFor history old
+      → let part = part_of history blank.replica in
+      message ≡ message_of old.setup blank.replica part (moment_at part handed) to firsts
 
 -- the takings of all messages that each replica sent
 abbrev pub AreSent : Setup → List Entry → List (List Entry) → Type 0

@@ -70,13 +70,16 @@ fn written<K: Sink>(sink: &mut K, text: &[u8]) -> Status
     }
 }
 
+// For how many bytes of text memory is taken at first, if it can be had.
+const AMPLE: usize = 131_072;
+
 // The text of the script's run.
 fn text_of(alloc: Global, script: &Script) -> Result<Bytes, NoMemory>
     requires script { IsScript script.now }
     requires few { length script.now ≤ SCRIPT_LINES }
     ensures { IfOk result (λ text. text ≡ play_text (setup_of script.now) script.now) }
 {
-    let mut text = Bytes::new(alloc);
+    let mut text = Bytes::ample(alloc, AMPLE);
     head_of(script.config(), &mut text)?;
     let mut stage = Stage::new(alloc, script.config(), true)?;
     let mut count = Count { entries: 0 };

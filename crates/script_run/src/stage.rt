@@ -29,6 +29,7 @@ use tact_base::{Bytes, NoMemory, Numbers};
 /// The replicas of a setup, and what they have done.
 #[derive(Drop)]
 pub(crate) struct Stage {
+    alloc: Global,
     set: ReplicaSet,
     /// All accepted writes, where the stage prints.
     book: Book,
@@ -59,6 +60,7 @@ impl Stage {
             sent.push(Outbox::new(alloc))?;
         }
         Ok(Stage {
+            alloc,
             set: ReplicaSet::new(alloc, config)?,
             book: Book::new(alloc, config)?,
             history: GivenUp::new(),

@@ -1,16 +1,18 @@
 //! Messages that are sent and taken.
-ghost use Rattle.std.specs.Prelude.{◌≡◌, ◌≢◌, ◌<◌, ◌∷◌, [], ◌++◌, true, Some, length, slice_get, slice_index_or, slice_set, OnOk};
+ghost use Rattle.std.specs.Prelude.{◌≡◌, ◌≢◌, ◌<◌, ◌≤◌, ◌∷◌, [], ◌++◌, true, Some, length, slice_get, slice_index_or, slice_set, OnOk};
+ghost use Rattle.tact_base.specs.declared.limits.TheConstants.{MOMENT_MAX};
 ghost use Rattle.run_model.specs.ScriptRuns.{sends, takes, passes};
 ghost use Rattle.run_model.specs.Text.{entry_text};
-ghost use Rattle.run_model.specs.declared.entry.Act.TheVariants.{Take};
+ghost use Rattle.run_model.specs.declared.entry.Act.TheVariants.{Send, Take};
 ghost use Rattle.run_model.specs.declared.entry.Entry.{Entry as Made};
 ghost use Rattle.script_text.specs.Fronts.{IsNamed};
-ghost use Rattle.script_run.specs.Stages.{IsOf};
+ghost use Rattle.script_run.specs.Stages.{IsSentBy};
 
 use super::Stage;
 use crate::outbox::Outbox;
 use crate::witness::Witness;
 use given_up::GivenUp;
+use replica_set::ReplicaSet;
 use run_model::{Act, Entry, Message, line_of};
 use tact_base::{Bytes, NoMemory, Numbers};
 
@@ -37,16 +39,16 @@ impl Stage {
         ensures saw { OnOk result (W.saw witness.new self.new.history.items) }
     {
         let moment = self.moment_of(from);
-        let Ok(message) = self.set.send(from, self.handed, to, firsts) else {
-            return Err(NoMemory);
-        };
-        let entry = Entry {
+        let mut entry = Entry {
             replica: from,
             moment,
-            act: Act::Send { message },
+            act: Act::Send {
+                message: Message::blank(self.alloc),
+            },
         };
+        fill(&mut self.set, &mut entry, self.handed, to, firsts)?;
         self.enter(&entry, witness, out)?;
-        keep(&mut self.sent, from, to, message_in(entry.act))
+        keep(&mut self.sent, entry, to)
     }
 
     // One takes the message that another sent under a number.
@@ -103,18 +105,58 @@ impl Stage {
     }
 }
 
-// Keeps the next message of a replica, with the one that is to take it.
-fn keep(sent: &mut Vec<Outbox>, from: u32, to: u32, message: Message) -> Result<(), NoMemory>
-    requires { from < length sent.old.items }
-    ensures { OnOk result (sent.new.items ≡ slice_set sent.old.items from (slice_index_or sent.old.items from []
+// Has the replica of an entry send to another, where these firsts are given, and puts the message in the place of that of
+// the entry. No replica of a script is full.
+fn fill(
+    set: &mut ReplicaSet,
+    entry: &mut Entry,
+    handed: u64,
+    to: u32,
+    firsts: &Numbers,
+) -> Result<(), NoMemory>
+    requires from { entry.old.replica < set.old.setup.replicas }
+    requires sends { (message : Message) × (entry.old.act ≡ Send message) }
+    requires handed { handed ≤ MOMENT_MAX }
+    requires to { to < set.old.setup.replicas }
+    requires other { to ≢ entry.old.replica }
+    requires firsts { length firsts.now ≡ set.old.setup.replicas }
+    ensures sent { OnOk result (IsSentBy set.old set.new entry.old entry.new handed to firsts.now) }
+    ensures setup { set.new.setup ≡ set.old.setup }
+{
+    let from = entry.replica;
+    match &mut entry.act {
+        Act::Send { message } => match set.send_into(from, handed, to, firsts, message) {
+            Ok(()) => Ok(()),
+            Err(_) => Err(NoMemory),
+        },
+        Act::Call { .. } | Act::Take { .. } | Act::Lend { .. } | Act::Back { .. } | Act::Restart =>
+            unreachable!(),
+    }
+}
+
+// Keeps the message that an entry sends, with the one that is to take it.
+fn keep(sent: &mut Vec<Outbox>, sending: Entry, to: u32) -> Result<(), NoMemory>
+    requires { sending.replica < length sent.old.items }
+    ensures { (message : Message) → sending.act ≡ Send message → OnOk result (sent.new.items
+        ≡ slice_set sent.old.items sending.replica (slice_index_or sent.old.items sending.replica []
         ++ (record { replica = to; moment = 0; act = Take message }) ∷ [])) }
 {
-    let outbox = &mut sent[from as usize];
+    let outbox = &mut sent[sending.replica as usize];
     outbox.push(Entry {
         replica: to,
         moment: 0,
-        act: Act::Take { message },
+        act: taken(sending.act),
     })
+}
+
+// The act that takes the message that another one sends.
+fn taken(act: Act) -> Act
+    ensures { (message : Message) → act ≡ Send message → result ≡ Take message }
+{
+    match act {
+        Act::Send { message } => Act::Take { message },
+        other => other,
+    }
 }
 
 // Dates the taking of the message that one sent under a number.
@@ -157,17 +199,6 @@ fn tell<W: Witness>(
     witness.sees(entry)?;
     *history = history.and(entry);
     Ok(())
-}
-
-// The message of an act that sends or takes one.
-fn message_in(act: Act) -> Message
-    requires { (message : Message) × IsOf message act }
-    ensures { IsOf result act }
-{
-    match act {
-        Act::Send { message } | Act::Take { message } => message,
-        Act::Call { .. } | Act::Lend { .. } | Act::Back { .. } | Act::Restart => unreachable!(),
-    }
 }
 
 // The message of an act that takes one.

@@ -13,7 +13,7 @@ use Rattle.script_run.proofs.stage.Stage.pass.Goals as goal
 pub send-requires-clause-firsts : goal.send-requires-clause-firsts
 send-requires-clause-firsts g c =
     let setup = c.args.self.now.set.setup in
-    ap length (c.in_ok-firsts.ensures.cases.1 (λ x y same. same) ∙ c.requires.keeps.zeros)
+    ap length (c.in_ok-firsts.ensures.cases ∙ c.requires.keeps.zeros)
     ∙ length-map-range_with_len (λ origin. 0) 0 setup.replicas
 
 pub take-requires-clause-message : goal.take-requires-clause-message
@@ -41,7 +41,7 @@ returns-clause-enters g c =
     c.len-number.ensures
     ∙ ap length (get_or_read old.sent.items from c.index.result.now (omega (arith, c.requires.from, keeps.sized)) c.index.ensures [])
     ∙ as_many_sent (get_or old.sent.items from []) messages (keeps.sent from c.requires.from) in
-    let firsts : c.in_ok-firsts.firsts ≡ zeros setup = c.in_ok-firsts.ensures.cases.1 (λ x y same. same) ∙ keeps.zeros in
+    let firsts : c.in_ok-firsts.firsts ≡ zeros setup = c.in_ok-firsts.ensures.cases ∙ keeps.zeros in
     let played : played_in mid ≡ sends setup (played_in old) from c.args.to (zeros setup) = one.goes.played ∙ ap (λ (given : List ℕ). sends setup (played_in old) from c.args.to given) firsts in
     on_ok_weaker c.take.result
     (λ two. subst (λ (p : Played). Enters old c.take.new.self p c.args.out.now c.take.new.out)
