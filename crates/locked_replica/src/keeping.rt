@@ -114,17 +114,18 @@ impl Locked {
     }
 
     // A call of a client as its entry would be now, with the reply that is due.
-    fn next_call(&self, moment: u64, client: u32, request: Request) -> Entry
-        requires kept { IsLocked self.now }
-        requires free { is_full self.now.core ≡ false }
-        requires sound { IsKept self.now.core }
+    fn next_call(&mut self, moment: u64, client: u32, request: Request) -> Entry
+        requires kept { IsLocked self.old }
+        requires free { is_full self.old.core ≡ false }
+        requires sound { IsKept self.old.core }
         requires moment { moment ≤ MOMENT_MAX }
         requires client { client < CLIENTS }
-        requires in_range { IsRequestInRange self.now.core.setup request }
-        ensures entry { result ≡ call_in self.now moment client request }
-        ensures next { MayComeNext self.now result }
+        requires in_range { IsRequestInRange self.old.core.setup request }
+        ensures entry { result ≡ call_in self.old moment client request }
+        ensures next { MayComeNext self.old result }
         ensures put { CanBePut result }
         ensures call { IsCall result.act }
+        ensures same { self.new ≡ self.old }
     {
         due_can_be_put();
         let replica = self.replica_number();

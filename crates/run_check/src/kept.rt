@@ -220,7 +220,7 @@ pub(crate) fn kept_of(
         }
         Err(fault) => return Err(fault),
     };
-    message.writes = SharedWrites::new(alloc, Items::new(alloc))?;
+    message.writes = SharedWrites::empty();
     Ok(Kept { message, spans })
 }
 

@@ -84,6 +84,16 @@ returns-in_err-read-clause-placed g c =
     let given = err_from_is_err_and c.from_residual-in_err-read.result c.from_residual-in_err-read.ensures.1 in
     rw (given.1, given.2) (names_no_place c.in_err-read.field-0.0)
 
+pub returns-in_err-read-clause-failed : goal.returns-in_err-read-clause-failed
+returns-in_err-read-clause-failed g c =
+    let given = err_from_is_err_and c.from_residual-in_err-read.result c.from_residual-in_err-read.ensures.1 in
+    let told = given.1 in
+    let from = given.2 in
+    λ is.
+    let same : read_fault c.in_err-read.field-0.0 ≡ fault.JournalReadFault = cc in
+    fault_rose c.in_err-read.field-0.0 (g.J.Journal.faults c.args.journal.now) (g.J.Journal.faults c.loop-place.journal) (g.J.Journal.faults c.read-2.new.self)
+    c.loop-place.invariant.risen c.in_err-read.ensures.never_falls (λ e. c.in_err-read.ensures.failed (rw e refl)) same
+
 pub returns-in-None-clause-stored : goal.returns-in-None-clause-stored
 returns-in-None-clause-stored g c =
     let inv = c.loop-place.invariant in

@@ -17,5 +17,5 @@ returns-clause-ok c =
     let found : at ≡ c.args.message.writes =
     subst (λ (found : Option (List Span)). IfSome found (λ spans. flat_map (writes_of c.spans_of.new.written.items) spans ≡ c.items.result.now)) c.in-Ok-Some.field-0-is c.in-Ok-Some.ensures.ok
     ∙ c.items.ensures in
-    ap (λ (own : List Write). record c.args.message { writes = at ++ own }) (c.in_ok-message.ensures ∙ c.new-2.ensures)
+    ap (λ (own : List Write). record c.args.message { writes = at ++ own }) c.empty.ensures
     ∙ ap (λ (writes : List Write). record c.args.message { writes = writes }) (append-nil at ∙ found)
