@@ -88,8 +88,8 @@ fn befores(image: &Image) -> [Option<i64>; 6] {
     ]
 }
 
-// A shift, an addition before it that makes it act, and the commit of the addition: what keys 1 and 2 hold after each,
-// and what keys held before operations after each of the last two.
+// A shift, an addition before it that makes it act, and the commit of the addition, before which both are applied: what
+// keys 1 and 2 hold after each, and what keys held before operations after each of the last two.
 fn acting(alloc: Global) -> Result<([[i64; 2]; 3], [[Option<i64>; 6]; 2]), NoMemory> {
     let mut image = Image::new(alloc);
     image.reserve(2)?;
@@ -105,6 +105,7 @@ fn acting(alloc: Global) -> Result<([[i64; 2]; 3], [[Option<i64>; 6]; 2]), NoMem
     image.insert_at(0, Op::Add { key: 1, delta: 5 });
     let added = both(&image);
     let tentative = befores(&image);
+    image.catch_up();
     image.commit(1);
     Ok(([shifted, added, both(&image)], [tentative, befores(&image)]))
 }
@@ -303,8 +304,8 @@ fn assert_same(
     Ok(())
 }
 
-// Puts in one operation and goes over the values, puts in two, commits a quarter of the tentative ones and goes over
-// the values again. Places and operations come from a number.
+// Puts in one operation and goes over the values, has all applied, puts in two, commits a quarter of the tentative ones
+// and goes over the values again. Places and operations come from a number.
 fn turn(
     rt: &(impl Abort + AllocGlobal),
     image: &mut Image,
@@ -322,6 +323,7 @@ fn turn(
     image.reserve(3)?;
     put_one(image, late, committed, place, op_of(number))?;
     assert_same(rt, image, early, late)?;
+    image.catch_up();
     put_drawn(rt.alloc(), image, late, committed, next(number))?;
     let going = late.len() / 4;
     commit_some(image, early, late, going)?;

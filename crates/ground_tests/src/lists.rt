@@ -170,36 +170,49 @@ fn changed(rt: &impl Abort, write: &Write) -> Result<Write, Fail> {
     Ok(copy)
 }
 
-fn pair(alloc: Global, first: Write, second: Write) -> Result<WriteList, NoMemory> {
-    let mut list = WriteList::new(alloc);
-    list.push(first)?;
-    list.push(second)?;
-    Ok(list)
-}
-
-// A copy of a list, and the list once more behind it.
-fn doubled(alloc: Global, list: &WriteList) -> Result<WriteList, NoMemory> {
-    let mut copy = list.copy(alloc)?;
-    copy.append(list.items())?;
-    Ok(copy)
-}
-
-// Both ways to copy a list give an equal one.
-fn assert_copied(rt: &(impl Abort + AllocGlobal), list: &WriteList) -> Result<(), NoMemory> {
-    assert!(rt; list.copy(rt.alloc())? == *list);
-    assert!(rt; list.clone()? == *list);
-    Ok(())
-}
-
 #[test]
 fn copies_writes(rt: HostRuntime) -> Result<(), Fail> {
     let first = shifting()?;
     let second = changed(&rt, &first)?;
-    let list = pair(rt.alloc(), first, second)?;
-    assert_copied(&rt, &list)?;
-    let double = doubled(rt.alloc(), &list)?;
-    assert_eq!(rt; double.len(), 4);
-    assert_eq!(rt; &double.items()[2..], list.items());
+    let mut list = WriteList::from_slice(rt.alloc(), &[first])?;
+    list.append(&[second])?;
+    assert!(rt; list.items() == [first, second].as_slice());
+    Ok(())
+}
+
+// The numbers below a count.
+fn below(alloc: Global, count: u64) -> Result<Numbers, NoMemory> {
+    let mut list = Numbers::new(alloc);
+    for number in 0..count {
+        list.push(number)?;
+    }
+    Ok(list)
+}
+
+// A copy of a list, and the list once more behind it.
+fn doubled(list: &Numbers) -> Result<Numbers, Fail> {
+    let mut copy = list.copied()?;
+    copy.append(list.items())?;
+    Ok(copy)
+}
+
+#[test]
+fn goes_on_past_its_place(rt: HostRuntime) -> Result<(), Fail> {
+    let nine = below(rt.alloc(), 9)?;
+    assert_numbers(&rt, nine.items(), &[0, 1, 2, 3, 4, 5, 6, 7, 8]);
+    assert!(rt; nine.clone()? == nine);
+    assert_numbers(&rt, doubled(&below(rt.alloc(), 2)?)?.items(), &[0, 1, 0, 1]);
+    Ok(())
+}
+
+#[test]
+fn changes_a_short_list(rt: HostRuntime) -> Result<(), Fail> {
+    let mut list = below(rt.alloc(), 9)?;
+    list.truncate(3);
+    list.set(1, 7);
+    assert_numbers(&rt, list.items(), &[0, 7, 2]);
+    list.clear();
+    assert!(rt; list.is_empty());
     Ok(())
 }
 

@@ -6,9 +6,7 @@ use run_model::{
 use std::alloc::Global;
 use std::process::Abort;
 use std::test::Fail;
-use tact_base::{
-    Bytes, Covers, Need, Needs, NoMemory, Numbers, Op, SharedWrites, Weight, Weights, WriteList,
-};
+use tact_base::{Bytes, Covers, Need, Needs, NoMemory, Numbers, Op, SharedWrites, Weight, Weights};
 
 const ADD: Op = Op::Add { key: 7, delta: 1 };
 
@@ -296,7 +294,6 @@ fn prints_what_is_waited_for(rt: HostRuntime) -> Result<(), Fail> {
 
 // A message with no writes and no counts.
 fn message(alloc: Global, from: u32, to: u32, number: u64) -> Result<Message, NoMemory> {
-    let writes = SharedWrites::new(alloc, WriteList::new(alloc))?;
     Ok(Message {
         from,
         to,
@@ -304,7 +301,7 @@ fn message(alloc: Global, from: u32, to: u32, number: u64) -> Result<Message, No
         firsts: Numbers::from_slice(alloc, &[2, 0, 3])?,
         haves: Numbers::new(alloc),
         covers: Covers::new(alloc),
-        writes,
+        writes: SharedWrites::empty(),
         lent: Numbers::new(alloc),
         returned: Numbers::new(alloc),
     })

@@ -7,7 +7,7 @@ use run_record::{
 use std::alloc::Global;
 use std::process::Abort;
 use std::test::Fail;
-use tact_base::{Bytes, Covers, NoMemory, Numbers, SharedWrites, WriteList};
+use tact_base::{Bytes, Covers, NoMemory, Numbers, SharedWrites};
 
 // Two replicas and a conit, and an entry of each kind.
 pub(crate) const WORKED: &[u8] = b"TACT\x01\x02\x01\
@@ -231,7 +231,7 @@ fn bare(alloc: Global) -> Result<Message, NoMemory> {
         haves: Numbers::new(alloc),
         covers: Covers::new(alloc),
         firsts: Numbers::from_slice(alloc, &[0, 3])?,
-        writes: SharedWrites::new(alloc, WriteList::new(alloc))?,
+        writes: SharedWrites::empty(),
         lent: Numbers::new(alloc),
         returned: Numbers::new(alloc),
     })

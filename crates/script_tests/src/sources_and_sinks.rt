@@ -112,9 +112,9 @@ fn reading_to_the_end(rt: HostRuntime) -> Result<(), Fail> {
         (40_000, 50_000, [].as_slice(), Ok(40_000)),
         (40_000, 50_000, [0].as_slice(), Err(ReadEnd::Fault)),
         (40_000, 50_000, [1].as_slice(), Err(ReadEnd::Fault)),
-        (40_000, 50_000, [3].as_slice(), Err(ReadEnd::Fault)),
-        (40_000, 50_000, [4].as_slice(), Ok(40_000)),
-        (40_000, 20_000, [2].as_slice(), Err(ReadEnd::TooLong)),
+        (40_000, 50_000, [10].as_slice(), Err(ReadEnd::Fault)),
+        (40_000, 50_000, [11].as_slice(), Ok(40_000)),
+        (40_000, 20_000, [5].as_slice(), Err(ReadEnd::TooLong)),
     ] {
         let mut source = MemSource::new(alloc, all.get(..length).unwrap_or(&[]), fails)?;
         let answer = read_all(alloc, &mut source, most);
