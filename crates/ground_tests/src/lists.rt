@@ -3,6 +3,7 @@
 use crate::checks::assert_numbers;
 use std::alloc::Global;
 use std::process::Abort;
+use std::slice;
 use std::test::Fail;
 use tact_base::{
     ConitList, Cover, ListFault, Need, Needs, NoMemory, Numbers, OnConit, Op, Place, Row, Weight,
@@ -174,9 +175,10 @@ fn changed(rt: &impl Abort, write: &Write) -> Result<Write, Fail> {
 fn copies_writes(rt: HostRuntime) -> Result<(), Fail> {
     let first = shifting()?;
     let second = changed(&rt, &first)?;
-    let mut list = WriteList::from_slice(rt.alloc(), &[first])?;
-    list.append(&[second])?;
-    assert!(rt; list.items() == [first, second].as_slice());
+    let both = [first, second];
+    let mut list = WriteList::from_slice(rt.alloc(), slice::from_ref(&both[0]))?;
+    list.append(slice::from_ref(&both[1]))?;
+    assert!(rt; list.items() == both.as_slice());
     Ok(())
 }
 
