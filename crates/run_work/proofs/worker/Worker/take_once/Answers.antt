@@ -1,4 +1,5 @@
 use Rattle.std.proofs.Common.{◌≡◌, false, sym, subst}
+use Rattle.std.proofs.lemmas.Result.{err_from_is_err_and}
 use Rattle.postbox.specs.Posts.{IsFor}
 use Rattle.replica_lock.specs.Sessions.{HasHeard, IsSessionOf, marked_by}
 use Rattle.run_work.specs.Working.{WorkerView}
@@ -53,3 +54,8 @@ returns-in_ok-mend-in-Err-clause-taking g c =
       c.in_ok-mend-in-Err.ensures.marked,
       rw (← c.self.view_is) (left-mended setup before c.take-taken.new.session c.mend.new.session c.in-Err.field-0.fault heard c.in_ok-mend-in-Err.ensures.nearer),
     )
+
+pub returns-in_err-mend-in-Err-clause-ending : goal.returns-in_err-mend-in-Err-clause-ending
+returns-in_err-mend-in-Err-clause-ending g c =
+    let given = err_from_is_err_and c.from_residual.result c.from_residual.ensures.1 in
+    rw (given.1, given.2) (c.in_err-mend-in-Err.ensures.ending.cause, c.in_err-mend-in-Err.ensures.kept)
