@@ -165,7 +165,7 @@ enters_quiet old mid entered last keeps entry text text' replica does same histo
 -- and where nothing was sent before either
 pub enters_alone : (old mid new : Stage) (keeps : Keeps old) (entry : Entry) (text text' : List ℕ) (replica : ℕ) (does : List Entry → ℕ → Act)
     → setup_in mid ≡ setup_in old
-    → mid ≡ record old { set = mid.set; book = mid.book }
+    → mid ≡ record old { set = mid.set; book = mid.book; calling = mid.calling }
     → sent_by entry ≡ None
     → entry ≡ entry_of old.history.items replica old.handed (does (part_of old.history.items replica) (moment_at (part_of old.history.items replica) old.handed))
     → IsMade mid entry

@@ -1,5 +1,5 @@
 -- The messages that each replica sent, while the history grows, and while one of them is taken.
-use Rattle.std.proofs.Common.{◌≡◌, ℕ, ◌<◌, List, [], ◌∷◌, ◌++◌, length, get_or, set, map, Contains, Option, None, Some, refl, sym, ap, ◌∙◌, ⊎_elim, get_or-set_same, get_or-set_other, subst, arith}
+use Rattle.std.proofs.Common.{◌≡◌, ℕ, ◌<◌, List, [], ◌∷◌, ◌++◌, length, get_or, set, map, Contains, None, Some, refl, sym, ap, ◌∙◌, ⊎_elim, get_or-set_same, get_or-set_other, subst, arith}
 use Rattle.std.specs.List.{slice_get}
 use Rattle.std.specs.Option.{option_map}
 use Rattle.std.proofs.lemmas.Bool.{cases_eq}

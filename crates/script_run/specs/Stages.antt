@@ -1,10 +1,12 @@
 -- What a script plays on: what it keeps of what was played, and what a step of it leaves.
-use Rattle.std.specs.Prelude.{◌≡◌, ℕ, ◌<◌, ◌≤◌, true, List, ◌∷◌, [], ◌++◌, length, map, slice_index_or, Option, Some}
+use Rattle.std.specs.Prelude.{◌≡◌, ℕ, ◌<◌, ◌≤◌, true, List, ◌∷◌, [], ◌++◌, length, map, slice_index_or}
 use Rattle.tact_base.specs.Setup.{Setup}
 use Rattle.tact_base.specs.declared.conit_list.Need.{Need}
-use Rattle.tact_base.specs.declared.limits.TheConstants.{MOMENT_MAX}
-use Rattle.run_model.specs.Histories.{part_of, sent_in, moment_at}
+use Rattle.tact_base.specs.declared.limits.TheConstants.{CLIENTS, MOMENT_MAX}
+use Rattle.run_model.specs.Histories.{part_of, sent_in, calls_in, moment_at}
 use Rattle.run_model.specs.Messages.{message_of}
+use Rattle.run_model.specs.Ranges.{IsRequestInRange}
+use Rattle.run_model.specs.Replies.{reply_of}
 use Rattle.run_model.specs.Runs.{IsRun}
 use Rattle.run_model.specs.ScriptRuns.{Played, zeros, after_line, entries_text, text_after}
 use Rattle.run_model.specs.declared.call.Reply.{Reply}
@@ -38,6 +40,27 @@ played_in stage = record { history = stage.history.items; handed = stage.handed 
 -- what entries do
 abbrev pub acts_of : List Entry → List Act
 acts_of entries = map (λ (entry : Entry). entry.act) entries
+
+-- an act that calls, with a request in range
+pub record IsAsking (setup : Setup) (doing : Act) : Type 0 where
+  pub client : ℕ
+  pub number : ℕ
+  pub request : Request
+  pub reply : Reply
+  pub calls : doing ≡ act.Call client number request reply
+  pub known : client < CLIENTS
+  pub in_range : IsRequestInRange setup request
+
+-- The replica of an entry answers a call of a client, the one of this number: the entry has then the call, with the reply
+-- that is due.
+pub record IsAnsweredBy (old new : SetState) (asked answered : Entry) (handed client number : ℕ) (request : Request) : Type 0 where
+  pub reply : Reply
+  pub entry : answered ≡ record asked { act = act.Call client number request reply }
+  pub goes_on : GoesOn old new asked.replica handed (λ part. act.Call client (calls_in part client) request reply)
+  pub due : (history : List Entry)
+      → StandsFor history old
+      → let part = part_of history asked.replica in
+      reply ≡ reply_of old.setup asked.replica part (moment_at part handed) request
 
 -- The replica of an entry sends to another, where these firsts are given: the entry has then the message that is due.
 pub record IsSentBy (old new : SetState) (blank filled : Entry) (handed to : ℕ) (firsts : List ℕ) : Type 0 where

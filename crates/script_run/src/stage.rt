@@ -43,6 +43,8 @@ pub(crate) struct Stage {
     zeros: Numbers,
     /// Whether the entries that are made are printed, with the comments on them.
     prints: bool,
+    /// The entry that a call is put into: so none is made anew for each call.
+    calling: Entry,
 }
 
 impl Stage {
@@ -68,6 +70,11 @@ impl Stage {
             handed: 0,
             zeros: Numbers::filled(alloc, 0, config.replicas())?,
             prints,
+            calling: Entry {
+                replica: 0,
+                moment: 0,
+                act: Act::Restart,
+            },
         })
     }
 
@@ -226,7 +233,8 @@ impl Stage {
         self.handed.max(self.set.at(replica).last())
     }
 
-    // Tells a witness of an entry that was made, and appends its line and the comments on it, where the stage prints.
+    // Enters an entry that was made: tells a witness of it, and appends its line and the comments on it, where the stage
+    // prints.
     fn enter<W: Witness>(
         &mut self,
         entry: &Entry,
@@ -239,13 +247,29 @@ impl Stage {
         ensures set { self.new.set ≡ self.old.set }
         ensures saw { OnOk result (W.saw witness.new self.new.history.items) }
     {
+        self.history = self.tell(entry, witness, out)?;
+        Ok(())
+    }
+
+    // Tells a witness of an entry that was made, which may lie within the stage, and appends its line and the comments on
+    // it, where the stage prints. What happened is then this.
+    fn tell<W: Witness>(
+        &self,
+        entry: &Entry,
+        witness: &mut W,
+        out: &mut Bytes,
+    ) -> Result<GivenUp<Entry>, NoMemory>
+        requires made { IsMade self.now entry.now }
+        requires saw { W.saw witness.old self.now.history.items }
+        ensures entered { IfOk result (λ history. Entered self.now (record self.now { history = history }) entry.now out.old out.new) }
+        ensures saw { IfOk result (λ history. W.saw witness.new history.items) }
+    {
         if self.prints {
             line_of(entry, out)?;
             self.comment_on(entry, out)?;
         }
         witness.sees(entry)?;
-        self.history = self.history.and(entry);
-        Ok(())
+        Ok(self.history.and(entry))
     }
 
     // Appends the comments on an entry that was made: how well each need of an answered read was met.

@@ -1,19 +1,20 @@
 //! Calls of clients.
 ghost use Rattle.std.specs.Prelude.{◌≡◌, true, ℕ, ◌<◌, ◌≤◌, List, [], ◌∷◌, ◌++◌, unsigned_abs, Some, IfOk, OnOk};
 ghost use Rattle.tact_base.specs.Setup.{Setup};
-ghost use Rattle.tact_base.specs.declared.limits.TheConstants.{CLIENTS, WEIGHT_MAX};
+ghost use Rattle.tact_base.specs.declared.limits.TheConstants.{CLIENTS, MOMENT_MAX};
 ghost use Rattle.tact_base.specs.declared.write.Write.{Write};
-ghost use Rattle.run_model.specs.OwnWrites.{asked_write, done_as, accepted_as};
+ghost use Rattle.run_model.specs.OwnWrites.{asked_write, done_as, accepted_as, accepted_by};
 ghost use Rattle.run_model.specs.Ranges.{IsRequestInRange};
 ghost use Rattle.run_model.specs.ScriptRuns.{calls};
 ghost use Rattle.run_model.specs.declared.entry.Act.TheVariants as act;
 ghost use Rattle.run_model.specs.declared.entry.Entry.{Entry};
 ghost use Rattle.reference_book.specs.Books.{IsBookOf, IsNextIn};
-ghost use Rattle.script_run.specs.Stages.{needs_in, needs_met};
+ghost use Rattle.script_run.specs.Stages.{IsAsking, IsAnsweredBy, needs_in, needs_met};
 
 use super::Stage;
 use crate::witness::Witness;
 use reference_book::Book;
+use replica_set::ReplicaSet;
 use run_model::{Act, Entry, Reply, Request};
 use tact_base::{Bytes, Need, NoMemory, Weight, Weights, Write};
 
@@ -40,33 +41,94 @@ impl Stage {
     {
         let moment = self.moment_of(replica);
         let number = self.set.at(replica).calls(client);
-        let Ok(reply) = self.set.call(replica, self.handed, client, &request) else {
-            return Err(NoMemory);
-        };
-        note_call(
-            self.prints,
-            &mut self.book,
-            replica,
-            moment,
-            &request,
-            &reply,
-        )?;
-        let act = Act::Call {
-            client,
-            number,
-            request,
-            reply,
-        };
-        let entry = Entry {
-            replica,
-            moment,
-            act,
-        };
-        self.enter(&entry, witness, out)
+        self.calling.replica = replica;
+        self.calling.moment = moment;
+        ask(&mut self.calling.act, client, number, request);
+        answer(&mut self.set, &mut self.calling, self.handed)?;
+        note(self.prints, &mut self.book, &self.calling)?;
+        self.history = self.tell(&self.calling, witness, out)?;
+        Ok(())
     }
 }
 
-// Takes the write that a call accepted, if it did, into the book, where the stage prints.
+// Has the replica of an entry answer the call that it is of, and puts the reply in the place of that of the entry. No
+// replica of a script is full.
+fn answer(set: &mut ReplicaSet, entry: &mut Entry, handed: u64) -> Result<(), NoMemory>
+    requires replica { entry.old.replica < set.old.setup.replicas }
+    requires asks { IsAsking set.old.setup entry.old.act }
+    requires handed { handed ≤ MOMENT_MAX }
+    ensures answered { OnOk result ((client number : ℕ) (request : Request) (before : Reply)
+        → entry.old.act ≡ act.Call client number request before
+        → IsAnsweredBy set.old set.new entry.old entry.new handed client number request) }
+    ensures setup { set.new.setup ≡ set.old.setup }
+{
+    let replica = entry.replica;
+    match &mut entry.act {
+        Act::Call {
+            client,
+            request,
+            reply,
+            ..
+        } => match set.call(replica, handed, *client, request) {
+            Ok(given) => {
+                *reply = given;
+                Ok(())
+            }
+            Err(_) => Err(NoMemory),
+        },
+        Act::Send { .. } | Act::Take { .. } | Act::Lend { .. } | Act::Back { .. } | Act::Restart =>
+            unreachable!(),
+    }
+}
+
+// Makes an act the call of a client, whose reply comes later. Where it was a call, it stays in its place.
+fn ask(doing: &mut Act, client: u32, number: u64, request: Request)
+    ensures { (reply : Reply) × (doing.new ≡ act.Call client number request reply) }
+{
+    match doing {
+        Act::Call {
+            client: asking,
+            number: counted,
+            request: asked,
+            ..
+        } => {
+            *asking = client;
+            *counted = number;
+            *asked = request;
+        }
+        other => {
+            *other = Act::Call {
+                client,
+                number,
+                request,
+                reply: Reply::Granted,
+            };
+        }
+    }
+}
+
+// Takes the write that the call of an entry accepted, if it did, into the book, where the stage prints.
+fn note(prints: bool, book: &mut Book, entry: &Entry) -> Result<(), NoMemory>
+    requires calls { (client number : ℕ) × (request : Request) × (reply : Reply) × (entry.now.act ≡ act.Call client number request reply) }
+    requires next { prints ≡ true → (write : Write) → accepted_by entry.now.replica entry.now.moment entry.now.act ≡ Some write → IsNextIn book.old write }
+    ensures { OnOk result (prints ≡ true → (setup : Setup) (history : List Entry) → IsBookOf setup history book.old
+        → IsBookOf setup (history ++ entry.now ∷ []) book.new) }
+{
+    match &entry.act {
+        Act::Call { request, reply, .. } => note_call(
+            prints,
+            book,
+            entry.replica,
+            entry.moment,
+            request,
+            reply,
+        ),
+        Act::Send { .. } | Act::Take { .. } | Act::Lend { .. } | Act::Back { .. } | Act::Restart =>
+            unreachable!(),
+    }
+}
+
+// Takes the write that a call at a replica and a moment accepted, if it did, into the book, where the stage prints.
 fn note_call(
     prints: bool,
     book: &mut Book,
