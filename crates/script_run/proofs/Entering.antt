@@ -1,12 +1,10 @@
 -- An entry of a replica that was made is kept, and the stage goes on.
-use Rattle.std.proofs.Common.{◌≡◌, ℕ, ◌<◌, true, List, [], ◌∷◌, ◌++◌, length, refl, sym, ap, ap₂, ◌∙◌, subst, arith, append_assoc, None}
-use Rattle.std.proofs.lemmas.List.{append-nil}
+use Rattle.std.proofs.Common.{◌≡◌, ℕ, ◌<◌, true, List, [], ◌∷◌, ◌++◌, length, refl, sym, ap, ap₂, ◌∙◌, subst, arith, None}
 use Rattle.tact_base.specs.Setup.{Setup}
 use Rattle.run_model.specs.Histories.{part_of, moment_at}
 use Rattle.run_model.specs.Runs.{IsDue, IsRun, WasSent}
 use Rattle.run_model.specs.OwnWrites.{accepted_by}
-use Rattle.run_model.specs.ScriptRuns.{Played, zeros, enters, act_comments, entries_text}
-use Rattle.run_model.specs.Text.{entry_text}
+use Rattle.run_model.specs.ScriptRuns.{Played, zeros, enters, entries_text}
 use Rattle.run_model.specs.declared.entry.Act.{Act}
 use Rattle.run_model.specs.declared.entry.Entry.{Entry}
 use Rattle.replica_set.specs.Sets.{SetState, StandsFor, GoesOn, entry_of}
@@ -176,32 +174,19 @@ enters_alone old mid new keeps entry text text' replica does same mid_is quiet i
     (ap (λ (s : Stage). s.history.items) mid_is) (ap (λ (s : Stage). s.handed) mid_is) (ap (λ (s : Stage). s.zeros) mid_is) (ap (λ (s : Stage). s.prints) mid_is)
     refl (ap (λ (s : Stage). s.sent.items) enter.stage ∙ ap (λ (s : Stage). s.sent.items) mid_is) quiet is made enter
 
--- and where it is told without comments, since there are none, and all messages are still at hand
-pub enters_told : (old mid last : Stage) (keeps : Keeps old) (entry : Entry) (text text' : List ℕ) (replica : ℕ) (does : List Entry → ℕ → Act)
+-- and where what was sent is dated, so that all messages are still at hand
+pub enters_dated : (old mid last : Stage) (keeps : Keeps old) (entry : Entry) (text text' : List ℕ) (replica : ℕ) (does : List Entry → ℕ → Act)
     → setup_in mid ≡ setup_in old
     → mid ≡ record old { set = mid.set; sent = mid.sent }
-    → last ≡ record mid { history = last.history }
-    → last.history.items ≡ mid.history.items ++ entry ∷ []
-    → (mid.prints ≡ true → text' ≡ text ++ entry_text entry ++ 10 ∷ [])
-    → act_comments (setup_in mid) (mid.history.items ++ entry ∷ []) entry.replica entry.moment entry.act ≡ []
     → length mid.sent.items ≡ length old.sent.items
     → AreSent (setup_in old) old.history.items mid.sent.items
     → sent_by entry ≡ None
     → entry ≡ entry_of old.history.items replica old.handed (does (part_of old.history.items replica) (moment_at (part_of old.history.items replica) old.handed))
     → IsMade mid entry
+    → Entered mid last entry text text'
     → Enters old last (enters (played_in old) replica does) text text'
-enters_told old mid last keeps entry text text' replica does same mid_is last_is grown told uncommented sized sent quiet is made =
-    let last_sent : last.sent.items ≡ mid.sent.items = ap (λ (s : Stage). s.sent.items) last_is in
-    let comments : List ℕ = act_comments (setup_in mid) (mid.history.items ++ entry ∷ []) entry.replica entry.moment entry.act in
-    let enter : Entered mid last entry text text' = record {
-      stage = last_is;
-      history = grown;
-      text = λ prints.
-          told prints
-          ∙ append_assoc text (entry_text entry) (10 ∷ [])
-          ∙ ap (λ (c : List ℕ). text ++ (entry_text entry ++ 10 ∷ c)) (sym uncommented)
-          ∙ ap (λ (t : List ℕ). text ++ t) (sym (append-nil (entry_text entry ++ 10 ∷ comments)));
-    } in
+enters_dated old mid last keeps entry text text' replica does same mid_is sized sent quiet is made enter =
+    let last_sent : last.sent.items ≡ mid.sent.items = ap (λ (s : Stage). s.sent.items) enter.stage in
     enters_one old mid last last keeps entry text text' same
     (ap (λ (s : Stage). s.history.items) mid_is) (ap (λ (s : Stage). s.handed) mid_is) (ap (λ (s : Stage). s.zeros) mid_is) (ap (λ (s : Stage). s.prints) mid_is)
     made enter refl

@@ -149,11 +149,11 @@ module _ (sent : List (List Entry)) (from number replica moment : ℕ) (taking :
       within_dated = omega (arith, within, length-set box number dated)
 
 -- the last of a list that grew at its end
-pub last_is : (messages : List Message) (message : Message)
-    → slice_get (messages ++ message ∷ []) (length messages) ≡ Some message
-last_is messages message =
-    slice_get-get_or (messages ++ message ∷ []) (length messages) message (omega (arith, length_push messages message))
-    ∙ ap Some (get_or_push messages message message (length messages) refl)
+pub last_is : {A : Type 0} (xs : List A) (x : A)
+    → slice_get (xs ++ x ∷ []) (length xs) ≡ Some x
+last_is xs x =
+    slice_get-get_or (xs ++ x ∷ []) (length xs) x (omega (arith, length_push xs x))
+    ∙ ap Some (get_or_push xs x x (length xs) refl)
 
 pub last_in : (messages : List Message) (message : Message)
     → Contains (messages ++ message ∷ []) message

@@ -62,15 +62,15 @@ pub record IsAnsweredBy (old new : SetState) (asked answered : Entry) (handed cl
       → let part = part_of history asked.replica in
       reply ≡ reply_of old.setup asked.replica part (moment_at part handed) request
 
--- The replica of an entry sends to another, where these firsts are given: the entry has then the message that is due.
-pub record IsSentBy (old new : SetState) (blank filled : Entry) (handed to : ℕ) (firsts : List ℕ) : Type 0 where
+-- One replica sends to another, where these firsts are given: the entry of this moment has then the message that is due.
+pub record IsSentBy (old new : SetState) (from moment handed to : ℕ) (firsts : List ℕ) (sending : Entry) : Type 0 where
   pub message : Message
-  pub entry : filled ≡ record blank { act = act.Send message }
-  pub goes_on : GoesOn old new blank.replica handed (λ part. act.Send message)
+  pub entry : sending ≡ record { replica = from; moment = moment; act = act.Send message }
+  pub goes_on : GoesOn old new from handed (λ part. act.Send message)
   pub due : (history : List Entry)
       → StandsFor history old
-      → let part = part_of history blank.replica in
-      message ≡ message_of old.setup blank.replica part (moment_at part handed) to firsts
+      → let part = part_of history from in
+      message ≡ message_of old.setup from part (moment_at part handed) to firsts
 
 -- the takings of all messages that each replica sent
 abbrev pub AreSent : Setup → List Entry → List (List Entry) → Type 0

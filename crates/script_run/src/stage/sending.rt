@@ -1,8 +1,7 @@
 //! Messages that are sent and taken.
-ghost use Rattle.std.specs.Prelude.{◌≡◌, ◌≢◌, ◌<◌, ◌≤◌, ◌∷◌, [], ◌++◌, true, Some, length, slice_get, slice_index_or, slice_set, OnOk};
+ghost use Rattle.std.specs.Prelude.{◌≡◌, ◌≢◌, ◌<◌, ◌≤◌, ◌∷◌, [], ◌++◌, Some, length, slice_get, slice_index_or, slice_set, OnOk};
 ghost use Rattle.tact_base.specs.declared.limits.TheConstants.{MOMENT_MAX};
 ghost use Rattle.run_model.specs.ScriptRuns.{sends, takes, passes};
-ghost use Rattle.run_model.specs.Text.{entry_text};
 ghost use Rattle.run_model.specs.declared.entry.Act.TheVariants.{Send, Take};
 ghost use Rattle.run_model.specs.declared.entry.Entry.{Entry as Made};
 ghost use Rattle.script_text.specs.Fronts.{IsNamed};
@@ -11,9 +10,8 @@ ghost use Rattle.script_run.specs.Stages.{IsSentBy};
 use super::Stage;
 use crate::outbox::Outbox;
 use crate::witness::Witness;
-use given_up::GivenUp;
 use replica_set::ReplicaSet;
-use run_model::{Act, Entry, Message, line_of};
+use run_model::{Act, Entry, Message};
 use tact_base::{Bytes, NoMemory, Numbers};
 
 impl Stage {
@@ -39,16 +37,19 @@ impl Stage {
         ensures saw { OnOk result (W.saw witness.new self.new.history.items) }
     {
         let moment = self.moment_of(from);
-        let mut entry = Entry {
-            replica: from,
+        let number = self.sent[from as usize].len() as u64;
+        send_from(
+            &mut self.sent,
+            &mut self.set,
+            from,
             moment,
-            act: Act::Send {
-                message: Message::blank(self.alloc),
-            },
-        };
-        fill(&mut self.set, &mut entry, self.handed, to, firsts)?;
-        self.enter(&entry, witness, out)?;
-        keep(&mut self.sent, entry, to)
+            self.handed,
+            to,
+            firsts,
+        )?;
+        self.history = self.tell(entry_at(&self.sent, from, number), witness, out)?;
+        turn(&mut self.sent, from, number, to);
+        Ok(())
     }
 
     // One takes the message that another sent under a number.
@@ -71,14 +72,15 @@ impl Stage {
     {
         let moment = self.moment_of(replica);
         date(&mut self.sent, from, number, replica, moment);
-        let entry = taking(&self.sent, from, number);
+        let entry = entry_at(&self.sent, from, number);
         let Ok(()) = self
             .set
             .take(replica, self.handed, message_taken(&entry.act))
         else {
             return Err(NoMemory);
         };
-        tell(self.prints, &mut self.history, entry, witness, out)
+        self.history = self.tell(entry_at(&self.sent, from, number), witness, out)?;
+        Ok(())
     }
 
     // One sends to another, which takes the message.
@@ -105,58 +107,42 @@ impl Stage {
     }
 }
 
-// Has the replica of an entry send to another, where these firsts are given, and puts the message in the place of that of
-// the entry. No replica of a script is full.
-fn fill(
+// Has one send to another at this moment, where these firsts are given, and keeps the entry of the sending after all that
+// it sent.
+fn send_from(
+    sent: &mut Vec<Outbox>,
     set: &mut ReplicaSet,
-    entry: &mut Entry,
+    from: u32,
+    moment: u64,
     handed: u64,
     to: u32,
     firsts: &Numbers,
 ) -> Result<(), NoMemory>
-    requires from { entry.old.replica < set.old.setup.replicas }
-    requires sends { (message : Message) × (entry.old.act ≡ Send message) }
+    requires known { from < length sent.old.items }
+    requires from { from < set.old.setup.replicas }
     requires handed { handed ≤ MOMENT_MAX }
     requires to { to < set.old.setup.replicas }
-    requires other { to ≢ entry.old.replica }
+    requires other { to ≢ from }
     requires firsts { length firsts.now ≡ set.old.setup.replicas }
-    ensures sent { OnOk result (IsSentBy set.old set.new entry.old entry.new handed to firsts.now) }
+    ensures sent { OnOk result ((sending : Made)
+        × (sent.new.items ≡ slice_set sent.old.items from (slice_index_or sent.old.items from [] ++ sending ∷ []))
+        × IsSentBy set.old set.new from moment handed to firsts.now sending) }
     ensures setup { set.new.setup ≡ set.old.setup }
 {
-    let from = entry.replica;
-    match &mut entry.act {
-        Act::Send { message } => match set.send_into(from, handed, to, firsts, message) {
-            Ok(()) => Ok(()),
-            Err(_) => Err(NoMemory),
-        },
-        Act::Call { .. } | Act::Take { .. } | Act::Lend { .. } | Act::Back { .. } | Act::Restart =>
-            unreachable!(),
-    }
+    let outbox = &mut sent[from as usize];
+    outbox.send(set, from, moment, handed, to, firsts)
 }
 
-// Keeps the message that an entry sends, with the one that is to take it.
-fn keep(sent: &mut Vec<Outbox>, sending: Entry, to: u32) -> Result<(), NoMemory>
-    requires { sending.replica < length sent.old.items }
-    ensures { (message : Message) → sending.act ≡ Send message → OnOk result (sent.new.items
-        ≡ slice_set sent.old.items sending.replica (slice_index_or sent.old.items sending.replica []
-        ++ (record { replica = to; moment = 0; act = Take message }) ∷ [])) }
+// Puts the taking, by this replica, in the place of the sending of the message that one sent under a number.
+fn turn(sent: &mut Vec<Outbox>, from: u32, number: u64, to: u32)
+    requires from { from < length sent.old.items }
+    requires number { number < length (slice_index_or sent.old.items from []) }
+    ensures { (sending : Made) (message : Message) → slice_get (slice_index_or sent.old.items from []) number ≡ Some sending
+        → sending.act ≡ Send message
+        → sent.new.items ≡ slice_set sent.old.items from (slice_set (slice_index_or sent.old.items from []) number (record { replica = to; moment = 0; act = Take message })) }
 {
-    let outbox = &mut sent[sending.replica as usize];
-    outbox.push(Entry {
-        replica: to,
-        moment: 0,
-        act: taken(sending.act),
-    })
-}
-
-// The act that takes the message that another one sends.
-fn taken(act: Act) -> Act
-    ensures { (message : Message) → act ≡ Send message → result ≡ Take message }
-{
-    match act {
-        Act::Send { message } => Act::Take { message },
-        other => other,
-    }
+    let outbox = &mut sent[from as usize];
+    outbox.turn(number as usize, to);
 }
 
 // Dates the taking of the message that one sent under a number.
@@ -170,35 +156,13 @@ fn date(sent: &mut Vec<Outbox>, from: u32, number: u64, replica: u32, moment: u6
     outbox.date(number as usize, replica, moment);
 }
 
-// The taking of the message that one sent under a number.
-fn taking(sent: &Vec<Outbox>, from: u32, number: u64) -> &Entry
+// The entry of the message that one sent under a number.
+fn entry_at(sent: &Vec<Outbox>, from: u32, number: u64) -> &Entry
     requires from { from < length sent.now.items }
     requires number { number < length (slice_index_or sent.now.items from []) }
     ensures { slice_get (slice_index_or sent.now.items from []) number ≡ Some result.now }
 {
     sent[from as usize].at(number as usize)
-}
-
-// Tells a witness of an entry that was made and on which there is no comment, and appends its line, where the stage
-// prints.
-fn tell<W: Witness>(
-    prints: bool,
-    history: &mut GivenUp<Entry>,
-    entry: &Entry,
-    witness: &mut W,
-    out: &mut Bytes,
-) -> Result<(), NoMemory>
-    requires saw { W.saw witness.old history.old.items }
-    ensures told { OnOk result ((history.new.items ≡ history.old.items ++ entry.now ∷ [])
-        × (prints ≡ true → out.new ≡ out.old ++ entry_text entry.now ++ 10 ∷ [])) }
-    ensures saw { OnOk result (W.saw witness.new history.new.items) }
-{
-    if prints {
-        line_of(entry, out)?;
-    }
-    witness.sees(entry)?;
-    *history = history.and(entry);
-    Ok(())
 }
 
 // The message of an act that takes one.
