@@ -209,7 +209,7 @@ fn goes_on_past_its_place(rt: HostRuntime) -> Result<(), Fail> {
 
 #[test]
 fn changes_a_short_list(rt: HostRuntime) -> Result<(), Fail> {
-    let mut list = below(rt.alloc(), 9)?;
+    let mut list = Numbers::from_slice(rt.alloc(), &[0, 1, 2, 3, 4, 5, 6, 7, 8])?;
     list.truncate(3);
     list.set(1, 7);
     assert_numbers(&rt, list.items(), &[0, 7, 2]);
