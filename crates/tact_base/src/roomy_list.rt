@@ -111,6 +111,10 @@ impl<T: Copy> RoomyList<T> {
         ensures items { self.new.items ≡ self.old.items ++ items.now }
         ensures room { self.old.room ≤ self.new.room + length items.now }
     {
+        // (one alone is put in with fewer steps)
+        if let [item] = items {
+            return self.push(*item);
+        }
         if append(&mut self.items, items).is_err() {
             unreachable!();
         }
