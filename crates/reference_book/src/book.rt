@@ -67,9 +67,8 @@ impl Book {
             → IsBookOf setup (history ++ entry ∷ []) self.new) }
         ensures err { OnErr result (self.new ≡ self.old) }
     {
-        let copy = write.clone()?;
         let log = &mut self.logs[write.origin as usize];
-        log.push_amply(copy)?;
+        log.push_amply(*write)?;
         self.sums.add(&write.weights);
         Ok(())
     }

@@ -106,9 +106,12 @@ impl<T: Drop> Items<T> {
     {
         if self.items.len() == self.items.capacity() {
             let ample = self.items.len().saturating_mul(3).max(1_024);
-            let _ = self.items.reserve(ample);
+            if self.items.reserve(ample).is_err() {
+                self.items.reserve(1)?;
+            }
         }
-        self.push(item)
+        self.items.push_reserved(item);
+        Ok(())
     }
 
     /// Drops all items from place `len` on, if there are any. Takes no memory.

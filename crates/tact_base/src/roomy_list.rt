@@ -86,9 +86,7 @@ impl<T: Drop> RoomyList<T> {
         ensures items { self.new.items ≡ self.old.items ++ item ∷ [] }
         ensures room { self.old.room ≤ self.new.room + 1 }
     {
-        if self.items.push(item).is_err() {
-            unreachable!();
-        }
+        self.items.push_reserved(item);
     }
 
     /// Puts an item before the one at `place`. Takes no memory.
