@@ -38,3 +38,4 @@ pub mod TrimmedWrites
 pub mod TrimmedLogs
 pub mod TrimmedKept
 pub mod RoomMade
+pub mod ToldLemmas

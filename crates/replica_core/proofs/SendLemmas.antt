@@ -1,14 +1,11 @@
 -- The message that a replica sends.
-use Rattle.std.proofs.Common.{◌≡◌, ◌≢◌, ℕ, ◌+◌, ◌-◌, ◌<◌, ◌≤◌, ◌==◌, min, max, Bool, false, cond, List, [], ◌∷◌, ◌++◌, length, get_or, take, drop, map, refl, sym, ap, ap₂, ◌∙◌, subst, ⊎_elim, arith}
+use Rattle.std.proofs.Common.{◌≡◌, ◌≢◌, ℕ, ◌<◌, ◌≤◌, ◌==◌, min, max, Bool, false, cond, List, [], ◌∷◌, ◌++◌, length, get_or, take, drop, map, refl, sym, ap, ap₂, ◌∙◌, subst, ⊎_elim, arith}
 use Rattle.std.proofs.lemmas.Bool.{cases_eq, eq-eqb, ne_eqb}
-use Rattle.std.specs.List.{flat_map, range_with_len}
-use Rattle.std.proofs.lemmas.List.{length_push, length-append, length-take}
+use Rattle.std.proofs.lemmas.List.{length_push}
 use Rattle.tact_base.proofs.ListLemmas.{All-range, flat_map_agree, get_or-map_range, length-filter_map, map_range_agree}
-use Rattle.tact_base.proofs.RangeLists.{flat_map_range_more}
 use Rattle.tact_base.specs.Counts.{first_index}
 use Rattle.tact_base.specs.declared.limits.TheConstants.{MESSAGE_WRITES, MOMENT_MAX, HISTORY_MAX}
 use Rattle.tact_base.specs.declared.write.Cover.{Cover}
-use Rattle.tact_base.specs.declared.write.Write.{Write}
 use Rattle.tact_base.specs.Setup.{IsSetup}
 use Rattle.run_model.specs.Histories.{last_moment, moment_at, sent_in}
 use Rattle.run_model.specs.Taking.{log_of, have, cover_of}
@@ -32,17 +29,6 @@ use Rattle.replica_core.proofs.StandsByPlace.{log_at-part, cover_at-part}
 use Rattle.run_model.proofs.SentMessages.{same_message}
 use Rattle.replica_core.proofs.StandsAfterQuiet.{Stands-quiet}
 use Rattle.replica_core.proofs.DueEntries.{entry_of, sound, moment_in, not_full, is_due}
-
--- what is left of the room in a message, after the writes of one more origin
-pub room_left : (of_origin : ℕ → List Write) (n room left : ℕ)
-    → room + length (take MESSAGE_WRITES (flat_map of_origin (range_with_len 0 n))) ≡ MESSAGE_WRITES
-    → left ≡ room - min room (length (of_origin n))
-    → left + length (take MESSAGE_WRITES (flat_map of_origin (range_with_len 0 (n + 1)))) ≡ MESSAGE_WRITES
-room_left of_origin n room left was is =
-    let told = flat_map of_origin (range_with_len 0 n) in
-    let more = flat_map of_origin (range_with_len 0 (n + 1)) in
-    let longer : length more ≡ length told + length (of_origin n) = ap length (flat_map_range_more of_origin n) ∙ length-append told (of_origin n) in
-    omega (arith, was, is, longer, length-take MESSAGE_WRITES told, length-take MESSAGE_WRITES more)
 
 -- where it stands for a part, it sends the message that is due after it
 module _ (part : List Entry) (core : Core) (stands : Stands part core) (among : core.replica < core.setup.replicas) where

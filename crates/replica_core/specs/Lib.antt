@@ -10,3 +10,4 @@ pub mod Reading
 pub mod Dropped
 pub mod Trimming
 pub mod Replying
+pub mod Told

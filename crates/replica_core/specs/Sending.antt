@@ -1,14 +1,13 @@
 -- The message that a replica sends, from what it keeps.
-use Rattle.std.specs.Prelude.{ℕ, ◌==◌, List, take, drop, length, map, slice_index, if◌then◌else◌}
-use Rattle.std.specs.List.{flat_map}
+use Rattle.std.specs.Prelude.{ℕ, ◌==◌, List, length, map, slice_index, if◌then◌else◌}
 use Rattle.tact_base.specs.Counts.{first_index}
-use Rattle.tact_base.specs.declared.limits.TheConstants.{MESSAGE_WRITES}
 use Rattle.tact_base.specs.declared.write.Cover.{Cover}
 use Rattle.tact_base.specs.declared.write.Write.{Write}
 use Rattle.tact_base.specs.Setup.{conits_of}
 use Rattle.split_budget.specs.Budgets.{lent_to, returned_to}
 use Rattle.run_model.specs.declared.entry.Message.{Message}
 use Rattle.replica_core.specs.States.{Core, log_at, cover_at, known_at, own_cover, origins_of}
+use Rattle.replica_core.specs.Told.{told_before}
 
 -- the cover that it tells of an origin: of itself its own state at a moment
 abbrev pub cover_told : Core → ℕ → ℕ → Cover
@@ -21,7 +20,7 @@ first_told core to given origin =
 
 -- of each origin the writes from these firsts on, as many as a message has room for
 abbrev pub writes_told : Core → List ℕ → List Write
-writes_told core firsts = take MESSAGE_WRITES (flat_map (λ origin. drop (slice_index firsts origin) (log_at core origin)) (origins_of core))
+writes_told core firsts = told_before core.writes.logs firsts core.setup.replicas
 
 -- its next message
 abbrev pub next_message : Core → ℕ → ℕ → List ℕ → Message

@@ -6,6 +6,7 @@ mod fault;
 mod last_one;
 mod replica;
 mod seen;
+mod told_logs;
 
 pub use fault::{CoreFault, LoanFault};
 pub use last_one::LastOne;

@@ -30,6 +30,7 @@ mod trimming;
 mod writing;
 
 use crate::seen::Seen;
+use crate::told_logs::ToldLogs;
 use crate::{CoreFault, LastOne};
 use run_model::Config;
 use split_budget::{Budget, Budgets};
@@ -37,7 +38,6 @@ use std::alloc::Global;
 use std::marker::Model;
 use tact_base::{CLIENTS, Cover, HISTORY_MAX, NoMemory, Numbers, STAMP_MAX, Write};
 use version_vector::Vector;
-use write_log::Logs;
 
 /// One replica of a setup. Contracts see what it keeps, as plain lists and numbers, and for how many more
 /// writes it has room; `Stands` says when that is what the definitions say of a part of a history.
@@ -46,7 +46,7 @@ pub struct Replica {
     alloc: Global,
     config: Config,
     replica: u32,
-    logs: Logs,
+    logs: ToldLogs,
     vector: Vector,
     known: Vec<u64>,
     seen: Seen,
@@ -101,7 +101,7 @@ impl Replica {
     {
         let replicas = config.replicas();
         let own = config.copy(alloc)?;
-        let logs = Logs::new(alloc, replicas)?;
+        let logs = ToldLogs::new(alloc, replicas)?;
         let (vector, known) = nothing_known(alloc, replicas)?;
         let (seen, calls) = nothing_done(alloc, config.conits())?;
         let budgets = opening_budgets(alloc, config, replica)?;

@@ -8,12 +8,12 @@ ghost use Rattle.write_log.specs.Logs.{log_of, room_of};
 ghost use Rattle.replica_core.specs.States.{AreNext};
 
 use crate::seen::Seen;
+use crate::told_logs::ToldLogs;
 use tact_base::Write;
-use write_log::Logs;
 
 /// Puts the next writes of an origin, whose stamps rise, into its log, and into their places among what is seen.
 /// It costs what comes after the first of them. Takes no memory.
-pub(crate) fn admit(logs: &mut Logs, seen: &mut Seen, origin: u32, writes: &[Write])
+pub(crate) fn admit(logs: &mut ToldLogs, seen: &mut Seen, origin: u32, writes: &[Write])
     requires origin { origin < length logs.old.logs }
     requires next { AreNext seen.old.conits origin (length (log_of logs.old origin)) writes.now }
     requires rising { IsStrictlySortedBy write_cmp writes.now }

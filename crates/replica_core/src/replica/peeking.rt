@@ -3,6 +3,7 @@ ghost use Rattle.std.specs.Prelude.{◌≡◌, ◌≢◌, ◌<◌, List, length,
 ghost use Rattle.run_model.specs.Histories.{moment_at};
 ghost use Rattle.run_model.specs.Messages.{message_of};
 ghost use Rattle.run_model.specs.declared.entry.Entry.{Entry};
+ghost use Rattle.replica_core.specs.Sending.{writes_told};
 ghost use Rattle.replica_core.specs.Stands.{Stands};
 
 use super::Replica;
@@ -38,6 +39,8 @@ impl Replica {
         requires firsts { length firsts.now ≡ self.now.core.setup.replicas }
         ensures due { OnOk result ((part : List Entry) → Stands part self.now.core
             → message.new ≡ message_of self.now.core.setup self.now.core.replica part (moment_at part moment) to firsts.now) }
+        ensures sized { OnOk result (length message.new.firsts ≡ self.now.core.setup.replicas) }
+        ensures told { OnOk result (message.new.writes ≡ writes_told self.now.core message.new.firsts) }
     {
         let moment = moment.max(self.last);
         self.put_next_message(moment, to, firsts.items(), message)

@@ -14,10 +14,7 @@ ghost use Rattle.replica_core.specs.Stands.{Stands, GoesOn, IsSameReplica, IsFau
 use super::Replica;
 use crate::CoreFault;
 use run_model::Message;
-use tact_base::{
-    Cover, Covers, MESSAGE_WRITES, NoMemory, Numbers, REPLICAS_MAX, SharedWrites, Write, WriteList,
-    first_index,
-};
+use tact_base::{Cover, Covers, NoMemory, Numbers, REPLICAS_MAX, first_index};
 
 impl Replica {
     /// Sends the next message to another replica, in the memory that the replica was made in. By origin its writes
@@ -72,6 +69,7 @@ impl Replica {
     {
         self.may_enter()?;
         self.put_message(moment, to, firsts, message)?;
+        self.keep_told(to, message);
         self.enter_sending(moment, to, firsts, message);
         Ok(())
     }
@@ -114,8 +112,7 @@ impl Replica {
         self.put_haves(&mut message.haves)?;
         self.put_covers(moment, &mut message.covers)?;
         self.put_firsts(to, given, &mut message.firsts)?;
-        let writes = self.writes(message.firsts.items())?;
-        message.writes = SharedWrites::new(self.alloc, writes)?;
+        message.writes = self.logs.told(self.alloc, to, message.firsts.items())?;
         message.lent.replace(self.budgets.all_lent(to))?;
         message.returned.replace(self.budgets.all_returned(to))
     }
@@ -169,62 +166,14 @@ impl Replica {
         Ok(())
     }
 
-    // From each origin in rising order the writes from its first on, none of which is given up, as many as there is
-    // room for.
-    fn writes(&self, firsts: &[u64]) -> Result<WriteList, NoMemory>
-        requires sized { length firsts.now ≡ self.now.core.setup.replicas }
-        requires held { (origin : ℕ) → origin < self.now.core.setup.replicas → base_at self.now.core origin ≤ slice_index firsts.now origin }
-        ensures { IfOk result (λ writes. writes ≡ writes_told self.now.core firsts.now) }
+    // Keeps, for a peer, the list of a full message to it.
+    fn keep_told(&mut self, to: u32, message: &Message)
+        requires to { to < self.old.core.setup.replicas }
+        requires sized { length message.now.firsts ≡ self.old.core.setup.replicas }
+        requires told { message.now.writes ≡ writes_told self.old.core message.now.firsts }
+        ensures { self.new ≡ self.old }
     {
-        let mut writes = WriteList::with_capacity(self.alloc, self.told_count(firsts))?;
-        for origin in 0..self.config.replicas() {
-            let room = MESSAGE_WRITES - writes.len();
-            let told = self.writes_from(origin, firsts[origin as usize], room);
-            append_writes(&mut writes, told)?;
-        }
-        Ok(writes)
-    }
-
-    // How many writes there are from these firsts on, and at most as many as there is room for: how much memory they
-    // want.
-    fn told_count(&self, firsts: &[u64]) -> usize
-        requires { length firsts.now ≡ self.now.core.setup.replicas }
-        ensures { result ≡ length (writes_told self.now.core firsts.now) }
-    {
-        let mut room = MESSAGE_WRITES as u64;
-        for origin in 0..self.config.replicas() {
-            let first = firsts[origin as usize];
-            room -= room.min(self.have(origin).saturating_sub(first));
-        }
-        MESSAGE_WRITES - room as usize
-    }
-
-    // At most so many writes of an origin from the first on, none of which is given up.
-    fn writes_from(&self, origin: u32, first: u64, most: usize) -> &[Write]
-        requires origin { origin < self.now.core.setup.replicas }
-        requires held { base_at self.now.core origin ≤ first }
-        ensures { result.now ≡ take most (drop first (log_at self.now.core origin)) }
-    {
-        let have = self.logs.count(origin);
-        let first = first.min(have);
         self.logs
-            .slice(origin, first, (most as u64).min(have - first))
+            .keep_told(to, message.firsts.items(), &message.writes);
     }
-}
-
-// How many writes are copied at once.
-const PIECE: usize = 16;
-
-// Appends writes in pieces, each of which is copied by words: a machine copies longer ones by bytes, which counts more
-// steps.
-fn append_writes(writes: &mut WriteList, told: &[Write]) -> Result<(), NoMemory>
-    ensures { OnOk result (writes.new ≡ writes.old ++ told.now) }
-{
-    let mut rest = told;
-    while rest.len() > PIECE {
-        let (piece, others) = rest.split_at(PIECE);
-        writes.append(piece)?;
-        rest = others;
-    }
-    writes.append(rest)
 }

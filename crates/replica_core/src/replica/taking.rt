@@ -22,12 +22,12 @@ ghost use Rattle.replica_core.specs.Taking.{FitsAt, AreToldBy, added_at, raised_
 use super::Replica;
 use super::admitting::{admit, are_in_order};
 use crate::CoreFault;
+use crate::told_logs::ToldLogs;
 use run_model::{Config, Message};
 use split_budget::Budgets;
 use std::slice;
 use tact_base::{Cover, NoMemory, Numbers, Write};
 use version_vector::Vector;
-use write_log::Logs;
 
 // For how many more told writes of each origin room is made at once, if it can.
 const AHEAD: u64 = 64;
@@ -226,7 +226,7 @@ fn lacking(told: &[Write], first: u64, have: u64) -> &[Write]
 }
 
 // Room for so many more writes of each origin.
-fn reserve_each(logs: &mut Logs, replicas: u32, count: u64) -> Result<(), NoMemory>
+fn reserve_each(logs: &mut ToldLogs, replicas: u32, count: u64) -> Result<(), NoMemory>
     requires { length logs.old.logs ≡ replicas }
     ensures logs { logs.new.logs ≡ logs.old.logs }
     ensures bases { logs.new.bases ≡ logs.old.bases }
@@ -329,7 +329,13 @@ fn latest_stamp(covers: &[Cover]) -> u64
 }
 
 // The told cover of each other origin, where it vouches for no more writes than the log has.
-fn raise_covers(vector: &mut Vector, logs: &Logs, config: &Config, replica: u32, message: &Message)
+fn raise_covers(
+    vector: &mut Vector,
+    logs: &ToldLogs,
+    config: &Config,
+    replica: u32,
+    message: &Message,
+)
     requires covers { length vector.old ≡ config.now.replicas }
     requires told { length message.now.covers ≡ config.now.replicas }
     requires logs { length logs.now.logs ≡ config.now.replicas }

@@ -6,8 +6,8 @@ ghost use Rattle.replica_core.specs.Dropped.{past_of};
 ghost use Rattle.replica_core.specs.Trimming.{IsKnownByAll, known_all_at, longest_at, trimmed};
 
 use super::Replica;
+use crate::told_logs::ToldLogs;
 use tact_base::{REPLICAS_MAX, Write};
-use write_log::Logs;
 
 impl Replica {
     // Gives up the committed writes at the front that each replica is known to have, in order and in the logs. It
@@ -72,7 +72,7 @@ impl Replica {
 }
 
 // Gives up, in the log of each origin, the writes up to the last of those that are gone.
-fn trim_logs(logs: &mut Logs, replicas: u32, gone: &[Write])
+fn trim_logs(logs: &mut ToldLogs, replicas: u32, gone: &[Write])
     requires logs_sized { length logs.old.logs ≡ replicas }
     requires bases_sized { length logs.old.bases ≡ replicas }
     requires few { All (λ write. write.index < HISTORY_MAX) gone.now }

@@ -1,5 +1,5 @@
 use Rattle.std.proofs.Common.{◌≡◌, ◌++◌, length}
-use Rattle.replica_core.proofs.replica.sending.append_writes.Given as goal
+use Rattle.replica_core.proofs.told_logs.append_writes.Given as goal
 
 abbrev pub invariant-loop-rest : goal.invariant-loop-rest
 invariant-loop-rest l = l.writes ++ l.rest ≡ l.initial.writes ++ l.told
