@@ -167,6 +167,22 @@ impl Budgets {
         self.config.row(&self.returned, owner)
     }
 
+    /// What an owner is known to have lent, the opening loan included, by conit. Takes no memory.
+    pub fn all_lent_by(&self, owner: u32) -> &[u64]
+        requires { IsPeer self.now owner }
+        ensures { result.now ≡ map (lent_by self.now owner) (conits_of self.now.setup) }
+    {
+        self.config.row(&self.lent_known, owner)
+    }
+
+    /// What a holder is known to have given back, by conit. Takes no memory.
+    pub fn all_returned_by(&self, holder: u32) -> &[u64]
+        requires { IsPeer self.now holder }
+        ensures { result.now ≡ map (returned_by self.now holder) (conits_of self.now.setup) }
+    {
+        self.config.row(&self.returned_known, holder)
+    }
+
     /// What of its share of the owner's bound on the conit the replica could give back. Takes no memory.
     pub fn free(&self, owner: u32, conit: u32) -> u64
         requires owner { IsPeer self.now owner }
