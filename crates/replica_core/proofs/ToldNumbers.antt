@@ -1,8 +1,10 @@
 -- Numbers by replica and then by origin or conit, raised one after another by what a message tells of its sender.
-use Rattle.std.proofs.Common.{◌≡◌, ℕ, ◌+◌, ◌*◌, ◌<◌, ◌≤◌, ◌==◌, max, cond, List, length, get_or, set, refl, sym, ap, ◌∙◌, ⊎_elim, arith, get_or-set_same, get_or-set_other}
+use Rattle.std.proofs.Common.{◌≡◌, ℕ, ◌+◌, ◌*◌, ◌<◌, ◌≤◌, ◌==◌, max, cond, List, length, map, get_or, set, refl, sym, ap, ◌∙◌, ⊎_elim, arith, get_or-set_same, get_or-set_other}
 use Rattle.std.proofs.lemmas.Bool.{cases_eq, eq-eqb, ne_eqb}
 use Rattle.std.proofs.lemmas.List.{length-set}
 use Rattle.std.proofs.lemmas.Nat.{mul-add-lt, same_from_place}
+use Rattle.std.specs.List.{range_with_len}
+use Rattle.tact_base.proofs.ListLemmas.{get_or-map_range}
 
 -- the number of a replica at a place, raised by what is told where the replica is the sender
 abbrev pub raised : ℕ → ℕ → ℕ → ℕ → ℕ
@@ -72,3 +74,21 @@ pub learned_all : (replicas width from : ℕ) (told start now : List ℕ)
     → place < width
     → get_or now (peer * width + place) 0 ≡ raised from peer (get_or start (peer * width + place) 0) (get_or told place 0)
 learned_all replicas width from told start now all peer place peer_in place_in = all.learned peer place peer_in place_in place_in
+
+-- a number that is told as it is stays
+raised_same : (from peer before told : ℕ) → (peer ≡ from → told ≡ before) → before ≡ raised from peer before told
+raised_same from peer before told same =
+    ⊎_elim (λ (is : peer ≡ from). rw (eq-eqb peer from is) (omega (arith, same is))) (λ (other : peer ≡ from → ⊥). rw (ne_eqb peer from other) refl)
+    (cases_eq peer from)
+
+-- where the sender's are told as they are, all numbers stay
+pub told_again : (width from : ℕ) (told now : List ℕ)
+    → told ≡ map (λ place. get_or now (from * width + place) 0) (range_with_len 0 width)
+    → (peer place : ℕ)
+    → place < width
+    → get_or now (peer * width + place) 0 ≡ raised from peer (get_or now (peer * width + place) 0) (get_or told place 0)
+told_again width from told now same peer place place_in =
+    let as_told : get_or told place 0 ≡ get_or now (from * width + place) 0 =
+    ap (λ (ns : List ℕ). get_or ns place 0) same ∙ get_or-map_range (λ (at : ℕ). get_or now (from * width + at) 0) width place 0 place_in in
+    raised_same from peer (get_or now (peer * width + place) 0) (get_or told place 0)
+    (λ is. as_told ∙ ap (λ (p : ℕ). get_or now (p * width + place) 0) (sym is))

@@ -1,18 +1,19 @@
 //! A message that a replica takes.
 ghost use Rattle.std.specs.Prelude.{◌≡◌, ◌≢◌, ◌==◌, ◌+◌, ◌-◌, ◌*◌, ◌<◌, ◌≤◌, max, true, false, ℕ, List, ◌++◌, All, map};
 ghost use Rattle.std.specs.Prelude.{take, drop, length, slice_get, slice_index, slice_index_or, slice_set, IsOk, OnOk, OnErr};
-ghost use Rattle.std.specs.Prelude.{IfErr, IfSome, if◌then◌else◌};
+ghost use Rattle.std.specs.Prelude.{IfErr, IfSome, IsTrue, ◌↔◌, if◌then◌else◌};
 ghost use Rattle.std.specs.List.{flat_map, range_with_len};
 ghost use Rattle.std.specs.List.Sorted.{IsStrictlySortedBy};
 ghost use Rattle.tact_base.specs.WriteOrder.{write_cmp};
 ghost use Rattle.tact_base.specs.Covers.{no_cover, cover_after};
 ghost use Rattle.tact_base.specs.Logs.{log_after};
+ghost use Rattle.tact_base.specs.Setup.{conits_of};
 ghost use Rattle.tact_base.specs.declared.limits.TheConstants.{MOMENT_MAX};
 ghost use Rattle.tact_base.specs.declared.write.Cover.{Cover};
 ghost use Rattle.run_model.specs.Histories.{greatest};
 ghost use Rattle.run_model.specs.Taking.{told_have, told_cover, told_first, told_writes};
 ghost use Rattle.run_model.specs.declared.entry.Act.TheVariants as act;
-ghost use Rattle.split_budget.specs.Budgets.{IsPeer, lent_to};
+ghost use Rattle.split_budget.specs.Budgets.{IsPeer, lent_to, lent_by, returned_by};
 ghost use Rattle.split_budget.specs.Kept.{KeepsBudgets};
 ghost use Rattle.write_log.specs.Logs.{log_of, room_of};
 ghost use Rattle.replica_core.specs.States.{AreNext, is_full, log_at};
@@ -289,7 +290,7 @@ fn note_told(budgets: &mut Budgets, conits: u32, message: &Message)
     note_loans(budgets, conits, message);
 }
 
-// What the sender lent and gave back.
+// What the sender lent and gave back. Almost always all of it is known already.
 fn note_loans(budgets: &mut Budgets, conits: u32, message: &Message)
     requires kept { KeepsBudgets budgets.old }
     requires from { IsPeer budgets.old message.now.from }
@@ -302,12 +303,26 @@ fn note_loans(budgets: &mut Budgets, conits: u32, message: &Message)
     ensures returned { AreToldBy budgets.old.setup message.now message.now.returned budgets.old.returned_known budgets.new.returned_known }
     ensures kept { KeepsBudgets budgets.new }
 {
+    if are_loans_known(budgets, message) {
+        return;
+    }
     for conit in 0..conits {
         let lent = number_at(&message.lent, conit);
         let returned = number_at(&message.returned, conit);
         budgets.note_lent(message.from, conit, lent);
         budgets.note_returned(message.from, conit, returned);
     }
+}
+
+// Whether what the sender lent and gave back is known already as it is told.
+fn are_loans_known(budgets: &Budgets, message: &Message) -> bool
+    requires { IsPeer budgets.now message.now.from }
+    ensures { IsTrue result
+        ↔ ((message.now.lent ≡ map (lent_by budgets.now message.now.from) (conits_of budgets.now.setup))
+        × (message.now.returned ≡ map (returned_by budgets.now message.now.from) (conits_of budgets.now.setup))) }
+{
+    message.lent.items() == budgets.all_lent_by(message.from)
+        && message.returned.items() == budgets.all_returned_by(message.from)
 }
 
 fn number_at(numbers: &Numbers, place: u32) -> u64

@@ -1,8 +1,20 @@
 use Rattle.std.proofs.Common.{◌≡◌, ◌<◌, ℕ, ◌+◌, ◌*◌, max, List, get_or, set, sym, ap, ap₂, ◌∙◌, subst, arith}
 use Rattle.tact_base.specs.Setup.{Setup}
 use Rattle.split_budget.specs.Budgets.{BudgetState}
-use Rattle.replica_core.proofs.ToldNumbers.{IsLearned, learned_more}
+use Rattle.replica_core.proofs.ToldNumbers.{IsLearned, learned_more, told_again}
 use Rattle.replica_core.proofs.replica.taking.note_loans.Goals as goal
+
+pub returns-then-are_loans_known-clause-lent : goal.returns-then-are_loans_known-clause-lent
+returns-then-are_loans_known-clause-lent c =
+    let known = c.are_loans_known.ensures.0 c.if-are_loans_known.true in
+    λ peer conit _ inside.
+    told_again c.args.budgets.now.setup.conits c.args.message.now.from c.args.message.now.lent c.args.budgets.now.lent_known known.0 peer conit inside
+
+pub returns-then-are_loans_known-clause-returned : goal.returns-then-are_loans_known-clause-returned
+returns-then-are_loans_known-clause-returned c =
+    let known = c.are_loans_known.ensures.0 c.if-are_loans_known.true in
+    λ peer conit _ inside.
+    told_again c.args.budgets.now.setup.conits c.args.message.now.from c.args.message.now.returned c.args.budgets.now.returned_known known.1 peer conit inside
 
 pub loop-conit-preserved : goal.loop-conit-preserved
 loop-conit-preserved c =
