@@ -1,9 +1,10 @@
 -- Items of a list that pass a test and stand together.
-use Rattle.std.proofs.Common.{◌≡◌, ℕ, ◌-◌, ◌<◌, ◌≤◌, Bool, true, false, cond, List, length, get_or, count_by, take, drop, filter, refl, sym, ap, ◌∙◌, ⊎_elim, arith}
-use Rattle.std.specs.List.{AllWithin}
-use Rattle.std.specs.List.Sorted.{IsPartitionedBy, IsPartitionPoint}
-use Rattle.std.proofs.lemmas.Bool.{cases_lt, false≢true}
-use Rattle.std.proofs.lemmas.List.{length-take, length-drop, get_or-take, get_or-drop}
+use Rattle.std.proofs.Common.{◌≡◌, ℕ, ◌-◌, ◌<◌, ◌≤◌, Bool, true, false, cond, List, Some, length, get_or, count_by, take, drop, filter, refl, sym, ap, ◌∙◌, ⊎_elim, arith}
+use Rattle.std.specs.List.{AllWithin, slice_get}
+use Rattle.std.specs.List.Sorted.{IsPartitionedBy}
+use Rattle.std.proofs.lemmas.Bool.{cases_lt, false≢true, false_from_ne_true}
+use Rattle.std.proofs.lemmas.Option.{get_or_from_slice_get, slice_get_within}
+use Rattle.std.proofs.lemmas.List.{length-take, length-drop, get_or_default, get_or-take, get_or-drop}
 use Rattle.std.proofs.lemmas.List.Elements.{filter_passes}
 use Rattle.std.proofs.lemmas.List.Sums.{length-filter, sum_by-take-drop, get_or-le-sum_by}
 use Rattle.tact_base.proofs.ListLemmas.{filter_all}
@@ -12,6 +13,23 @@ use Rattle.commit_order.proofs.Partitions.{front_passes, count_by-front}
 fails_at_none : (b : Bool) → cond b 1 0 ≤ 0 → b ≡ false
 fails_at_none true some = absurd (omega (arith, some))
 fails_at_none false none = refl
+
+-- how many pass where those stand in front: all where the last does, none where the first doesn't
+module _ {X : Type 0} (p : X → Bool) (xs : List X) (in_front : IsPartitionedBy p xs) where
+  pub count-to_last : (x : X) → slice_get xs (length xs - 1) ≡ Some x → p x ≡ true → count_by p xs ≡ length xs
+  count-to_last x is passing =
+      let last = length xs - 1 in
+      let inside : last < length xs = slice_get_within xs last x is in
+      count_by-front p xs (length xs) (omega arith)
+      (λ k d low high. in_front k last d (omega (arith, high)) inside (ap p (get_or_from_slice_get xs last x d is) ∙ passing))
+      (λ k d low high. absurd (omega (arith, low, high)))
+
+  pub count-from_first : (d : X) → p (get_or xs 0 d) ≡ false → count_by p xs ≡ 0
+  count-from_first d failing =
+      count_by-front p xs 0 (omega arith)
+      (λ k e low high. absurd (omega (arith, high)))
+      (λ k e low high. false_from_ne_true (p (get_or xs k e)) (λ passing.
+      false≢true (sym failing ∙ ap p (get_or_default xs 0 d e (omega (arith, high))) ∙ in_front 0 k e (omega arith) high passing)))
 
 -- All that pass stand together from a place on: from there on they stand in front, and none passes behind them.
 module _ {X : Type 0} (p : X → Bool) (xs : List X) (start : ℕ) (together : take (length (filter p xs)) (drop start xs) ≡ filter p xs) where
@@ -56,9 +74,6 @@ module _ {X : Type 0} (p : X → Bool) (xs : List X) (start : ℕ) (together : t
       (λ (late : all ≤ j). absurd (false≢true (sym (fails j d late inside) ∙ passing)))
       (cases_lt j all)
 
-  -- where the others begin, so many pass
-  pub front_is_all : (count : ℕ) → count ≤ length rest
-      → IsPartitionPoint (λ x. p x ≡ true) (λ x. p x ≡ false) rest count
-      → count ≡ all
-  front_is_all count inside point =
-      sym (count_by-front p rest count inside point.0 point.1) ∙ count_by-front p rest all within passes fails
+  -- so many of the rest pass
+  pub count_is_all : count_by p rest ≡ all
+  count_is_all = count_by-front p rest all within passes fails

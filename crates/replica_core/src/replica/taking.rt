@@ -2,8 +2,8 @@
 ghost use Rattle.std.specs.Prelude.{◌≡◌, ◌≢◌, ◌==◌, ◌+◌, ◌-◌, ◌*◌, ◌<◌, ◌≤◌, max, true, false, ℕ, List, ◌++◌, All, map};
 ghost use Rattle.std.specs.Prelude.{take, drop, length, slice_get, slice_index, slice_index_or, slice_set, IsOk, OnOk, OnErr};
 ghost use Rattle.std.specs.Prelude.{IfErr, IfSome, IsTrue, ◌↔◌, if◌then◌else◌};
-ghost use Rattle.std.specs.List.{flat_map, range_with_len};
-ghost use Rattle.std.specs.List.Sorted.{IsStrictlySortedBy};
+ghost use Rattle.std.specs.List.{count_by, flat_map, range_with_len};
+ghost use Rattle.std.specs.List.Sorted.{IsPartitionedBy, IsStrictlySortedBy};
 ghost use Rattle.tact_base.specs.WriteOrder.{write_cmp};
 ghost use Rattle.tact_base.specs.Covers.{no_cover, cover_after};
 ghost use Rattle.tact_base.specs.Logs.{log_after};
@@ -247,8 +247,24 @@ fn told_of(message: &Message, start: usize, origin: u32) -> &[Write]
     ensures { result.now ≡ told_writes message.now origin }
 {
     let rest = &message.writes.items()[start..];
-    let count = rest.partition_point(|write: &Write| write.origin == origin);
-    &rest[..count]
+    &rest[..count_of(rest, origin)]
+}
+
+// How many of some writes are of an origin, where those stand in front: often all of them are, or none is.
+fn count_of(writes: &[Write], origin: u32) -> usize
+    requires { IsPartitionedBy (λ write. write.origin == origin) writes.now }
+    ensures { result ≡ count_by (λ write. write.origin == origin) writes.now }
+{
+    let Some(last) = writes.last() else {
+        return 0;
+    };
+    if last.origin == origin {
+        return writes.len();
+    }
+    if writes[0].origin != origin {
+        return 0;
+    }
+    writes.partition_point(|write: &Write| write.origin == origin)
 }
 
 // How many writes of each origin the sender has.
