@@ -168,6 +168,9 @@ impl Seen {
         requires { self.old.dropped + count ≤ length (committed_to self.old.point self.old.writes) }
         ensures { self.new ≡ record self.old { dropped = self.old.dropped + count } }
     {
+        if count == 0 {
+            return;
+        }
         let going = &self.ordered.committed()[..count as usize];
         self.last_dropped = last_of(going).or(self.last_dropped);
         self.ordered.drop_front(count);
