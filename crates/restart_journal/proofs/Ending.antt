@@ -22,6 +22,10 @@ pub names_no_place : (given : OutFault) → IsAtPlace (read_fault given)
 names_no_place out.Failed = tt
 names_no_place out.NoMemory = tt
 
+-- a result has one error
+pub is_its_fault : {X : Type 0} (result : Result X RecoverFault) (given said : RecoverFault) → result ≡ Err given → result ≡ Err said → given ≡ said
+is_its_fault result given said one other = cc
+
 -- a count that rose from a later number rose from an earlier one
 rose_from : (before between after : ℕ) → before ≤ between → between ≤ after → HasRisen between after → HasRisen before after
 rose_from before between after up more rose =

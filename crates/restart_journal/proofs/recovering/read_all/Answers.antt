@@ -7,7 +7,7 @@ use Rattle.restart_journal.specs.Pieces.{piece_bytes}
 use Rattle.restart_journal.specs.Recovery.{IsBadAfter}
 use Rattle.restart_journal.specs.StepFaults.{read_fault}
 use Rattle.restart_journal.specs.Steps.{HasRead}
-use Rattle.restart_journal.proofs.Ending.{tells_nothing, names_no_place, fault_rose}
+use Rattle.restart_journal.proofs.Ending.{tells_nothing, names_no_place, is_its_fault, fault_rose}
 use Rattle.restart_journal.proofs.Reading.{can_be_put, its_part, whole_journal, foreign_there, full_there, spellable_then, spelled_then}
 use Rattle.restart_journal.proofs.recovering.read_all.Goals as goal
 
@@ -24,10 +24,8 @@ returns-in_err-piece-clause-placed g c =
 pub returns-in_err-piece-clause-failed : goal.returns-in_err-piece-clause-failed
 returns-in_err-piece-clause-failed g c =
     let given = err_from_is_err_and c.from_residual-in_err-piece.result c.from_residual-in_err-piece.ensures.1 in
-    let told = given.1 in
-    let from = given.2 in
     λ is.
-    let same : read_fault c.in_err-piece.field-0.0 ≡ fault.JournalReadFault = cc in
+    let same : read_fault c.in_err-piece.field-0.0 ≡ fault.JournalReadFault = sym given.2 ∙ is_its_fault _ _ _ given.1 is in
     fault_rose c.in_err-piece.field-0.0 (g.J.Journal.faults c.args.journal.now) (g.J.Journal.faults c.loop-place.journal) (g.J.Journal.faults c.read.new.self)
     c.loop-place.invariant.risen c.in_err-piece.ensures.never_falls (λ e. c.in_err-piece.ensures.failed (rw e refl)) same
 
@@ -87,10 +85,8 @@ returns-in_err-read-clause-placed g c =
 pub returns-in_err-read-clause-failed : goal.returns-in_err-read-clause-failed
 returns-in_err-read-clause-failed g c =
     let given = err_from_is_err_and c.from_residual-in_err-read.result c.from_residual-in_err-read.ensures.1 in
-    let told = given.1 in
-    let from = given.2 in
     λ is.
-    let same : read_fault c.in_err-read.field-0.0 ≡ fault.JournalReadFault = cc in
+    let same : read_fault c.in_err-read.field-0.0 ≡ fault.JournalReadFault = sym given.2 ∙ is_its_fault _ _ _ given.1 is in
     fault_rose c.in_err-read.field-0.0 (g.J.Journal.faults c.args.journal.now) (g.J.Journal.faults c.loop-place.journal) (g.J.Journal.faults c.read-2.new.self)
     c.loop-place.invariant.risen c.in_err-read.ensures.never_falls (λ e. c.in_err-read.ensures.failed (rw e refl)) same
 
