@@ -1,5 +1,5 @@
 -- What a script plays on: what it keeps of what was played, and what a step of it leaves.
-use Rattle.std.specs.Prelude.{◌≡◌, ℕ, ◌<◌, ◌≤◌, true, List, ◌∷◌, [], ◌++◌, length, map, slice_index_or}
+use Rattle.std.specs.Prelude.{◌≡◌, ℕ, ◌<◌, ◌≤◌, true, List, ◌∷◌, [], ◌++◌, length, map, slice_index_or, Option, Some, None}
 use Rattle.tact_base.specs.Setup.{Setup}
 use Rattle.tact_base.specs.declared.conit_list.Need.{Need}
 use Rattle.tact_base.specs.declared.limits.TheConstants.{CLIENTS, MOMENT_MAX}
@@ -40,6 +40,21 @@ played_in stage = record { history = stage.history.items; handed = stage.handed 
 -- what entries do
 abbrev pub acts_of : List Entry → List Act
 acts_of entries = map (λ (entry : Entry). entry.act) entries
+
+-- what a client asks of a replica
+pub record Asked : Type 0 where
+  pub replica : ℕ
+  pub client : ℕ
+  pub request : Request
+
+-- what a line has a client ask, if it does
+abbrev pub asked_by : Line → Option Asked
+asked_by (line.Write replica client op weights) = Some (record { replica = replica; client = client; request = request.Write weights op })
+asked_by (line.Held replica client op weight) = Some (record { replica = replica; client = client; request = request.Held weight op })
+asked_by (line.Reserve replica client conit amount) = Some (record { replica = replica; client = client; request = request.Reserve conit amount })
+asked_by (line.Release replica client conit amount) = Some (record { replica = replica; client = client; request = request.Release conit amount })
+asked_by (line.Read replica client key needs) = Some (record { replica = replica; client = client; request = request.Read key needs })
+asked_by other = None
 
 -- an act that calls, with a request in range
 pub record IsAsking (setup : Setup) (doing : Act) : Type 0 where

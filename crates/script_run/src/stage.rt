@@ -22,14 +22,13 @@ use calling::needs_in;
 use given_up::GivenUp;
 use reference_book::Book;
 use replica_set::ReplicaSet;
-use run_model::{Act, Config, Entry, Line, Request, line_of};
+use run_model::{Act, Config, Entry, Line, line_of};
 use std::alloc::Global;
 use tact_base::{Bytes, NoMemory, Numbers};
 
 /// The replicas of a setup, and what they have done.
 #[derive(Drop)]
 pub(crate) struct Stage {
-    alloc: Global,
     set: ReplicaSet,
     /// All accepted writes, where the stage prints.
     book: Book,
@@ -62,7 +61,6 @@ impl Stage {
             sent.push(Outbox::new(alloc))?;
         }
         Ok(Stage {
-            alloc,
             set: ReplicaSet::new(alloc, config)?,
             book: Book::new(alloc, config)?,
             history: GivenUp::new(),
@@ -101,78 +99,28 @@ impl Stage {
             Line::Write {
                 replica,
                 client,
-                op,
-                weights,
-            } => self.call(
-                *replica,
-                *client,
-                Request::Write {
-                    weights: *weights,
-                    op: *op,
-                },
-                witness,
-                out,
-            ),
+                ..
+            } => self.call(*replica, *client, line, witness, out),
             Line::Held {
                 replica,
                 client,
-                op,
-                weight,
-            } => self.call(
-                *replica,
-                *client,
-                Request::Held {
-                    weight: *weight,
-                    op: *op,
-                },
-                witness,
-                out,
-            ),
+                ..
+            } => self.call(*replica, *client, line, witness, out),
             Line::Reserve {
                 replica,
                 client,
-                conit,
-                amount,
-            } => self.call(
-                *replica,
-                *client,
-                Request::Reserve {
-                    conit: *conit,
-                    amount: *amount,
-                },
-                witness,
-                out,
-            ),
+                ..
+            } => self.call(*replica, *client, line, witness, out),
             Line::Release {
                 replica,
                 client,
-                conit,
-                amount,
-            } => self.call(
-                *replica,
-                *client,
-                Request::Release {
-                    conit: *conit,
-                    amount: *amount,
-                },
-                witness,
-                out,
-            ),
+                ..
+            } => self.call(*replica, *client, line, witness, out),
             Line::Read {
                 replica,
                 client,
-                key,
-                needs,
-            } => self.call(
-                *replica,
-                *client,
-                Request::Read {
-                    key: *key,
-                    needs: *needs,
-                },
-                witness,
-                out,
-            ),
+                ..
+            } => self.call(*replica, *client, line, witness, out),
             Line::Send { from, to, firsts } => self.send(*from, *to, firsts, witness, out),
             Line::Take {
                 replica,

@@ -1,41 +1,38 @@
 //! Calls of clients.
-ghost use Rattle.std.specs.Prelude.{◌≡◌, true, ℕ, ◌<◌, ◌≤◌, List, [], ◌∷◌, ◌++◌, unsigned_abs, Some, IfOk, OnOk};
+ghost use Rattle.std.specs.Prelude.{◌≡◌, true, ℕ, ◌≤◌, ◌<◌, List, [], ◌∷◌, ◌++◌, Some, IfOk, OnOk, IsTrue};
 ghost use Rattle.tact_base.specs.Setup.{Setup};
 ghost use Rattle.tact_base.specs.declared.limits.TheConstants.{CLIENTS, MOMENT_MAX};
 ghost use Rattle.tact_base.specs.declared.write.Write.{Write};
 ghost use Rattle.run_model.specs.OwnWrites.{asked_write, done_as, accepted_as, accepted_by};
-ghost use Rattle.run_model.specs.Ranges.{IsRequestInRange};
-ghost use Rattle.run_model.specs.ScriptRuns.{calls};
 ghost use Rattle.run_model.specs.declared.entry.Act.TheVariants as act;
 ghost use Rattle.run_model.specs.declared.entry.Entry.{Entry};
 ghost use Rattle.reference_book.specs.Books.{IsBookOf, IsNextIn};
-ghost use Rattle.script_run.specs.Stages.{IsAsking, IsAnsweredBy, needs_in, needs_met};
+ghost use Rattle.script_run.specs.Stages.{Asked, asked_by, IsAsking, IsAnsweredBy, needs_in, needs_met};
 
 use super::Stage;
 use crate::witness::Witness;
 use reference_book::Book;
 use replica_set::ReplicaSet;
-use run_model::{Act, Entry, Reply, Request};
-use tact_base::{Bytes, Need, NoMemory, Weight, Weights, Write};
+use run_model::{Act, Entry, Line, Reply, Request};
+use tact_base::{Bytes, Need, NoMemory, Op, Weight, Weights, Write};
 
 impl Stage {
-    ghost use Rattle.script_run.specs.Stages.{Keeps, Enters, setup_in, played_in};
+    ghost use Rattle.script_run.specs.Stages.{Keeps, Steps, IsReadyFor, setup_in};
 
-    // A client calls a replica.
+    // A client calls a replica, as a line says.
     pub(super) fn call<W: Witness>(
         &mut self,
         replica: u32,
         client: u32,
-        request: Request,
+        line: &Line,
         witness: &mut W,
         out: &mut Bytes,
     ) -> Result<(), NoMemory>
         requires keeps { Keeps self.old }
-        requires replica { replica < (setup_in self.old).replicas }
-        requires client { client < CLIENTS }
-        requires in_range { IsRequestInRange (setup_in self.old) request }
+        requires ready { IsReadyFor (setup_in self.old) self.old.history.items line.now }
+        requires asks { (request : Request) × (asked_by line.now ≡ Some (record { replica = replica; client = client; request = request })) }
         requires saw { W.saw witness.old self.old.history.items }
-        ensures enters { OnOk result (Enters self.old self.new (calls (setup_in self.old) (played_in self.old) replica client request) out.old out.new) }
+        ensures steps { OnOk result (Steps self.old self.new line.now out.old out.new) }
         ensures setup { setup_in self.new ≡ setup_in self.old }
         ensures saw { OnOk result (W.saw witness.new self.new.history.items) }
     {
@@ -43,7 +40,7 @@ impl Stage {
         let number = self.set.at(replica).calls(client);
         self.calling.replica = replica;
         self.calling.moment = moment;
-        ask(&mut self.calling.act, client, number, request);
+        ask(&mut self.calling.act, client, number, line);
         answer(&mut self.set, &mut self.calling, self.handed)?;
         note(self.prints, &mut self.book, &self.calling)?;
         self.history = self.tell(&self.calling, witness, out)?;
@@ -81,29 +78,116 @@ fn answer(set: &mut ReplicaSet, entry: &mut Entry, handed: u64) -> Result<(), No
     }
 }
 
-// Makes an act the call of a client, whose reply comes later. Where it was a call, it stays in its place.
-fn ask(doing: &mut Act, client: u32, number: u64, request: Request)
-    ensures { (reply : Reply) × (doing.new ≡ act.Call client number request reply) }
+// Makes an act the call of a client, as a line asks for it, whose reply comes later. Where it was a call, it stays in its
+// place.
+fn ask(doing: &mut Act, client: u32, number: u64, line: &Line)
+    requires { (asked : Asked) × (asked_by line.now ≡ Some asked) }
+    ensures { (asked : Asked) → asked_by line.now ≡ Some asked → (reply : Reply) × (doing.new ≡ act.Call client number asked.request reply) }
 {
     match doing {
         Act::Call {
             client: asking,
             number: counted,
-            request: asked,
+            request,
             ..
         } => {
             *asking = client;
             *counted = number;
-            *asked = request;
+            put_request(request, line);
         }
-        other => {
-            *other = Act::Call {
-                client,
-                number,
-                request,
-                reply: Reply::Granted,
-            };
+        other => make_call(other, client, number, line),
+    }
+}
+
+// Makes any act such a call.
+fn make_call(doing: &mut Act, client: u32, number: u64, line: &Line)
+    requires { (asked : Asked) × (asked_by line.now ≡ Some asked) }
+    ensures { (asked : Asked) → asked_by line.now ≡ Some asked → (reply : Reply) × (doing.new ≡ act.Call client number asked.request reply) }
+{
+    *doing = Act::Call {
+        client,
+        number,
+        request: request_of(line),
+        reply: Reply::Granted,
+    };
+}
+
+// Puts the request of a line in the place of another.
+fn put_request(request: &mut Request, line: &Line)
+    requires { (asked : Asked) × (asked_by line.now ≡ Some asked) }
+    ensures { (asked : Asked) → asked_by line.now ≡ Some asked → request.new ≡ asked.request }
+{
+    if !put_write(request, line) {
+        make_request(request, line);
+    }
+}
+
+// Where a line and a request are writes, puts the parts of the one in the places of those of the other. The answer is
+// whether they are.
+fn put_write(request: &mut Request, line: &Line) -> bool
+    ensures { IsTrue result → (asked : Asked) → asked_by line.now ≡ Some asked → request.new ≡ asked.request }
+{
+    match (request, line) {
+        (
+            Request::Write {
+                weights: held,
+                op: done,
+            },
+            Line::Write { op, weights, .. },
+        ) => {
+            *held = *weights;
+            *done = *op;
+            true
         }
+        _ => false,
+    }
+}
+
+// Makes any request that of a line.
+fn make_request(request: &mut Request, line: &Line)
+    requires { (asked : Asked) × (asked_by line.now ≡ Some asked) }
+    ensures { (asked : Asked) → asked_by line.now ≡ Some asked → request.new ≡ asked.request }
+{
+    *request = request_of(line);
+}
+
+// The request of a line.
+fn request_of(line: &Line) -> Request
+    requires { (asked : Asked) × (asked_by line.now ≡ Some asked) }
+    ensures { (asked : Asked) → asked_by line.now ≡ Some asked → result ≡ asked.request }
+{
+    match line {
+        Line::Write { op, weights, .. } => Request::Write {
+            weights: *weights,
+            op: *op,
+        },
+        Line::Held { op, weight, .. } => Request::Held {
+            weight: *weight,
+            op: *op,
+        },
+        Line::Reserve { conit, amount, .. } => Request::Reserve {
+            conit: *conit,
+            amount: *amount,
+        },
+        Line::Release { conit, amount, .. } => Request::Release {
+            conit: *conit,
+            amount: *amount,
+        },
+        Line::Read { key, needs, .. } => Request::Read {
+            key: *key,
+            needs: *needs,
+        },
+        Line::Start { .. }
+        | Line::Bound { .. }
+        | Line::At { .. }
+        | Line::Send { .. }
+        | Line::Take { .. }
+        | Line::Sync { .. }
+        | Line::Lend { .. }
+        | Line::Back { .. }
+        | Line::Restart { .. }
+        | Line::Show { .. }
+        | Line::Ref { .. } => unreachable!(),
     }
 }
 

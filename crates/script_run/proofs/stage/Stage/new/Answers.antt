@@ -6,7 +6,6 @@ use Rattle.script_run.proofs.stage.Stage.new.Goals as goal
 pub returns-clause-keeps : goal.returns-clause-keeps
 returns-clause-keeps c =
     opens (record {
-      alloc = c.args.alloc;
       set = c.in_ok-new.field-0;
       book = c.in_ok-new-2.field-0;
       history = c.new-4.result;

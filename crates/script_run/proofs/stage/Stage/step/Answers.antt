@@ -1,11 +1,12 @@
-use Rattle.std.proofs.Common.{refl, sym, ap₂, subst}
+use Rattle.std.proofs.Common.{refl, sym, ap, ap₂, subst}
 use Rattle.std.proofs.lemmas.Result.{on_ok_weaker}
 use Rattle.tact_base.specs.Setup.{Setup}
 use Rattle.std.specs.Result.{OnOk}
 use Rattle.run_model.specs.ScriptRuns.{Played, passes}
+use Rattle.run_model.specs.declared.call.Request.TheVariants as request
 use Rattle.run_model.specs.declared.script_line.Line.{Line}
 use Rattle.run_model.specs.declared.script_line.Line.TheVariants as line
-use Rattle.script_run.specs.Stages.{Enters, Steps}
+use Rattle.script_run.specs.Stages.{Enters, Steps, asked_by}
 use Rattle.script_run.proofs.Stepping.{enters_twice, steps_by_entries, steps_by_comment}
 use Rattle.script_run.proofs.stage.Stage.step.Goals as goal
 
@@ -39,3 +40,18 @@ returns-in-Ref-clause-steps g c =
     (λ told. steps_by_comment old old (line.Ref c.in-Ref.conit) c.args.out.now c.tell_reference.new.out refl
     (record { keeps = c.requires.keeps; setup = refl; played = refl; prints = refl }) told)
     c.tell_reference.ensures)
+
+pub call-requires-clause-asks : goal.call-requires-clause-asks
+call-requires-clause-asks g c = (request.Write c.in-Write.weights c.in-Write.op, ap asked_by c.in-Write.is)
+
+pub call-requires-in-Held-clause-asks : goal.call-requires-in-Held-clause-asks
+call-requires-in-Held-clause-asks g c = (request.Held c.in-Held.weight c.in-Held.op, ap asked_by c.in-Held.is)
+
+pub call-requires-in-Reserve-clause-asks : goal.call-requires-in-Reserve-clause-asks
+call-requires-in-Reserve-clause-asks g c = (request.Reserve c.in-Reserve.conit c.in-Reserve.amount, ap asked_by c.in-Reserve.is)
+
+pub call-requires-in-Release-clause-asks : goal.call-requires-in-Release-clause-asks
+call-requires-in-Release-clause-asks g c = (request.Release c.in-Release.conit c.in-Release.amount, ap asked_by c.in-Release.is)
+
+pub call-requires-in-Read-clause-asks : goal.call-requires-in-Read-clause-asks
+call-requires-in-Read-clause-asks g c = (request.Read c.in-Read.key c.in-Read.needs, ap asked_by c.in-Read.is)
