@@ -7,7 +7,8 @@ use tact_io::Failed;
 /// Why a node made no entry.
 #[derive(Clone, Copy, Debug, PartialEq, Eq)]
 pub enum NodeFault {
-    /// Its journal failed in an earlier call, so it makes no more entries.
+    /// In an earlier call its journal failed an append, or a restart answered `JournalReadFault` or `Foreign`. It makes no
+    /// entry until a restart answers Ok.
     Halted,
     /// Its replica made 20,000 entries, or the replica's clock stands at 2^40: how many entries, and the clock.
     Full { count: u64, clock: u64 },

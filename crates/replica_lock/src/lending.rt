@@ -28,8 +28,9 @@ use tact_io::{Gate, Journal};
 
 impl<'d, J: Journal, G: Gate> Node<'d, J, G> {
     /// Lends a holder a further amount of its own bound on a conit, in a turn of its own. The moment of the entry is
-    /// the greater of the handed one and that of the replica's last entry. `Full` comes first, then `Home` exactly
-    /// where the amount passes what is at home, then `NoMemory`. None makes an entry.
+    /// the greater of the handed one and that of the replica's last entry. `Full` comes only where the replica made
+    /// 20,000 entries, and `Home` only where the amount passes what is at home, both in what the session's note has seen
+    /// then. No fault makes an entry.
     pub fn lend<R: Wait>(
         &self,
         rt: &R,
@@ -57,8 +58,9 @@ impl<'d, J: Journal, G: Gate> Node<'d, J, G> {
     }
 
     /// Gives back to an owner an amount of its share of that owner's bound on a conit, in a turn of its own. The moment
-    /// of the entry is the greater of the handed one and that of the replica's last entry. `Full` comes first, then
-    /// `Free` exactly where the amount passes what is free of the share, then `NoMemory`. None makes an entry.
+    /// of the entry is the greater of the handed one and that of the replica's last entry. `Full` comes only where the
+    /// replica made 20,000 entries, and `Free` only where the amount passes what is free of the share, both in what the
+    /// session's note has seen then. No fault makes an entry.
     pub fn give_back<R: Wait>(
         &self,
         rt: &R,
