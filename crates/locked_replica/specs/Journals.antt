@@ -1,6 +1,8 @@
 -- What a node's journal has of the entries that are stored, and what a call leaves of it.
 use Rattle.std.specs.Prelude.{◌≡◌, ◌≢◌, ℕ, Bool, List, IsTrue, Option, None, Some, false, true}
+use Rattle.tact_base.specs.Setup.{Setup}
 use Rattle.tact_io.specs.Faults.{HasRisen}
+use Rattle.run_history.specs.Seats.{ClerkView}
 use Rattle.run_model.specs.Histories.{calls_in, moment_at}
 use Rattle.run_model.specs.Replies.{reply_of}
 use Rattle.run_model.specs.Runs.{IsDue, WasSent}
@@ -15,12 +17,16 @@ use Rattle.locked_replica.specs.Parcels.{message_to}
 use Rattle.locked_replica.specs.declared.fault.NodeFault.{NodeFault}
 use Rattle.locked_replica.specs.declared.fault.NodeFault.TheVariants as fault
 
--- An entry may come next at a replica: it is due after the stored entries, and a message that it takes was sent, in the
--- history that the clerk has seen.
-pub record MayComeNext (state : LockedView) (entry : Entry) : Type 0 where
-  pub replica : entry.replica ≡ state.core.replica
-  pub due : IsDue state.core.setup (part_in state) entry
-  pub sent : WasSent state.clerk.seen entry.act
+-- An entry may come next after a part of a replica, where a history was seen: it is the replica's and due after the part,
+-- and a message that it takes was sent in the history.
+pub record MayComeAfter (setup : Setup) (number : ℕ) (part seen : List Entry) (entry : Entry) : Type 0 where
+  pub replica : entry.replica ≡ number
+  pub due : IsDue setup part entry
+  pub sent : WasSent seen entry.act
+
+-- an entry may come next at a replica, after the stored entries, in the history that the clerk has seen
+abbrev pub MayComeNext : LockedView → Entry → Type 0
+MayComeNext state entry = MayComeAfter state.core.setup state.core.replica (part_in state) state.clerk.seen entry
 
 -- an entry in doubt, if there is one, may come next
 abbrev pub DoubtMayCome : LockedView → Option Entry → Type 0
@@ -84,8 +90,14 @@ IsSending (act.Send message) = Unit {0}
 IsSending other = ⊥
 
 -- What a node that has ended leaves of a journal: where it tells its pieces, they are those of the stored entries; or
--- these and one more, which is due after them, where it failed.
+-- these, or these and one more, where it failed.
 pub record LeavesPieces (tells : Bool) (pieces : List (List ℕ)) (faults : ℕ) (stored : List Entry) : Type 0 where
   pub doubt : Option Entry
   pub has : IsTrue tells → HasPiecesOf pieces stored doubt
   pub failed : (entry : Entry) → doubt ≡ Some entry → IsTrue tells → faults ≢ 0
+
+-- The same of a node of a setup with its clerk: the one more may come next after the stored entries, in the history that
+-- the clerk has seen.
+pub record LeavesJournal (setup : Setup) (clerk : ClerkView) (tells : Bool) (pieces : List (List ℕ)) (faults : ℕ) (stored : List Entry) : Type 0 where
+  pub left : LeavesPieces tells pieces faults stored
+  pub next : (entry : Entry) → left.doubt ≡ Some entry → MayComeAfter setup clerk.replica stored clerk.seen entry

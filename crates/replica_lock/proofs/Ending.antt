@@ -1,11 +1,16 @@
 -- What a node that has ended has of the sessions of all its clients.
-use Rattle.std.proofs.Common.{◌≡◌, ◌≢◌, ℕ, suc, ◌+◌, ◌*◌, ◌<◌, false, if◌then◌else◌, List, [], ◌∷◌, All, AllPairs, Contains, drop, take, length, map, get_or, sum, sum_by, refl, sym, ap, ◌∙◌, subst, arith}
+use Rattle.std.proofs.Common.{◌≡◌, ◌≢◌, ℕ, suc, ◌+◌, ◌*◌, ◌<◌, Bool, true, false, IsTrue, Option, None, Some, if◌then◌else◌, List, [], ◌∷◌, All, AllPairs, Contains, drop, take, length, map, get_or, sum, sum_by, refl, sym, ap, ◌∙◌, subst, arith}
 use Rattle.std.proofs.lemmas.List.{get_or-drop, get_or-take, length-drop, length-map, length-take}
 use Rattle.std.proofs.lemmas.List.Sums.{sum_by-cons}
 use Rattle.tact_base.specs.declared.limits.TheConstants.{CLIENTS}
 use Rattle.run_model.specs.Histories.{calls_in}
-use Rattle.entry_journal.specs.EntryJournals.{JournalView}
+use Rattle.run_model.specs.Runs.{IsDue, WasSent}
+use Rattle.run_model.specs.declared.entry.Entry.{Entry}
+use Rattle.run_history.specs.Seats.{ClerkView}
+use Rattle.run_history.specs.Ticks.{entries_of}
+use Rattle.entry_journal.specs.EntryJournals.{HasPiecesOf, JournalView}
 use Rattle.weight_ledger.specs.Seen.{TallyView}
+use Rattle.locked_replica.specs.Journals.{DoubtMayCome, IsJournaled, LeavesJournal, MayComeNext}
 use Rattle.locked_replica.specs.Locks.{IsLocked, LockedView, part_in, turns_place}
 use Rattle.replica_lock.specs.Ledgers.{IsAccounted, all_clients, all_kept, nothing_owed, owe_of, standing}
 use Rattle.replica_lock.specs.Rosters.{AreAllSessions, no_numbers}
@@ -28,6 +33,39 @@ sum-added f none (item ∷ items) (s ∷ sums) [] size_sums size_numbers each = 
 sum-added f none (item ∷ items) (s ∷ sums) (n ∷ numbers) size_sums size_numbers each =
     let less = sum-added f none items sums numbers (omega arith) (omega arith) (λ place within. each (suc place) (omega arith)) in
     omega (arith, sum_by-cons (λ (x : ℕ). x) s sums, sum_by-cons (λ (x : ℕ). x) n numbers, sum_by-cons f item items, each 0 (omega arith), less)
+
+-- an entry is in doubt on a halted node alone
+halted_in : (halted : Bool) (doubt : Option Entry) (entry : Entry) → (halted ≡ false → doubt ≡ None) → doubt ≡ Some entry → halted ≡ true
+halted_in true doubt entry certain is = refl
+halted_in false doubt entry certain is = let never : None ≡ Some entry = sym (certain refl) ∙ is in absurd cc
+
+-- what a node's value leaves of its journal, where these parts are had out of both
+pub leaves_journal : (state : LockedView) (journal : JournalView) (clerk : ClerkView) (pairs : List (ℕ × Entry)) (tells : Bool) (pieces : List (List ℕ)) (faults : ℕ)
+    → IsLocked state
+    → IsJournaled state journal
+    → clerk ≡ state.clerk
+    → pairs ≡ state.stored
+    → journal.tells ≡ tells
+    → pieces ≡ journal.pieces
+    → faults ≡ journal.faults
+    → LeavesJournal state.core.setup clerk tells pieces faults (entries_of pairs)
+leaves_journal state journal clerk pairs tells pieces faults kept journaled clerk_is pairs_is tells_is pieces_is faults_is = record {
+  left = record {
+    doubt = journal.doubt;
+    has = λ told.
+        subst (λ (all : List (List ℕ)). HasPiecesOf all (entries_of pairs) journal.doubt) (sym pieces_is)
+        (subst (λ (own : List (ℕ × Entry)). HasPiecesOf journal.pieces (entries_of own) journal.doubt) (sym pairs_is) (journaled.pieces (subst IsTrue (sym tells_is) told)));
+    failed = λ entry is told none.
+        journaled.counted (halted_in journal.halted journal.doubt entry journaled.certain is) (subst IsTrue (sym tells_is) told) (sym faults_is ∙ none);
+  };
+  next = λ entry is.
+      let come : MayComeNext state entry = subst (DoubtMayCome state) is journaled.next in
+      record {
+        replica = come.replica ∙ sym kept.replica ∙ ap (λ (k : ClerkView). k.replica) (sym clerk_is);
+        due = subst (λ (own : List (ℕ × Entry)). IsDue state.core.setup (entries_of own) entry) (sym pairs_is) come.due;
+        sent = subst (λ (k : ClerkView). WasSent k.seen entry.act) (sym clerk_is) come.sent;
+      };
+}
 
 -- A node's value, where a tally with the places of all clients agrees with its book.
 module _ (locked : LockedView) (journal : JournalView) (book : List ℕ) (owes : List Owe) (clients : List ℕ) (sessions : List SessionView) (tally : TallyView)

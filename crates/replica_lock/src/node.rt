@@ -5,7 +5,7 @@ ghost use Rattle.run_model.specs.Histories.{IsPrefix};
 ghost use Rattle.run_model.specs.Ranges.{IsRequestInRange};
 ghost use Rattle.run_history.specs.Ticks.{entries_of};
 ghost use Rattle.locked_replica.specs.Locks.{IsLocked, IsWriteOrRead};
-ghost use Rattle.locked_replica.specs.Journals.{IsJournaled, LeavesPieces, OnlyWhere};
+ghost use Rattle.locked_replica.specs.Journals.{IsJournaled, LeavesJournal, LeavesPieces, OnlyWhere};
 ghost use Rattle.replica_lock.specs.Rosters.{AreAllSessions, HasNumbers, IsRosterOf, IsSessionFaultOf, no_numbers};
 ghost use Rattle.replica_lock.specs.Sessions.{HasCalled, HasHeard, HasPlacesOf, IsAtNode, IsFaultSeen, IsSessionOf, failed_by, numbers_of, own_calls, place_of};
 ghost use Rattle.replica_lock.specs.Ledgers.{IsAccounted};
@@ -183,12 +183,14 @@ impl<'d, J: Journal, G: Gate> Node<'d, J, G> {
 
     /// Ends the node where sessions of it may be gone. It gives the node's clerk, the entries that it stored, which are
     /// what the clerk drew, and the journal: where that tells its pieces, they are those of the stored entries, or of
-    /// these and of one more whose append failed. Where all sessions are at hand, `finish` says more.
+    /// these and of one more whose append failed, which may come next after them. Where all sessions are at hand,
+    /// `finish` says more.
     pub fn end<R: Wait>(self, rt: &R, roster: Roster) -> Ended<J>
         requires roster { IsRosterOf self roster }
         ensures clerk { (result.clerk.table ≡ self.entry.desk.table) × (result.clerk.replica ≡ self.entry.replica) }
         ensures stored { result.stored ≡ result.clerk.pairs }
         ensures journal { LeavesPieces J.tells (J.pieces result.journal) (J.faults result.journal) (entries_of result.stored) }
+        ensures next { LeavesJournal self.entry.desk.setup result.clerk J.tells (J.pieces result.journal) (J.faults result.journal) (entries_of result.stored) }
     {
         let Node {
             desk: _,
@@ -202,7 +204,7 @@ impl<'d, J: Journal, G: Gate> Node<'d, J, G> {
     /// Ends the node, with the sessions of all clients that have one, in the order in which they came. It gives the
     /// node's clerk and the entries that it stored, which are what the clerk drew. Of each session's client these have
     /// as many calls as the session has seen, if it isn't in doubt, and no calls of others. The journal counted each fault
-    /// that a session marked.
+    /// that a session marked, and has the pieces that `end` tells of.
     pub fn finish<R: Wait>(self, rt: &R, roster: Roster, sessions: Vec<Session>) -> Ended<J>
         requires roster { IsRosterOf self roster }
         requires sessions { All (IsAtNode self) sessions.items }
@@ -211,6 +213,7 @@ impl<'d, J: Journal, G: Gate> Node<'d, J, G> {
         ensures stored { result.stored ≡ result.clerk.pairs }
         ensures sessions { AreAllSessions roster.clients sessions.items (entries_of result.stored) J.tells (J.faults result.journal) }
         ensures journal { LeavesPieces J.tells (J.pieces result.journal) (J.faults result.journal) (entries_of result.stored) }
+        ensures next { LeavesJournal self.entry.desk.setup result.clerk J.tells (J.pieces result.journal) (J.faults result.journal) (entries_of result.stored) }
     {
         let Node {
             desk: _,
@@ -253,6 +256,7 @@ fn ended<J: Journal>(kept: LockedBox<J>) -> Ended<J>
     ensures accounted { IsAccounted kept.state kept.journal kept.book kept.owes }
     ensures faults { (J.faults result.journal ≡ kept.journal.faults) × (kept.journal.tells ≡ J.tells) }
     ensures journal { LeavesPieces J.tells (J.pieces result.journal) (J.faults result.journal) (entries_of result.stored) }
+    ensures next { LeavesJournal kept.state.core.setup result.clerk J.tells (J.pieces result.journal) (J.faults result.journal) (entries_of result.stored) }
 {
     let (locked, journal) = kept.into_parts();
     let (clerk, pairs) = locked.into_parts();
