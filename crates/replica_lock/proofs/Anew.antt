@@ -60,4 +60,5 @@ module _ {setup : Setup} {old between : SessionView} (first : HasHeard setup old
     totals = begun.totals ∙ ap (λ (s : SessionView). one_more_at (made_place s.conits s.client) before.state.totals) first.value;
     book = begun.book ∙ ap (λ (s : SessionView). one_more_at (made_place s.conits s.client) before.book) first.value;
     owes = begun.owes;
+    counts = begun.counts;
   }

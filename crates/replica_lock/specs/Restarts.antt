@@ -1,5 +1,5 @@
 -- What a restart of a node leaves, and what a session has seen of it.
-use Rattle.std.specs.Prelude.{◌≡◌, ◌⊎◌, ℕ, None, Option}
+use Rattle.std.specs.Prelude.{◌≡◌, ◌≤◌, ◌⊎◌, ℕ, None, Option}
 use Rattle.run_model.specs.declared.entry.Act.TheVariants as act
 use Rattle.locked_replica.specs.Locks.{HasEntered, entry_in, made_place, one_more_at}
 use Rattle.locked_replica.specs.Restarting.{HasReread, HasRestartDoubt, IsRereadRefusal, IsRestartRefusal}
@@ -11,7 +11,7 @@ use Rattle.replica_lock.specs.Ledgers.{found_owes, restart_book}
 use Rattle.replica_lock.specs.Sessions.{IsFaultSeen, SessionView, TurnView}
 
 -- After a replica was made again from its journal: the same entries are stored, or these and the one that was in doubt,
--- which is owed to its client then. Nothing is in doubt.
+-- which is owed to its client then. Nothing is in doubt, and the journal has counted no fewer faults.
 pub record HasFound (before after : TurnView) : Type 0 where
   pub found : Option Found
   pub reread : HasReread before.state after.state before.journal.doubt found
@@ -19,6 +19,7 @@ pub record HasFound (before after : TurnView) : Type 0 where
   pub owes : after.owes ≡ found_owes found before.owes
   pub certain : after.journal.doubt ≡ None
   pub halted : after.journal.halted ≡ before.journal.halted
+  pub counts : (after.journal.tells ≡ before.journal.tells) × (before.journal.faults ≤ after.journal.faults)
 
 -- after a Restart was made for a session's client
 pub record HasBegun (before after : TurnView) (session : SessionView) (moment : ℕ) : Type 0 where
@@ -26,6 +27,7 @@ pub record HasBegun (before after : TurnView) (session : SessionView) (moment : 
   pub totals : after.state.totals ≡ one_more_at (made_place session.conits session.client) before.state.totals
   pub book : after.book ≡ one_more_at (made_place session.conits session.client) before.book
   pub owes : after.owes ≡ before.owes
+  pub counts : (after.journal.tells ≡ before.journal.tells) × (before.journal.faults ≤ after.journal.faults)
 
 -- a node that began anew: its replica was made again, then a Restart was made
 pub record HasRestarted (before after : TurnView) (session : SessionView) (moment : ℕ) : Type 0 where
@@ -46,12 +48,14 @@ pub record HasNotFound (before after : TurnView) (session : SessionView) (told :
   pub left : HasLeftState before after session told
   pub fault : IsRereadRefusal before.journal after.journal told
   pub doubt : after.journal.doubt ≡ before.journal.doubt
+  pub counts : (after.journal.tells ≡ before.journal.tells) × (before.journal.faults ≤ after.journal.faults)
 
 -- a node that made no Restart, where nothing was in doubt
 pub record HasNotBegun (before after : TurnView) (session : SessionView) (moment : ℕ) (told : RestartFault) : Type 0 where
   pub left : HasLeftState before after session told
   pub fault : IsRestartRefusal before.state.core before.journal after.journal told
   pub doubt : HasRestartDoubt before.state moment after.journal told
+  pub counts : (after.journal.tells ≡ before.journal.tells) × (before.journal.faults ≤ after.journal.faults)
 
 -- a node that didn't begin anew: its journal wasn't read again, or it was and no Restart was made
 abbrev pub HasNotRestarted : TurnView → TurnView → SessionView → ℕ → RestartFault → Type 0

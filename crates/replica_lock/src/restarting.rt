@@ -58,6 +58,7 @@ impl<'n, 'd, J: Journal, G: Gate> Turn<'n, 'd, J, G> {
         ensures node { self.new.node ≡ self.old.node }
         ensures kept { IsLocked self.new.state }
         ensures journaled { IsJournaled self.new.state self.new.journal }
+        ensures counts { (self.new.journal.tells ≡ self.old.journal.tells) × (self.old.journal.faults ≤ self.new.journal.faults) }
         ensures begun { OnOk result (HasRestarted self.old self.new session.old moment) }
         ensures going { OnOk result (self.new.journal.halted ≡ false) }
         ensures left { IfErr result (HasNotRestarted self.old self.new session.old moment) }
@@ -77,6 +78,7 @@ impl<'n, 'd, J: Journal, G: Gate> Turn<'n, 'd, J, G> {
         ensures node { self.new.node ≡ self.old.node }
         ensures kept { IsLocked self.new.state }
         ensures journaled { IsJournaled self.new.state self.new.journal }
+        ensures counts { (self.new.journal.tells ≡ self.old.journal.tells) × (self.old.journal.faults ≤ self.new.journal.faults) }
         ensures found { OnOk result (HasFound self.old self.new) }
         ensures sure { OnOk result (self.new.journal.doubt ≡ None) }
         ensures seen { session.new.seen ≡ self.new.state.clerk.seen }
@@ -112,6 +114,7 @@ impl<'n, 'd, J: Journal, G: Gate> Turn<'n, 'd, J, G> {
         ensures node { self.new.node ≡ self.old.node }
         ensures kept { IsLocked self.new.state }
         ensures journaled { IsJournaled self.new.state self.new.journal }
+        ensures counts { (self.new.journal.tells ≡ self.old.journal.tells) × (self.old.journal.faults ≤ self.new.journal.faults) }
         ensures begun { OnOk result (HasBegun self.old self.new session.old moment) }
         ensures going { OnOk result (self.new.journal.halted ≡ false) }
         ensures left { IfErr result (HasNotBegun self.old self.new session.old moment) }

@@ -1,4 +1,4 @@
-use Rattle.std.proofs.Common.{subst}
+use Rattle.std.proofs.Common.{◌∙◌, subst, arith}
 use Rattle.std.proofs.lemmas.Result.{IfErr-weaker, on_ok_weaker}
 use Rattle.run_model.specs.declared.entry.Act.TheVariants as act
 use Rattle.locked_replica.specs.declared.fault.RestartFault.{RestartFault}
@@ -34,3 +34,7 @@ returns-clause-refused g c =
     heard_twice c.in_ok-recover.ensures.heard (marked_restart told) (marking_restart told)
     (subst (λ (n : NodeView). HasHeard n.desk.setup c.recover.new.session (marked_restart told c.recover.new.session) c.begin.new.session) c.recover.ensures.node heard))
     c.begin.ensures.refused
+
+pub returns-clause-counts : goal.returns-clause-counts
+returns-clause-counts g c =
+    (c.begin.ensures.counts.0 ∙ c.recover.ensures.counts.0, omega (arith, c.recover.ensures.counts.1, c.begin.ensures.counts.1))
