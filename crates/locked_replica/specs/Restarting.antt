@@ -1,5 +1,5 @@
 -- What a journal that is read again leaves of the value behind a node's lock, and why it isn't.
-use Rattle.std.specs.Prelude.{◌≡◌, ℕ, Bool, List, [], ◌∷◌, ◌++◌, filter, Option, None, Some, IsTrue, true, false, slice_set}
+use Rattle.std.specs.Prelude.{◌≡◌, ℕ, Bool, List, [], ◌∷◌, ◌++◌, filter, map, Option, None, Some, IsTrue, true, false, slice_set}
 use Rattle.tact_io.specs.Faults.{HasRisen}
 use Rattle.run_model.specs.Histories.{is_call_of}
 use Rattle.run_model.specs.Missing.{reserved}
@@ -9,6 +9,7 @@ use Rattle.run_model.specs.declared.entry.Act.{Act}
 use Rattle.run_model.specs.declared.entry.Act.TheVariants as act
 use Rattle.run_model.specs.declared.entry.Entry.{Entry}
 use Rattle.replica_core.specs.States.{Core, is_full}
+use Rattle.restart_journal.specs.Pieces.{piece_bytes}
 use Rattle.entry_journal.specs.EntryJournals.{IsUntouched, JournalView}
 use Rattle.locked_replica.specs.Asking.{conit_of, granted_to}
 use Rattle.locked_replica.specs.Locks.{HasEntered, LockedView, entry_in, made_place, one_more_at, part_in, turns_place}
@@ -50,7 +51,12 @@ pub record HasRedrawn (before after : LockedView) (doubt : Option Entry) (found 
   pub totals : HasTotalsWith before after entry.act
   pub counts : found ≡ found_of entry.act
 
--- after the journal was read again: the same entries are stored, or these and the one that was in doubt
+-- where a journal tells its pieces, they are those of just the stored entries
+abbrev pub HasJustStored : JournalView → LockedView → Type 0
+HasJustStored journal state = IsTrue journal.tells → journal.pieces ≡ map piece_bytes (part_in state)
+
+-- After the journal was read again: the same entries are stored, or these and the one that was in doubt. Which of both
+-- hangs on what the journal has, which is just what is stored then (HasJustStored).
 abbrev pub HasReread : LockedView → LockedView → Option Entry → Option Found → Type 0
 HasReread before after doubt None = (after.stored ≡ before.stored) × (after.totals ≡ before.totals)
 HasReread before after doubt (Some found) = HasRedrawn before after doubt found

@@ -14,7 +14,7 @@ ghost use Rattle.entry_journal.specs.EntryJournals.{HasKept, IsKeptOf};
 ghost use Rattle.locked_replica.specs.Asking.{conit_of, given_up, granted_to};
 ghost use Rattle.locked_replica.specs.Journals.{IsJournaled, MayComeNext};
 ghost use Rattle.locked_replica.specs.Locks.{HasEntered, IsLocked, IsOfDesk, entry_in, made_place, one_more_at, part_in, turns_place};
-ghost use Rattle.locked_replica.specs.Restarting.{IsCallOf, IsNoCall, HasReread, HasRestartDoubt, HasTotalsWith, IsRereadRefusal, IsRestartRefusal, OnlyWhereRestarted, found_of};
+ghost use Rattle.locked_replica.specs.Restarting.{IsCallOf, IsNoCall, HasJustStored, HasReread, HasRestartDoubt, HasTotalsWith, IsRereadRefusal, IsRestartRefusal, OnlyWhereRestarted, found_of};
 
 use crate::RestartFault;
 use crate::locked::{Locked, count_call, count_entry, draw, set_reserved};
@@ -36,8 +36,9 @@ pub struct Found {
 
 impl Locked {
     /// Makes the replica again from its journal, for a session that has seen what a note has. The clerk learns the note;
-    /// where the journal has the entry in doubt, that one is drawn and stored; then the note sees what the clerk has
-    /// seen. Nothing is in doubt then.
+    /// where the journal has the entry in doubt, that one is drawn and stored, and else it is dropped; then the note sees
+    /// what the clerk has seen. Nothing is in doubt then, and the journal's pieces, which stay, are those of just the
+    /// stored entries.
     ///
     /// `JournalReadFault` comes only where the journal failed in this call, and `Foreign` only where it gave another
     /// piece than was appended, or none: after both it is halted. All faults leave the replica, the stored entries, the
@@ -57,9 +58,11 @@ impl Locked {
         ensures note { (note.new.table ≡ note.old.table) × (note.new.seen ≡ self.new.clerk.seen) }
         ensures run { IsRun desk.now.setup note.new.seen }
         ensures found { IfOk result (HasReread self.old self.new journal.old.doubt) }
+        ensures told { OnOk result (HasJustStored journal.old self.new) }
         ensures journaled { IsJournaled self.new journal.new }
         ensures sure { OnOk result ((journal.new.doubt ≡ None) × (journal.new.halted ≡ journal.old.halted)) }
         ensures tells { journal.new.tells ≡ journal.old.tells }
+        ensures stays { IsTrue journal.old.tells → journal.new.pieces ≡ journal.old.pieces }
         ensures never_falls { journal.old.faults ≤ journal.new.faults }
         ensures fault { IfErr result (IsRereadRefusal journal.old journal.new) }
         ensures met { IfErr result (OnlyWhereRestarted J.tells ((met : J) × (J.faults met ≢ 0))) }
@@ -87,11 +90,13 @@ impl Locked {
         ensures kept { IsLocked self.new }
         ensures label { (self.new.core.setup ≡ self.old.core.setup) × (self.new.core.replica ≡ self.old.core.replica) × (self.new.clerk.table ≡ self.old.clerk.table) }
         ensures found { IfOk result (HasReread self.old self.new journal.old.doubt) }
+        ensures told { OnOk result (HasJustStored journal.old self.new) }
         ensures grows { IsPrefix self.old.clerk.seen self.new.clerk.seen }
         ensures run { IsRun desk.now.setup self.new.clerk.seen }
         ensures journaled { IsJournaled self.new journal.new }
         ensures sure { OnOk result ((journal.new.doubt ≡ None) × (journal.new.halted ≡ journal.old.halted)) }
         ensures tells { journal.new.tells ≡ journal.old.tells }
+        ensures stays { IsTrue journal.old.tells → journal.new.pieces ≡ journal.old.pieces }
         ensures never_falls { journal.old.faults ≤ journal.new.faults }
         ensures fault { IfErr result (IsRereadRefusal journal.old journal.new) }
         ensures met { IfErr result (OnlyWhereRestarted J.tells ((met : J) × (J.faults met ≢ 0))) }

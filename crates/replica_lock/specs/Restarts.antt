@@ -1,8 +1,8 @@
 -- What a restart of a node leaves, and what a session has seen of it.
-use Rattle.std.specs.Prelude.{◌≡◌, ◌≤◌, ◌⊎◌, ℕ, None, Option}
+use Rattle.std.specs.Prelude.{◌≡◌, ◌≤◌, ◌⊎◌, ℕ, IsTrue, None, Option}
 use Rattle.run_model.specs.declared.entry.Act.TheVariants as act
 use Rattle.locked_replica.specs.Locks.{HasEntered, entry_in, made_place, one_more_at}
-use Rattle.locked_replica.specs.Restarting.{HasReread, HasRestartDoubt, IsRereadRefusal, IsRestartRefusal}
+use Rattle.locked_replica.specs.Restarting.{HasJustStored, HasReread, HasRestartDoubt, IsRereadRefusal, IsRestartRefusal}
 use Rattle.locked_replica.specs.declared.fault.NodeFault.TheVariants as node_fault
 use Rattle.locked_replica.specs.declared.fault.RestartFault.{RestartFault}
 use Rattle.locked_replica.specs.declared.fault.RestartFault.TheVariants as fault
@@ -11,7 +11,8 @@ use Rattle.replica_lock.specs.Ledgers.{found_owes, restart_book}
 use Rattle.replica_lock.specs.Sessions.{IsFaultSeen, SessionView, TurnView}
 
 -- After a replica was made again from its journal: the same entries are stored, or these and the one that was in doubt,
--- which is owed to its client then. Nothing is in doubt, and the journal has counted no fewer faults.
+-- which is owed to its client then. Where the journal tells its pieces, they say which: they are those of just what is
+-- stored then. Nothing is in doubt. The pieces stay, and the journal has counted no fewer faults.
 pub record HasFound (before after : TurnView) : Type 0 where
   pub found : Option Found
   pub reread : HasReread before.state after.state before.journal.doubt found
@@ -19,6 +20,8 @@ pub record HasFound (before after : TurnView) : Type 0 where
   pub owes : after.owes ≡ found_owes found before.owes
   pub certain : after.journal.doubt ≡ None
   pub halted : after.journal.halted ≡ before.journal.halted
+  pub told : HasJustStored before.journal after.state
+  pub stays : IsTrue before.journal.tells → after.journal.pieces ≡ before.journal.pieces
   pub counts : (after.journal.tells ≡ before.journal.tells) × (before.journal.faults ≤ after.journal.faults)
 
 -- after a Restart was made for a session's client
@@ -43,11 +46,12 @@ pub record HasLeftState (before after : TurnView) (session : SessionView) (told 
   pub book : after.book ≡ restart_book session.conits session.client told before.book
   pub owes : after.owes ≡ before.owes
 
--- a node whose journal wasn't read again
+-- a node whose journal wasn't read again, and has the same pieces
 pub record HasNotFound (before after : TurnView) (session : SessionView) (told : RestartFault) : Type 0 where
   pub left : HasLeftState before after session told
   pub fault : IsRereadRefusal before.journal after.journal told
   pub doubt : after.journal.doubt ≡ before.journal.doubt
+  pub stays : IsTrue before.journal.tells → after.journal.pieces ≡ before.journal.pieces
   pub counts : (after.journal.tells ≡ before.journal.tells) × (before.journal.faults ≤ after.journal.faults)
 
 -- a node that made no Restart, where nothing was in doubt

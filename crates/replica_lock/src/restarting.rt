@@ -45,8 +45,8 @@ impl<'d, J: Journal, G: Gate> Node<'d, J, G> {
 
 impl<'n, 'd, J: Journal, G: Gate> Turn<'n, 'd, J, G> {
     /// Throws the replica away and makes it again from the journal, whose pieces are to be those of the stored entries, or
-    /// of these and of the one in doubt. Then that one is drawn and stored. Then a Restart is appended, made, drawn and
-    /// stored, and the node isn't halted any more.
+    /// of these and of the one in doubt. Where it has that one, it is drawn and stored, and else it is dropped. Then a
+    /// Restart is appended, made, drawn and stored, and the node isn't halted any more.
     ///
     /// `Full` comes exactly where the replica made 20,000 entries or its clock stands at 2^40, after an entry in doubt was
     /// drawn; it leaves the node as it was, but for that one, and so does `NoMemory`. After the other faults the node is

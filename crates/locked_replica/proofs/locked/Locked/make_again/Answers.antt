@@ -42,3 +42,12 @@ returns-in-Some-clause-journaled g c =
     IsJournaled-reread before c.redraw.new.self c.args.journal.now c.read_again.new.journal (Some entry) c.requires.journaled c.read_again.ensures.tells
     (λ told. read.told told ∙ ap (λ kept. map piece_bytes (with_kept (part_in middle) kept)) is ∙ ap (λ (v : LockedView). map piece_bytes (part_in v ++ entry ∷ [])) value)
     part read.sure.0 read.sure.1 c.read_again.ensures.never_falls
+
+pub returns-in-Some-clause-told : goal.returns-in-Some-clause-told
+returns-in-Some-clause-told g c = λ told.
+    let entry = c.in-Some.entry in
+    let middle = c.store_room.new.self in
+    let is : c.in_ok-replica.field-0.kept ≡ Some entry = cc in
+    let part : part_in c.redraw.new.self ≡ part_in middle ++ entry ∷ [] = part-entered middle c.redraw.new.self _ entry c.redraw.ensures.entered in
+    sym (c.read_again.ensures.stays told) ∙ c.in_ok-replica.ensures.told told ∙ ap (λ kept. map piece_bytes (with_kept (part_in middle) kept)) is
+    ∙ ap (map piece_bytes) (sym part)

@@ -19,6 +19,9 @@ returns-clause-found g c =
     (IfOk-weaker _ (HasReread learnt after doubt) (HasReread before after doubt)
     (λ found. HasReread-learnt before learnt after c.learn.ensures.value c.learn.ensures.mine doubt found) c.make_again-answer.ensures.found)
 
+pub returns-clause-told : goal.returns-clause-told
+returns-clause-told g c = rw c.tell.ensures.value c.make_again-answer.ensures.told
+
 pub returns-clause-learnt : goal.returns-clause-learnt
 returns-clause-learnt g c =
     let grows = c.make_again-answer.ensures.grows in
