@@ -33,6 +33,13 @@ IsSameLabel before after = (after.core.setup ≡ before.core.setup) × (after.co
 abbrev pub IsTurn : NodeView → CountsView → LockedView → JournalView → Type 0
 IsTurn node counts locked journal = KeepsTurn node counts locked × IsJournaled locked journal × IsAccounted locked journal counts.book counts.owes
 
+-- and that its journal tells its pieces or not
+pub with_tells : {node : NodeView} {counts : CountsView} {locked : LockedView} {journal : JournalView} {tells : Bool}
+    → IsTurn node counts locked journal
+    → journal.tells ≡ tells
+    → KeepsTurn node counts locked × IsJournaled locked journal × IsAccounted locked journal counts.book counts.owes × (journal.tells ≡ tells)
+with_tells turn same = (turn.0, turn.1, turn.2, same)
+
 pub keeps_turn : {node : NodeView} {counts later : CountsView} {before after : LockedView}
     → KeepsTurn node counts before
     → later.cell ≡ counts.cell

@@ -120,6 +120,7 @@ impl<'n, 'd, J: Journal, G: Gate> Turn<'n, 'd, J, G> {
         ensures fault { IfErr result (IsLoanRefusal self.old.state.core (part_in self.old.state) self.old.journal self.new.journal (loan.Out holder conit amount)) }
         ensures met { IfErr result (OnlyWhereLent (IsTrue J.tells → (met : J) × (J.faults met ≢ 0))) }
         ensures journal_room { self.old.journal.room ≤ self.new.journal.room + 1 }
+        ensures counts { (self.new.journal.tells ≡ self.old.journal.tells) × (self.old.journal.faults ≤ self.new.journal.faults) }
         ensures fault_seen { IfErr result (IsLoanFaultSeen self.old.node.desk.setup session.new (loan.Out holder conit amount)) }
         ensures book { OnOk result (self.new.book ≡ one_more_at (made_place session.old.conits session.old.client) self.old.book) }
         ensures told { IfErr result (λ told. self.new.book ≡ lent_book session.old.conits session.old.client told self.old.book) }
@@ -169,6 +170,7 @@ impl<'n, 'd, J: Journal, G: Gate> Turn<'n, 'd, J, G> {
         ensures fault { IfErr result (IsLoanRefusal self.old.state.core (part_in self.old.state) self.old.journal self.new.journal (loan.Back owner conit amount)) }
         ensures met { IfErr result (OnlyWhereLent (IsTrue J.tells → (met : J) × (J.faults met ≢ 0))) }
         ensures journal_room { self.old.journal.room ≤ self.new.journal.room + 1 }
+        ensures counts { (self.new.journal.tells ≡ self.old.journal.tells) × (self.old.journal.faults ≤ self.new.journal.faults) }
         ensures fault_seen { IfErr result (IsLoanFaultSeen self.old.node.desk.setup session.new (loan.Back owner conit amount)) }
         ensures book { OnOk result (self.new.book ≡ one_more_at (made_place session.old.conits session.old.client) self.old.book) }
         ensures told { IfErr result (λ told. self.new.book ≡ lent_book session.old.conits session.old.client told self.old.book) }
@@ -211,6 +213,7 @@ impl<'n, 'd, J: Journal, G: Gate> Turn<'n, 'd, J, G> {
         ensures fault { IfErr result (IsLoanRefusal self.old.state.core (part_in self.old.state) self.old.journal self.new.journal loan) }
         ensures met { IfErr result (OnlyWhereLent (IsTrue J.tells → (met : J) × (J.faults met ≢ 0))) }
         ensures journal_room { self.old.journal.room ≤ self.new.journal.room + 1 }
+        ensures counts { (self.new.journal.tells ≡ self.old.journal.tells) × (self.old.journal.faults ≤ self.new.journal.faults) }
         ensures fault_seen { IfErr result (IsLoanFaultSeen self.old.node.desk.setup session.new loan) }
         ensures book { OnOk result (self.new.book ≡ one_more_at (made_place session.old.conits session.old.client) self.old.book) }
         ensures told { IfErr result (λ told. self.new.book ≡ lent_book session.old.conits session.old.client told self.old.book) }

@@ -25,6 +25,7 @@ pub struct LockedBox<J: Journal> {
 }
 
 impl<J: Journal> Model for LockedBox<J> {
+    ghost use Rattle.std.specs.Prelude.{◌≡◌};
     ghost use Rattle.locked_replica.specs.Journals.{IsJournaled};
     ghost use Rattle.replica_lock.specs.Ledgers.{IsAccounted};
     ghost use Rattle.replica_lock.specs.Nodes.{KeptView};
@@ -33,7 +34,8 @@ impl<J: Journal> Model for LockedBox<J> {
 
     ghost view = { λ b. record { state = b.locked.value; journal = b.journal; book = b.ledger.book; owes = b.ledger.owes } };
 
-    ghost invariant = { λ b. IsJournaled b.locked.value b.journal × IsAccounted b.locked.value b.journal b.ledger.book b.ledger.owes };
+    ghost invariant = { λ b. IsJournaled b.locked.value b.journal × IsAccounted b.locked.value b.journal b.ledger.book b.ledger.owes
+        × (b.journal.tells ≡ J.tells) };
 }
 
 impl<J: Journal> Counted for LockedBox<J> {

@@ -135,9 +135,12 @@ impl<'d, J: Journal, G: Gate> Node<'d, J, G> {
         })
     }
 
-    /// Takes the lock, which it holds until the turn ends.
+    /// Takes the lock, which it holds until the turn ends. What stands behind it is of the node's setup, replica and desk,
+    /// and its journal tells its pieces where journals of its type do.
     pub fn turn<R: Wait>(&self, rt: &R) -> Turn<'_, 'd, J, G>
         ensures node { result.node ≡ self.now }
+        ensures label { (result.state.core.setup ≡ self.now.desk.setup) × (result.state.core.replica ≡ self.now.replica) × (result.state.clerk.table ≡ self.now.desk.table) }
+        ensures tells { result.journal.tells ≡ J.tells }
         ensures kept { IsLocked result.state }
         ensures journaled { IsJournaled result.state result.journal }
         ensures accounted { IsAccounted result.state result.journal result.book result.owes }

@@ -64,6 +64,7 @@ impl<'n, 'd, J: Journal, G: Gate> Turn<'n, 'd, J, G> {
         ensures met { IfErr result (OnlyWhere (IsTrue J.tells → (met : J) × (J.faults met ≢ 0))) }
         ensures enough { 0 < self.old.state.spare → 0 < self.old.state.room → 0 < self.old.journal.room → IsErrOf result NodeFault.NoMemory → ⊥ }
         ensures journal_room { self.old.journal.room ≤ self.new.journal.room + 1 }
+        ensures counts { (self.new.journal.tells ≡ self.old.journal.tells) × (self.old.journal.faults ≤ self.new.journal.faults) }
     {
         let mut granted = self.node.empty(session, conit);
         let reply = self.ask(
@@ -106,6 +107,7 @@ impl<'n, 'd, J: Journal, G: Gate> Turn<'n, 'd, J, G> {
         ensures met { IfErr result (OnlyWhere (IsTrue J.tells → (met : J) × (J.faults met ≢ 0))) }
         ensures enough { 0 < self.old.state.spare → 0 < self.old.state.room → 0 < self.old.journal.room → IsErrOf result NodeFault.NoMemory → ⊥ }
         ensures journal_room { self.old.journal.room ≤ self.new.journal.room + 1 }
+        ensures counts { (self.new.journal.tells ≡ self.old.journal.tells) × (self.old.journal.faults ≤ self.new.journal.faults) }
     {
         let amount = allowance.amount;
         let request = Request::Release {
@@ -150,6 +152,7 @@ impl<'n, 'd, J: Journal, G: Gate> Turn<'n, 'd, J, G> {
         ensures met { IfErr result (OnlyWhere (IsTrue J.tells → (met : J) × (J.faults met ≢ 0))) }
         ensures enough { 0 < self.old.state.spare → 0 < self.old.state.room → 0 < self.old.journal.room → IsErrOf result NodeFault.NoMemory → ⊥ }
         ensures journal_room { self.old.journal.room ≤ self.new.journal.room + 1 }
+        ensures counts { (self.new.journal.tells ≡ self.old.journal.tells) × (self.old.journal.faults ≤ self.new.journal.faults) }
     {
         let reply = self.ask(session, allowance, moment, Request::Held { weight, op })?;
         match reply {

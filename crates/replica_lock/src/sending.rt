@@ -84,6 +84,7 @@ impl<'n, 'd, J: Journal, G: Gate> Turn<'n, 'd, J, G> {
         ensures fault { IfErr result (IsRefusal self.old.state.core self.old.journal self.new.journal) }
         ensures met { IfErr result (OnlyWhere (IsTrue J.tells → (met : J) × (J.faults met ≢ 0))) }
         ensures journal_room { self.old.journal.room ≤ self.new.journal.room + 1 }
+        ensures counts { (self.new.journal.tells ≡ self.old.journal.tells) × (self.old.journal.faults ≤ self.new.journal.faults) }
         ensures fault_seen { IfErr result (IsFaultSeen session.new) }
         ensures book { OnOk result (self.new.book ≡ one_more_at (made_place session.old.conits session.old.client) self.old.book) }
         ensures told { IfErr result (λ told. self.new.book ≡ told_book session.old.conits session.old.client told self.old.book) }

@@ -89,6 +89,7 @@ impl<'n, 'd, J: Journal, G: Gate> Turn<'n, 'd, J, G> {
         ensures fault { IfErr result (λ refused. IsRefusal self.old.state.core self.old.journal self.new.journal refused.fault) }
         ensures met { IfErr result (λ refused. OnlyWhere (IsTrue J.tells → (met : J) × (J.faults met ≢ 0)) refused.fault) }
         ensures journal_room { self.old.journal.room ≤ self.new.journal.room + 1 }
+        ensures counts { (self.new.journal.tells ≡ self.old.journal.tells) × (self.old.journal.faults ≤ self.new.journal.faults) }
         ensures fault_seen { IfErr result (λ refused. IsFaultSeen session.new refused.fault) }
         ensures back { IfErr result (λ refused. refused.parcel ≡ parcel) }
         ensures book { OnOk result (self.new.book ≡ one_more_at (made_place session.old.conits session.old.client) self.old.book) }

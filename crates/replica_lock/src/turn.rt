@@ -33,6 +33,7 @@ pub struct Turn<'n, 'd, J: Journal, G: Gate> {
 }
 
 impl<'n, 'd, J: Journal, G: Gate> Model for Turn<'n, 'd, J, G> {
+    ghost use Rattle.std.specs.Prelude.{◌≡◌};
     ghost use Rattle.locked_replica.specs.Journals.{IsJournaled};
     ghost use Rattle.replica_lock.specs.Ledgers.{IsAccounted};
     ghost use Rattle.replica_lock.specs.Nodes.{KeepsTurn};
@@ -43,7 +44,7 @@ impl<'n, 'd, J: Journal, G: Gate> Model for Turn<'n, 'd, J, G> {
     ghost view = { λ t. record { node = t.node.now; state = t.locked.value; journal = t.journal; book = t.counts.book; owes = t.counts.owes } };
 
     ghost invariant = { λ t. KeepsTurn t.node.now t.counts t.locked.value × IsJournaled t.locked.value t.journal
-        × IsAccounted t.locked.value t.journal t.counts.book t.counts.owes };
+        × IsAccounted t.locked.value t.journal t.counts.book t.counts.owes × (t.journal.tells ≡ J.tells) };
 }
 
 impl<'n, 'd, J: Journal, G: Gate> Turn<'n, 'd, J, G> {
@@ -122,6 +123,7 @@ impl<'n, 'd, J: Journal, G: Gate> Turn<'n, 'd, J, G> {
         ensures going { OnOk result ((self.old.journal.halted ≡ false) × (self.new.journal.halted ≡ false)) }
         ensures enough { 0 < self.old.state.spare → 0 < self.old.state.room → 0 < self.old.journal.room → IsErrOf result NodeFault.NoMemory → ⊥ }
         ensures journal_room { self.old.journal.room ≤ self.new.journal.room + 1 }
+        ensures counts { (self.new.journal.tells ≡ self.old.journal.tells) × (self.old.journal.faults ≤ self.new.journal.faults) }
         ensures fault { IfErr result (IsRefusal self.old.state.core self.old.journal self.new.journal) }
         ensures met { IfErr result (OnlyWhere (IsTrue J.tells → (met : J) × (J.faults met ≢ 0))) }
         ensures fault_seen { IfErr result (IsFaultSeen session.new) }

@@ -23,4 +23,5 @@ invariant_of-result g c =
           (ap (λ (l : LedgerView). l.book) c.in-Ok.ensures ∙ ap (λ (n : ℕ). zeros (n + 5 * CLIENTS)) conits)
           (ap (λ (l : LedgerView). l.owes) c.in-Ok.ensures)
           (ap (λ (j : JournalView). j.doubt) c.new-in-Ok-new.ensures),
+      ap (λ (j : JournalView). j.tells) c.new-in-Ok-new.ensures,
     )

@@ -16,7 +16,7 @@ use Rattle.replica_lock.proofs.LedgerLemmas.{counted-conit}
 use Rattle.replica_lock.proofs.Seeing.{HasCalled-entered}
 use Rattle.replica_lock.proofs.Told.{KeepsSession-counted, allowance_as, calls-entered, calls-seen}
 use Rattle.replica_lock.proofs.Steps.{HasLeft, keeps_left, left, noted}
-use Rattle.replica_lock.proofs.Stepping.{after_call, after_failed}
+use Rattle.replica_lock.proofs.Stepping.{after_call, after_failed, with_tells}
 use Rattle.replica_lock.proofs.Turning.{agreed, in_made, in_turns, places, room_made, room_turns, tells, session_as, width}
 use Rattle.replica_lock.proofs.turn.Turn.ask.Goals as goal
 use Rattle.replica_lock.proofs.turn.Turn.ask.Goals.{After-fail}
@@ -87,7 +87,8 @@ invariant_of-self g c =
     let used = used-most _ _ _ c.args.request c.in-Ok.reply asked.may in
     let moved = reserved-entered _ c.call-answer.new.self _ _ (rw c.deref_mut.ensures.value at told.entered) told.kept conit in
     let counted = one_more_at (made_place c.session.inside.conits c.session.inside.client) (one_more_at (turns_place c.session.inside.conits c.session.inside.client) book) in
-    after_call agrees c.self.invariant.2 (rw c.deref_mut.ensures.value at told.label) told.counts told.journaled conit first last told.going.1 inside (sym c.reserved-before.ensures.total)
+    with_tells
+    (after_call agrees c.self.invariant.2 (rw c.deref_mut.ensures.value at told.label) told.counts told.journaled conit first last told.going.1 inside (sym c.reserved-before.ensures.total)
     (omega (arith, used, moved, asked.mine, c.reserved-before.ensures.reserved, c.reserved-after.ensures.reserved))
     ((rw c.deref_mut.ensures.value at told.totals)
     ∙ ap (set (one_more_at (made_place c.self.inside.locked.value.core.setup.conits c.session.inside.client) (one_more_at (turns_place c.self.inside.locked.value.core.setup.conits c.session.inside.client) c.self.inside.locked.value.totals)) conit)
@@ -96,7 +97,8 @@ invariant_of-self g c =
     ∙ ap (λ (k : CountsView). let later : CountsView = record k { book = set k.book conit (get_or k.book conit 0 + last - first) } in later)
     (c.count.ensures.book ∙ ap (λ (k : CountsView). let later : CountsView = record k { book = one_more_at (made_place c.session.inside.conits c.session.inside.client) (one_more_at (turns_place c.session.inside.conits c.session.inside.client) k.book) } in later)
     (c.agree-2.ensures.book ∙ c.agree.ensures.book))
-    ∙ ap (λ n. let later : CountsView = record c.self.inside.counts { book = set counted conit (n + last - first) } in later) (counted-conit c.session.inside.conits c.session.inside.client conit book inside))
+    ∙ ap (λ n. let later : CountsView = record c.self.inside.counts { book = set counted conit (n + last - first) } in later) (counted-conit c.session.inside.conits c.session.inside.client conit book inside)))
+    (told.counts.0 ∙ c.self.invariant.3)
 
 pub invariant_of-session : goal.invariant_of-session
 invariant_of-session g c =
@@ -123,7 +125,8 @@ invariant_of-self-in-Err g c =
     let conit = c.allowance.inside.conit in
     let lost = c.given_up-lost.result in
     let lost_in = lost-within _ _ _ c.args.request asked.may in
-    after_failed agrees c.self.invariant.2 (rw c.deref_mut.ensures.value at told.label) told.counts told.journaled c.self.inside.locked.value c.args.moment conit lost c.args.request c.in-Err.fault
+    with_tells
+    (after_failed agrees c.self.invariant.2 (rw c.deref_mut.ensures.value at told.label) told.counts told.journaled c.self.inside.locked.value c.args.moment conit lost c.args.request c.in-Err.fault
     (subst (λ (s : SessionView). s.doubt ≡ false) (sym c.session.view_is) c.requires.session.certain) (omega (arith, asked.here, width agrees))
     (subst (λ (a : AllowanceView). conit_of c.args.request ≡ a.conit) (sym c.allowance.view_is) c.requires.on) c.given_up-lost.ensures
     (rw c.given_up-lost.ensures (omega (arith, lost_in, asked.mine)))
@@ -131,7 +134,8 @@ invariant_of-self-in-Err g c =
     (subst (λ (v : LockedView). IsInDoubtAfter c.call-answer.new.journal (call_in v c.args.moment c.session.inside.client c.args.request) c.in-Err.fault) c.deref_mut.ensures.value told.doubt)
     (c.fail.ensures.counts
     ∙ ap (λ (k : CountsView). let later : CountsView = record k { book = failed_book c.session.inside.conits c.session.inside.client conit lost c.in-Err.fault k.book; owes = failed_owes c.session.inside.client conit lost c.in-Err.fault k.owes } in later)
-    (c.agree-2.ensures.book ∙ c.agree.ensures.book))
+    (c.agree-2.ensures.book ∙ c.agree.ensures.book)))
+    (told.counts.0 ∙ c.self.invariant.3)
 
 pub returns-in-Ok-clause-held : goal.returns-in-Ok-clause-held
 returns-in-Ok-clause-held g c =

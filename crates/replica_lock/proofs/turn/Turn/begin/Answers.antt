@@ -7,7 +7,7 @@ use Rattle.replica_lock.specs.Nodes.{CountsView}
 use Rattle.replica_lock.specs.contracts.session.Session.{the_view}
 use Rattle.replica_lock.proofs.Hearing.{heard_marked, marking_restart, seen_restart}
 use Rattle.replica_lock.proofs.Steps.{HasLeft, keeps_left, keeps_made, left, made, noted}
-use Rattle.replica_lock.proofs.Stepping.{after_entry, after_restart_refused}
+use Rattle.replica_lock.proofs.Stepping.{after_entry, after_restart_refused, with_tells}
 use Rattle.replica_lock.proofs.Turning.{agreed, in_made, room_made}
 use Rattle.replica_lock.proofs.turn.Turn.begin.Goals as goal
 use Rattle.replica_lock.proofs.turn.Turn.begin.Goals.{After-mark_restart}
@@ -55,8 +55,10 @@ pub invariant_of-self : goal.invariant_of-self
 invariant_of-self g c =
     let agrees = agreed c.self.view_is c.session.view_is c.requires.session c.self.invariant.0 c.stand.ensures c.self.invariant.2.booked c.session.invariant c.agree.ensures.owned c.agree.ensures.tally refl in
     let told = c.in-Ok.ensures in
-    after_entry agrees c.self.invariant.2 (rw c.deref_mut.ensures.value at told.label) (told.tells, told.never_falls) told.journaled told.going.0 (rw c.deref_mut.ensures.value at told.totals)
-    (c.count_made.ensures.book ∙ ap (λ (k : CountsView). record k { book = one_more_at (made_place c.session.inside.conits c.session.inside.client) k.book }) c.agree.ensures.book)
+    with_tells
+    (after_entry agrees c.self.invariant.2 (rw c.deref_mut.ensures.value at told.label) (told.tells, told.never_falls) told.journaled told.going.0 (rw c.deref_mut.ensures.value at told.totals)
+    (c.count_made.ensures.book ∙ ap (λ (k : CountsView). record k { book = one_more_at (made_place c.session.inside.conits c.session.inside.client) k.book }) c.agree.ensures.book))
+    (told.tells ∙ c.self.invariant.3)
 
 pub invariant_of-session-in-Err : goal.invariant_of-session-in-Err
 invariant_of-session-in-Err g c =
@@ -68,6 +70,8 @@ pub invariant_of-self-in-Err : goal.invariant_of-self-in-Err
 invariant_of-self-in-Err g c =
     let agrees = agreed c.self.view_is c.session.view_is c.requires.session c.self.invariant.0 c.stand.ensures c.self.invariant.2.booked c.session.invariant c.agree.ensures.owned c.agree.ensures.tally refl in
     let told = c.in-Err.ensures in
-    after_restart_refused agrees c.self.invariant.2 (rw c.deref_mut.ensures.value at told.label) (told.tells, told.never_falls) told.journaled c.self.inside.locked.value c.args.moment c.in-Err.fault (rw c.deref_mut.ensures.value at told.err.2)
+    with_tells
+    (after_restart_refused agrees c.self.invariant.2 (rw c.deref_mut.ensures.value at told.label) (told.tells, told.never_falls) told.journaled c.self.inside.locked.value c.args.moment c.in-Err.fault (rw c.deref_mut.ensures.value at told.err.2)
     (rw c.deref_mut.ensures.value at told.fault) (subst (λ (v : LockedView). HasRestartDoubt v c.args.moment c.restart-answer.new.journal c.in-Err.fault) c.deref_mut.ensures.value told.doubt)
-    (c.mark_restart.ensures.book ∙ ap (λ (k : CountsView). record k { book = restart_book c.session.inside.conits c.session.inside.client c.in-Err.fault k.book }) c.agree.ensures.book)
+    (c.mark_restart.ensures.book ∙ ap (λ (k : CountsView). record k { book = restart_book c.session.inside.conits c.session.inside.client c.in-Err.fault k.book }) c.agree.ensures.book))
+    (told.tells ∙ c.self.invariant.3)

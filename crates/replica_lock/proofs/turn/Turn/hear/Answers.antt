@@ -2,7 +2,7 @@ use Rattle.std.proofs.Common.{refl, ap, subst}
 use Rattle.run_model.specs.Histories.{IsPrefix}
 use Rattle.locked_replica.specs.Locks.{LockedView}
 use Rattle.replica_lock.proofs.Steps.{keeps_left, left}
-use Rattle.replica_lock.proofs.Stepping.{after_heard}
+use Rattle.replica_lock.proofs.Stepping.{after_heard, with_tells}
 use Rattle.replica_lock.proofs.Turning.{agreed}
 use Rattle.replica_lock.proofs.turn.Turn.hear.Goals as goal
 
@@ -10,7 +10,9 @@ pub invariant_of-self : goal.invariant_of-self
 invariant_of-self g c =
     let agrees = agreed c.self.view_is c.session.view_is c.requires.session.at c.self.invariant.0 c.stand.ensures c.self.invariant.2.booked c.session.invariant c.agree.ensures.owned c.agree.ensures.tally refl in
     let value = rw c.deref_mut.ensures.value at c.hear.ensures.value in
-    after_heard agrees c.self.invariant.2 c.self.invariant.1 value (subst (IsPrefix c.self.inside.locked.value.clerk.seen) c.hear.ensures.note.1 (rw c.deref_mut.ensures.value at c.hear.ensures.learnt).0) c.agree.ensures.book
+    with_tells
+    (after_heard agrees c.self.invariant.2 c.self.invariant.1 value (subst (IsPrefix c.self.inside.locked.value.clerk.seen) c.hear.ensures.note.1 (rw c.deref_mut.ensures.value at c.hear.ensures.learnt).0) c.agree.ensures.book)
+    c.self.invariant.3
 
 pub invariant_of-session : goal.invariant_of-session
 invariant_of-session g c =

@@ -7,7 +7,7 @@ use Rattle.replica_lock.specs.contracts.session.Session.{the_view}
 use Rattle.locked_replica.proofs.LoanActs.{quiet-loan}
 use Rattle.replica_lock.proofs.Hearing.{heard_marked, marking_lent, seen_lent}
 use Rattle.replica_lock.proofs.Steps.{HasLeft, keeps_left, keeps_made, left, loan-no_call, made, noted}
-use Rattle.replica_lock.proofs.Stepping.{after_entry, after_lent}
+use Rattle.replica_lock.proofs.Stepping.{after_entry, after_lent, with_tells}
 use Rattle.replica_lock.proofs.Turning.{agreed, in_made, room_made}
 use Rattle.replica_lock.proofs.turn.Turn.move_loan.Goals as goal
 use Rattle.replica_lock.proofs.turn.Turn.move_loan.Goals.{After-mark_lent}
@@ -57,8 +57,10 @@ pub invariant_of-self : goal.invariant_of-self
 invariant_of-self g c =
     let agrees = agreed c.self.view_is c.session.view_is c.requires.session.at c.self.invariant.0 c.stand.ensures c.self.invariant.2.booked c.session.invariant c.agree.ensures.owned c.agree.ensures.tally refl in
     let told = c.in-Ok.ensures in
-    after_entry agrees c.self.invariant.2 (rw c.deref_mut.ensures.value at told.label) told.counts told.journaled told.going.1 (rw c.deref_mut.ensures.value at told.totals)
-    (c.count_made.ensures.book ∙ ap (λ (k : CountsView). record k { book = one_more_at (made_place c.session.inside.conits c.session.inside.client) k.book }) c.agree.ensures.book)
+    with_tells
+    (after_entry agrees c.self.invariant.2 (rw c.deref_mut.ensures.value at told.label) told.counts told.journaled told.going.1 (rw c.deref_mut.ensures.value at told.totals)
+    (c.count_made.ensures.book ∙ ap (λ (k : CountsView). record k { book = one_more_at (made_place c.session.inside.conits c.session.inside.client) k.book }) c.agree.ensures.book))
+    (told.counts.0 ∙ c.self.invariant.3)
 
 pub invariant_of-session-in-Err : goal.invariant_of-session-in-Err
 invariant_of-session-in-Err g c =
@@ -70,8 +72,10 @@ pub invariant_of-self-in-Err : goal.invariant_of-self-in-Err
 invariant_of-self-in-Err g c =
     let agrees = agreed c.self.view_is c.session.view_is c.requires.session.at c.self.invariant.0 c.stand.ensures c.self.invariant.2.booked c.session.invariant c.agree.ensures.owned c.agree.ensures.tally refl in
     let told = c.in-Err.ensures in
-    after_lent agrees c.self.invariant.2 (rw c.deref_mut.ensures.value at told.label) told.counts told.journaled c.args.loan (entry_in c.self.inside.locked.value c.args.moment (act_of c.args.loan)) c.in-Err.fault
+    with_tells
+    (after_lent agrees c.self.invariant.2 (rw c.deref_mut.ensures.value at told.label) told.counts told.journaled c.args.loan (entry_in c.self.inside.locked.value c.args.moment (act_of c.args.loan)) c.in-Err.fault
     (rw c.deref_mut.ensures.value at told.err.2) c.self.invariant.1.counted (loan-no_call c.args.loan)
     (rw c.deref_mut.ensures.value at told.fault)
     (subst (λ (v : LockedView). IsLentInDoubt c.lend-answer.new.journal (entry_in v c.args.moment (act_of c.args.loan)) c.in-Err.fault) c.deref_mut.ensures.value told.doubt)
-    (c.mark_lent.ensures.book ∙ ap (λ (k : CountsView). record k { book = lent_book c.session.inside.conits c.session.inside.client c.in-Err.fault k.book }) c.agree.ensures.book)
+    (c.mark_lent.ensures.book ∙ ap (λ (k : CountsView). record k { book = lent_book c.session.inside.conits c.session.inside.client c.in-Err.fault k.book }) c.agree.ensures.book))
+    (told.counts.0 ∙ c.self.invariant.3)

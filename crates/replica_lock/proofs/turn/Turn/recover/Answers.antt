@@ -8,7 +8,7 @@ use Rattle.replica_lock.specs.contracts.session.Session.{the_view}
 use Rattle.replica_lock.proofs.Finding.{after_found, among_reread, few_reread, heard_reread, keeps_reread}
 use Rattle.replica_lock.proofs.Hearing.{heard_marked, marking_restart}
 use Rattle.replica_lock.proofs.Steps.{HasLeft, keeps_left, left, noted}
-use Rattle.replica_lock.proofs.Stepping.{after_reread_refused}
+use Rattle.replica_lock.proofs.Stepping.{after_reread_refused, with_tells}
 use Rattle.replica_lock.proofs.Turning.{agreed}
 use Rattle.replica_lock.proofs.turn.Turn.recover.Goals as goal
 use Rattle.replica_lock.proofs.turn.Turn.recover.Goals.{After-mark_restart}
@@ -37,8 +37,10 @@ pub invariant_of-self : goal.invariant_of-self
 invariant_of-self g c =
     let agrees = agreed c.self.view_is c.session.view_is c.requires.session c.self.invariant.0 c.stand.ensures c.self.invariant.2.booked c.session.invariant c.agree.ensures.owned c.agree.ensures.tally refl in
     let told = c.in-Ok.ensures in
-    after_found agrees c.self.invariant.2 c.self.invariant.1 told.kept c.in-Ok.found (subst (λ (v : LockedView). HasReread v c.reread-answer.new.self c.self.inside.journal.doubt c.in-Ok.found) c.deref_mut.ensures.value c.in-Ok.ensures.found) (rw c.deref_mut.ensures.value at told.label) (told.tells, told.never_falls) told.journaled told.sure.0
-    (c.note_found.ensures ∙ ap (λ (k : CountsView). record k { owes = found_owes c.in-Ok.found k.owes }) c.agree.ensures.book)
+    with_tells
+    (after_found agrees c.self.invariant.2 c.self.invariant.1 told.kept c.in-Ok.found (subst (λ (v : LockedView). HasReread v c.reread-answer.new.self c.self.inside.journal.doubt c.in-Ok.found) c.deref_mut.ensures.value c.in-Ok.ensures.found) (rw c.deref_mut.ensures.value at told.label) (told.tells, told.never_falls) told.journaled told.sure.0
+    (c.note_found.ensures ∙ ap (λ (k : CountsView). record k { owes = found_owes c.in-Ok.found k.owes }) c.agree.ensures.book))
+    (told.tells ∙ c.self.invariant.3)
 
 pub invariant_of-session : goal.invariant_of-session
 invariant_of-session g c =
@@ -67,5 +69,7 @@ pub invariant_of-self-in-Err : goal.invariant_of-self-in-Err
 invariant_of-self-in-Err g c =
     let agrees = agreed c.self.view_is c.session.view_is c.requires.session c.self.invariant.0 c.stand.ensures c.self.invariant.2.booked c.session.invariant c.agree.ensures.owned c.agree.ensures.tally refl in
     let told = c.in-Err.ensures in
-    after_reread_refused agrees c.self.invariant.2 (rw c.deref_mut.ensures.value at told.label) (told.tells, told.never_falls) told.journaled c.in-Err.fault (rw c.deref_mut.ensures.value at told.err.2) told.doubt told.fault
-    (c.mark_restart.ensures.book ∙ ap (λ (k : CountsView). record k { book = restart_book c.session.inside.conits c.session.inside.client c.in-Err.fault k.book }) c.agree.ensures.book)
+    with_tells
+    (after_reread_refused agrees c.self.invariant.2 (rw c.deref_mut.ensures.value at told.label) (told.tells, told.never_falls) told.journaled c.in-Err.fault (rw c.deref_mut.ensures.value at told.err.2) told.doubt told.fault
+    (c.mark_restart.ensures.book ∙ ap (λ (k : CountsView). record k { book = restart_book c.session.inside.conits c.session.inside.client c.in-Err.fault k.book }) c.agree.ensures.book))
+    (told.tells ∙ c.self.invariant.3)

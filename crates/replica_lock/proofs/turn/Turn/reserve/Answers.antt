@@ -32,4 +32,5 @@ returns-in_default g c =
       met = tt;
       enough = λ spare room journal told. search rules;
       journal_room = c.ask.ensures.journal_room;
+      counts = c.ask.ensures.counts;
     }

@@ -6,26 +6,31 @@ use Rattle.replica_lock.specs.Nodes.{CountsView}
 use Rattle.replica_lock.proofs.Hearing.{heard_marked, marking}
 use Rattle.replica_lock.proofs.Resumes.{after_halted, after_heard, has_resumed, heard_learnt, keeps_learnt, replica_learnt}
 use Rattle.replica_lock.proofs.Turning.{agreed, in_turns}
+use Rattle.replica_lock.proofs.Stepping.{with_tells}
 use Rattle.replica_lock.proofs.turn.Turn.resume.Goals as goal
 
 pub invariant_of-self : goal.invariant_of-self
 invariant_of-self g c =
     let told = c.hear_own.ensures in
     let agrees = agreed c.self.view_is c.session.view_is c.requires c.self.invariant.0 c.stand.ensures c.self.invariant.2.booked c.session.invariant c.agree.ensures.owned c.agree.ensures.tally refl in
-    after_heard agrees c.self.invariant (rw c.deref_mut.ensures.value at told.value) (subst (IsPrefix c.self.inside.locked.value.clerk.seen) told.note.1 (rw c.deref_mut.ensures.value at told.learnt.0)) c.agree.ensures.book
+    with_tells
+    (after_heard agrees (c.self.invariant.0, c.self.invariant.1, c.self.invariant.2) (rw c.deref_mut.ensures.value at told.value) (subst (IsPrefix c.self.inside.locked.value.clerk.seen) told.note.1 (rw c.deref_mut.ensures.value at told.learnt.0)) c.agree.ensures.book)
+    c.self.invariant.3
 
 pub invariant_of-self-then-is_halted : goal.invariant_of-self-then-is_halted
 invariant_of-self-then-is_halted g c =
     let told = c.hear_own.ensures in
     let agrees = agreed c.self.view_is c.session.view_is c.requires c.self.invariant.0 c.stand.ensures c.self.invariant.2.booked c.session.invariant c.agree.ensures.owned c.agree.ensures.tally refl in
-    after_halted agrees c.self.invariant (rw c.deref_mut.ensures.value at told.value) (subst (IsPrefix c.self.inside.locked.value.clerk.seen) told.note.1 (rw c.deref_mut.ensures.value at told.learnt.0))
-    (sym c.is_halted.ensures.halted ∙ c.if-is_halted.true) (c.mark_halt.ensures.book ∙ ap (λ (k : CountsView). record k { book = told_book c.session.inside.conits c.session.inside.client fault.Halted k.book }) c.agree.ensures.book)
+    with_tells
+    (after_halted agrees (c.self.invariant.0, c.self.invariant.1, c.self.invariant.2) (rw c.deref_mut.ensures.value at told.value) (subst (IsPrefix c.self.inside.locked.value.clerk.seen) told.note.1 (rw c.deref_mut.ensures.value at told.learnt.0))
+    (sym c.is_halted.ensures.halted ∙ c.if-is_halted.true) (c.mark_halt.ensures.book ∙ ap (λ (k : CountsView). record k { book = told_book c.session.inside.conits c.session.inside.client fault.Halted k.book }) c.agree.ensures.book))
+    c.self.invariant.3
 
 pub invariant_of-session : goal.invariant_of-session
 invariant_of-session g c =
     let told = c.hear_own.ensures in
     let agrees = agreed c.self.view_is c.session.view_is c.requires c.self.invariant.0 c.stand.ensures c.self.invariant.2.booked c.session.invariant c.agree.ensures.owned c.agree.ensures.tally refl in
-    keeps_learnt agrees c.self.invariant (rw c.deref_mut.ensures.value at told.value) (subst (IsPrefix c.self.inside.locked.value.clerk.seen) told.note.1 (rw c.deref_mut.ensures.value at told.learnt.0))
+    keeps_learnt agrees (c.self.invariant.0, c.self.invariant.1, c.self.invariant.2) (rw c.deref_mut.ensures.value at told.value) (subst (IsPrefix c.self.inside.locked.value.clerk.seen) told.note.1 (rw c.deref_mut.ensures.value at told.learnt.0))
     c.hear_own.new.note told.kept told.note told.learnt.1 c.node.view_is told.run c.agree.ensures.tally
 
 pub returns-then-not-session-clause-resumed : goal.returns-then-not-session-clause-resumed
@@ -34,7 +39,7 @@ returns-then-not-session-clause-resumed g c =
     let agrees = agreed c.self.view_is c.session.view_is c.requires c.self.invariant.0 c.stand.ensures c.self.invariant.2.booked c.session.invariant c.agree.ensures.owned c.agree.ensures.tally refl in
     rw (← c.self.view_is, ← c.session.view_is) (
       c.if-not-session.true,
-      heard_learnt agrees c.self.invariant (rw c.deref_mut.ensures.value at told.value) (subst (IsPrefix c.self.inside.locked.value.clerk.seen) told.note.1 (rw c.deref_mut.ensures.value at told.learnt.0))
+      heard_learnt agrees (c.self.invariant.0, c.self.invariant.1, c.self.invariant.2) (rw c.deref_mut.ensures.value at told.value) (subst (IsPrefix c.self.inside.locked.value.clerk.seen) told.note.1 (rw c.deref_mut.ensures.value at told.learnt.0))
           c.hear_own.new.note told.kept told.note told.learnt.1 c.node.view_is told.run,
     )
 
@@ -44,7 +49,7 @@ returns-then-is_halted-clause-refused g c =
     let agrees = agreed c.self.view_is c.session.view_is c.requires c.self.invariant.0 c.stand.ensures c.self.invariant.2.booked c.session.invariant c.agree.ensures.owned c.agree.ensures.tally refl in
     rw (c.mark_halt.ensures.session, ← c.self.view_is, ← c.session.view_is)
     (heard_marked _ _ _ _ (marking fault.Halted)
-    (heard_learnt agrees c.self.invariant (rw c.deref_mut.ensures.value at told.value) (subst (IsPrefix c.self.inside.locked.value.clerk.seen) told.note.1 (rw c.deref_mut.ensures.value at told.learnt.0))
+    (heard_learnt agrees (c.self.invariant.0, c.self.invariant.1, c.self.invariant.2) (rw c.deref_mut.ensures.value at told.value) (subst (IsPrefix c.self.inside.locked.value.clerk.seen) told.note.1 (rw c.deref_mut.ensures.value at told.learnt.0))
     c.hear_own.new.note told.kept told.note told.learnt.1 c.node.view_is told.run))
 
 pub settle-requires-clause-turns : goal.settle-requires-clause-turns
@@ -59,5 +64,5 @@ returns-clause-resumed g c =
     let learnt = subst (IsPrefix c.self.inside.locked.value.clerk.seen) told.note.1 (rw c.deref_mut.ensures.value at told.learnt.0) in
     let agrees = agreed c.self.view_is c.session.view_is c.requires c.self.invariant.0 c.stand.ensures c.self.invariant.2.booked c.session.invariant c.agree.ensures.owned c.agree.ensures.tally refl in
     rw (← c.self.view_is, ← c.session.view_is)
-    (has_resumed (heard_learnt agrees c.self.invariant value learnt c.hear_own.new.note told.kept told.note told.learnt.1 c.node.view_is told.run) told.note.1 told.kept
-    (replica_learnt agrees c.self.invariant value learnt) c.if-not-session.false c.session.invariant.least c.settle.new.session c.settle.result c.settle.ensures.settled)
+    (has_resumed (heard_learnt agrees (c.self.invariant.0, c.self.invariant.1, c.self.invariant.2) value learnt c.hear_own.new.note told.kept told.note told.learnt.1 c.node.view_is told.run) told.note.1 told.kept
+    (replica_learnt agrees (c.self.invariant.0, c.self.invariant.1, c.self.invariant.2) value learnt) c.if-not-session.false c.session.invariant.least c.settle.new.session c.settle.result c.settle.ensures.settled)

@@ -8,7 +8,7 @@ use Rattle.locked_replica.specs.Parcels.{message_to}
 use Rattle.replica_lock.specs.contracts.session.Session.{the_view}
 use Rattle.replica_lock.proofs.Hearing.{heard_marked, marking, seen_marked}
 use Rattle.replica_lock.proofs.Steps.{HasLeft, keeps_left, keeps_made, left, made, message_made, noted}
-use Rattle.replica_lock.proofs.Stepping.{after_entry, after_told}
+use Rattle.replica_lock.proofs.Stepping.{after_entry, after_told, with_tells}
 use Rattle.replica_lock.proofs.Turning.{agreed, in_made, room_made}
 use Rattle.replica_lock.proofs.turn.Turn.send.Goals as goal
 use Rattle.replica_lock.proofs.turn.Turn.send.Goals.{After-mark}
@@ -61,8 +61,10 @@ pub invariant_of-self : goal.invariant_of-self
 invariant_of-self g c =
     let agrees = agreed c.self.view_is c.session.view_is c.requires.session.at c.self.invariant.0 c.stand.ensures c.self.invariant.2.booked c.session.invariant c.agree.ensures.owned c.agree.ensures.tally refl in
     let told = c.in-Ok.ensures in
-    after_entry agrees c.self.invariant.2 (rw c.deref_mut.ensures.value at told.label) told.counts told.journaled told.going.1 (rw c.deref_mut.ensures.value at told.totals)
-    (c.count_made.ensures.book ∙ ap (λ (k : CountsView). record k { book = one_more_at (made_place c.session.inside.conits c.session.inside.client) k.book }) c.agree.ensures.book)
+    with_tells
+    (after_entry agrees c.self.invariant.2 (rw c.deref_mut.ensures.value at told.label) told.counts told.journaled told.going.1 (rw c.deref_mut.ensures.value at told.totals)
+    (c.count_made.ensures.book ∙ ap (λ (k : CountsView). record k { book = one_more_at (made_place c.session.inside.conits c.session.inside.client) k.book }) c.agree.ensures.book))
+    (told.counts.0 ∙ c.self.invariant.3)
 
 pub invariant_of-session-in-Err : goal.invariant_of-session-in-Err
 invariant_of-session-in-Err g c =
@@ -74,6 +76,8 @@ pub invariant_of-self-in-Err : goal.invariant_of-self-in-Err
 invariant_of-self-in-Err g c =
     let agrees = agreed c.self.view_is c.session.view_is c.requires.session.at c.self.invariant.0 c.stand.ensures c.self.invariant.2.booked c.session.invariant c.agree.ensures.owned c.agree.ensures.tally refl in
     let told = c.in-Err.ensures in
-    after_told agrees c.self.invariant.2 (rw c.deref_mut.ensures.value at told.label) told.counts told.journaled (send_in c.self.inside.locked.value c.args.moment c.args.to) c.in-Err.fault (rw c.deref_mut.ensures.value at told.err.2) c.self.invariant.1.counted tt
+    with_tells
+    (after_told agrees c.self.invariant.2 (rw c.deref_mut.ensures.value at told.label) told.counts told.journaled (send_in c.self.inside.locked.value c.args.moment c.args.to) c.in-Err.fault (rw c.deref_mut.ensures.value at told.err.2) c.self.invariant.1.counted tt
     (rw c.deref_mut.ensures.value at told.fault) (subst (λ (v : LockedView). IsInDoubtAfter c.send-answer.new.journal (send_in v c.args.moment c.args.to) c.in-Err.fault) c.deref_mut.ensures.value told.doubt)
-    (c.mark.ensures.book ∙ ap (λ (k : CountsView). record k { book = told_book c.session.inside.conits c.session.inside.client c.in-Err.fault k.book }) c.agree.ensures.book)
+    (c.mark.ensures.book ∙ ap (λ (k : CountsView). record k { book = told_book c.session.inside.conits c.session.inside.client c.in-Err.fault k.book }) c.agree.ensures.book))
+    (told.counts.0 ∙ c.self.invariant.3)
