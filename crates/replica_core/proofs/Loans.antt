@@ -1,5 +1,5 @@
 -- A replica lends of its bound and gives back of its share: it stands for its part with that entry.
-use Rattle.std.proofs.Common.{◌≡◌, ◌≢◌, ℕ, ◌+◌, ◌*◌, ◌<◌, ◌≤◌, ◌==◌, ◌&&◌, false, cond, List, [], None, ◌∷◌, ◌++◌, length, get_or, set, refl, sym, ap, ap₂, ◌∙◌, ⊎_elim, arith}
+use Rattle.std.proofs.Common.{◌≡◌, ◌≢◌, ℕ, ◌+◌, ◌*◌, ◌<◌, ◌≤◌, ◌==◌, ◌&&◌, false, cond, List, [], None, ◌∷◌, ◌++◌, length, get_or, set, refl, sym, ap, ap₂, ◌∙◌, subst, ⊎_elim, arith}
 use Rattle.std.proofs.lemmas.Bool.{cases_eq, eq-eqb, ne_eqb}
 use Rattle.tact_base.proofs.SetupLemmas.{place_in}
 use Rattle.tact_base.specs.Setup.{Setup, place_of}
@@ -16,8 +16,9 @@ use Rattle.split_budget.specs.Budgets.{BudgetState, lent_to, returned_to, home, 
 use Rattle.split_budget.proofs.Places.{place_of-replica, place_of-conit, get_or-set_cases}
 use Rattle.replica_core.specs.States.{Core, HasPlaces, HasBudgets, is_full, entered}
 use Rattle.replica_core.specs.Stands.{Stands, AreByPeer}
+use Rattle.replica_core.specs.BudgetReaders.{GivesPart}
 use Rattle.replica_core.specs.Lending.{IsHome, IsFree, with_lent, with_returned}
-use Rattle.replica_core.proofs.BudgetViews.{home-part, free-part}
+use Rattle.replica_core.proofs.BudgetViews.{share-part, missing_plus-part, missing_minus-part, out-part, home-part, free-part}
 use Rattle.replica_core.proofs.DueEntries.{entry_of, is_due}
 use Rattle.replica_core.proofs.QuietEntries.{weights-same, reserved-same, lent-same, returned-same, BudgetsStand-further}
 use Rattle.replica_core.proofs.StandsAfterBudgets.{Stands-budgeted}
@@ -75,6 +76,34 @@ IsFree-told core owner conit number own owner_in other conit_in told = (
       ∙ free-part core.setup core.replica part core.budgets stands.budgets own.setup own.replica owner conit owner_in other
       (PartSound-part core.setup core.replica part stands.is_part).in_order conit_in,
 )
+
+-- and so is all that they give
+pub GivesPart_told : (core : Core) (shown : BudgetState) (part : List Entry)
+    → HasBudgets core
+    → core.budgets ≡ record shown { room = 0 }
+    → Stands part core
+    → GivesPart core.setup core.replica part shown
+GivesPart_told core shown part own is stands =
+    let numbered = (PartSound-part core.setup core.replica part stands.is_part).in_order in
+    let kept : GivesPart core.setup core.replica part core.budgets = record {
+      share = share-part core.setup core.replica part core.budgets stands.budgets own.setup own.replica;
+      plus = λ peer conit peer_in other within. missing_plus-part core.setup core.replica part core.budgets stands.budgets own.setup own.replica peer conit peer_in other numbered;
+      minus = λ peer conit peer_in other within. missing_minus-part core.setup core.replica part core.budgets stands.budgets own.setup own.replica peer conit peer_in other numbered;
+      out = out-part core.setup core.replica part core.budgets stands.budgets own.setup own.replica;
+      free = λ peer conit peer_in other. free-part core.setup core.replica part core.budgets stands.budgets own.setup own.replica peer conit peer_in other numbered;
+      reserved = stands.budgets.reserved;
+      home = home-part core.setup core.replica part core.budgets stands.budgets own.setup own.replica;
+    } in
+    let as_shown : GivesPart core.setup core.replica part (record shown { room = 0 }) = subst (GivesPart core.setup core.replica part) is kept in
+    record {
+      share = as_shown.share;
+      plus = as_shown.plus;
+      minus = as_shown.minus;
+      out = as_shown.out;
+      free = as_shown.free;
+      reserved = as_shown.reserved;
+      home = as_shown.home;
+    }
 
 module _ (part : List Entry) (core : Core) (stands : Stands part core) (not_full : is_full core ≡ false) (places : HasPlaces core) (own : HasBudgets core) (handed : ℕ)
     (handed_in : handed ≤ MOMENT_MAX)

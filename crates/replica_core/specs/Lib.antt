@@ -2,6 +2,7 @@ pub mod Seen
 pub mod States
 pub mod Sending
 pub mod Stands
+pub mod BudgetReaders
 pub mod Taking
 pub mod Lending
 pub mod Calling

@@ -9,6 +9,7 @@ ghost use Rattle.split_budget.specs.Budgets.{opening};
 ghost use Rattle.tact_base.specs.Images.{image_of, ops_of};
 ghost use Rattle.tact_base.specs.Sums.{net_sum, order_sum};
 ghost use Rattle.run_model.specs.Order.{point, committed, tentative, value, image};
+ghost use Rattle.replica_core.specs.BudgetReaders.{GivesPart};
 ghost use Rattle.replica_core.specs.Dropped.{dropped};
 ghost use Rattle.replica_core.specs.Seen.{last_one};
 ghost use Rattle.replica_core.specs.Trimming.{held_committed};
@@ -303,6 +304,8 @@ impl Replica {
         ensures budgets { self.now.core.budgets ≡ record result.now { room = 0 } }
         ensures setup { result.now.setup ≡ self.now.core.setup }
         ensures replica { result.now.replica ≡ self.now.core.replica }
+        ensures of_part { (part : List Entry) → Stands part self.now.core
+            → GivesPart self.now.core.setup self.now.core.replica part result.now }
     {
         &self.budgets
     }
