@@ -1,12 +1,10 @@
 -- Line by line, the text of a script; and what is left of the sink.
-use Rattle.std.proofs.Common.{◌≡◌, ℕ, ◌+◌, ◌<◌, ◌≤◌, List, [], ◌∷◌, ◌++◌, length, get_or, take, drop, Option, None, Some, Ok, inr, sym, ap, ◌∙◌, subst, append_assoc}
+use Rattle.std.proofs.Common.{◌≡◌, ℕ, ◌+◌, ◌<◌, ◌≤◌, List, [], ◌∷◌, ◌++◌, length, get_or, take, drop, Option, Ok, inr, sym, ap, ◌∙◌, subst, append_assoc}
 use Rattle.std.specs.List.{fold}
-use Rattle.std.specs.Prelude.{IfSome}
 use Rattle.std.proofs.lemmas.List.{append-nil, take-append-drop, take_more}
 use Rattle.std.proofs.lemmas.List.Sums.{fold-append}
 use Rattle.tact_base.specs.declared.limits.TheConstants.{SCRIPT_LINES}
 use Rattle.tact_base.specs.Setup.{Setup}
-use Rattle.tact_io.specs.Source.{IsAllOf}
 use Rattle.run_model.specs.ScriptRuns.{Played, after_line, history_of, not_played, played_by, text_after, lines_text, play_text}
 use Rattle.run_model.specs.declared.script_line.Line.{Line}
 use Rattle.run_model.specs.declared.status.Status.{Status}
@@ -16,7 +14,7 @@ use Rattle.script_text.specs.Scripts.{IsScript}
 use Rattle.script_text.specs.Setups.{setup_of}
 use Rattle.script_text.specs.Texts.{script_of}
 use Rattle.script_text.proofs.ScriptRun.{script_is_whole}
-use Rattle.script_run.specs.Playing.{IsPlayOf, Writes, WritesText}
+use Rattle.script_run.specs.Playing.{IsPlayOf, WasRead, Writes, WritesText}
 use Rattle.script_run.specs.Worlds.{AreFirstLines}
 
 -- what one more line prints
@@ -64,23 +62,21 @@ AreFirstLines-next setup lines stepped i l script few setup_is first within read
       setup_is = setup_is ∙ ap setup_of (sym whole);
     }
 
--- the text of a script that was read, as that of what the source had left
-pub play_of : (left : Option (List ℕ)) (bytes : List ℕ) (lines : List Line) (text : List ℕ)
-    → IsAllOf left bytes
-    → script_of bytes ≡ Ok lines
+-- the text of a script that was read
+pub play_of : (input : List ℕ) (lines : List Line) (text : List ℕ)
+    → script_of input ≡ Ok lines
     → IsScript lines
     → length lines ≤ SCRIPT_LINES
     → text ≡ play_text (setup_of lines) lines
-    → IfSome left (λ input. IsPlayOf input text)
-play_of None bytes lines text all read script few is = tt
-play_of (Some input) bytes lines text all read script few is =
+    → IsPlayOf input text
+play_of input lines text read script few is =
     let whole = script_is_whole lines script few in
     let run = whole.made.played.run in
-    (lines, subst (λ (input : List ℕ). script_of input ≡ Ok lines) all read, script, is, run, IsKept-run (setup_of lines) (history_of (setup_of lines) lines) whole.good run)
+    (lines, read, script, is, run, IsKept-run (setup_of lines) (history_of (setup_of lines) lines) whole.good run)
 
 -- what is left of the sink after a text was written
 pub text_is_written : (answer : Status) (left before after : Option (List ℕ)) (text : List ℕ)
-    → IfSome left (λ input. IsPlayOf input text)
+    → WasRead left (λ input. IsPlayOf input text)
     → WritesText text answer before after
     → Writes answer left before after
 text_is_written status.Done left before after text play gains = (text, gains, play)

@@ -1,5 +1,5 @@
 //! What a script comes to, where nothing is printed.
-ghost use Rattle.std.specs.Prelude.{◌≡◌, ◌<◌, ◌≤◌, ◌++◌, [], length, IfOk, OnOk};
+ghost use Rattle.std.specs.Prelude.{◌≡◌, ◌<◌, ◌≤◌, ◌++◌, [], length, IfOk, OnOk, OnErr};
 ghost use Rattle.tact_base.specs.declared.limits.TheConstants.{SCRIPT_LINES};
 ghost use Rattle.run_model.specs.ScriptRuns.{history_of, show_text};
 ghost use Rattle.script_text.specs.Scripts.{IsScript};
@@ -54,6 +54,7 @@ impl Outcome {
     pub fn show(&self, replica: u32, out: &mut Bytes) -> Result<(), NoMemory>
         requires { replica < self.now.setup.replicas }
         ensures ok { OnOk result (out.new ≡ out.old ++ show_text self.now.setup self.now.history replica) }
+        ensures err { OnErr result (out.new ≡ out.old) }
     {
         self.stage.show(replica, out)
     }

@@ -1,5 +1,5 @@
 //! What a script plays on: the replicas, what they have done, and the messages that they sent.
-ghost use Rattle.std.specs.Prelude.{◌≡◌, ◌≢◌, ◌<◌, ◌≤◌, true, [], ◌∷◌, ◌++◌, length, slice_get, slice_set, slice_index_or, Some, IfOk, OnOk};
+ghost use Rattle.std.specs.Prelude.{◌≡◌, ◌≢◌, ◌<◌, ◌≤◌, true, [], ◌∷◌, ◌++◌, length, slice_get, slice_set, slice_index_or, Some, IfOk, OnErr, OnOk};
 ghost use Rattle.tact_base.specs.declared.limits.TheConstants.{CLIENTS, SCRIPT_LINES};
 ghost use Rattle.run_model.specs.Histories.{part_of, moment_at, sent_in};
 ghost use Rattle.run_model.specs.Ranges.{IsRequestInRange};
@@ -153,7 +153,8 @@ impl Stage {
     pub(crate) fn show(&self, replica: u32, out: &mut Bytes) -> Result<(), NoMemory>
         requires keeps { Keeps self.now }
         requires replica { replica < (setup_in self.now).replicas }
-        ensures { OnOk result (out.new ≡ out.old ++ show_text (setup_in self.now) self.now.history.items replica) }
+        ensures ok { OnOk result (out.new ≡ out.old ++ show_text (setup_in self.now) self.now.history.items replica) }
+        ensures err { OnErr result (out.new ≡ out.old) }
     {
         let view = self.set.at(replica);
         show(self.set.config(), replica, view, out)

@@ -13,5 +13,6 @@ returns-in-Ok-text_of-clause-written g c =
     let text = c.items-in-Ok-text_of.result.now in
     let read : script_of input ≡ Ok script = subst (λ (bytes : List ℕ). script_of bytes ≡ Ok script) c.items.ensures c.in-Ok-parse_script.ensures.read in
     let made : text ≡ play_text (setup_of script) script = c.items-in-Ok-text_of.ensures ∙ c.in-Ok-text_of.ensures in
-    text_is_written c.written.result left _ _ text (play_of left input script text c.in-Ok.ensures.all read c.in-Ok-parse_script.ensures.script
-    c.in-Ok-parse_script.ensures.few made) c.written.ensures.written
+    text_is_written c.written.result left _ _ text
+    (input, c.in-Ok.ensures.all, c.in-Ok.ensures.within, play_of input script text read c.in-Ok-parse_script.ensures.script c.in-Ok-parse_script.ensures.few made)
+    c.written.ensures.written

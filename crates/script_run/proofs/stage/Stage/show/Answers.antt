@@ -4,8 +4,8 @@ use Rattle.tact_base.specs.Setup.{Setup}
 use Rattle.run_model.specs.ScriptRuns.{show_text}
 use Rattle.script_run.proofs.stage.Stage.show.Goals as goal
 
-pub returns : goal.returns
-returns c =
+pub returns-clause-ok : goal.returns-clause-ok
+returns-clause-ok c =
     let stage = c.args.self.now in
     let history = stage.history.items in
     on_ok_weaker c.show.result

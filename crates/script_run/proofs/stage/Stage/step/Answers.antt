@@ -30,7 +30,7 @@ returns-in-Show-clause-steps g c =
     (on_ok_weaker c.show.result
     (λ told. steps_by_comment old old (line.Show c.in-Show.replica) c.args.out.now c.show.new.out refl
     (record { keeps = c.requires.keeps; setup = refl; played = refl; prints = refl }) (λ prints. told))
-    c.show.ensures)
+    c.show.ensures.ok)
 
 pub returns-in-Ref-clause-steps : goal.returns-in-Ref-clause-steps
 returns-in-Ref-clause-steps g c =
