@@ -45,6 +45,7 @@ pub use put_bytes::{
     append_call, append_front, append_loan, append_send, bytes_of, fill_call, fill_front,
 };
 pub use record_lines::parse_text;
+pub use run_model::{end_of, head_of, line_of};
 pub use same_replies::are_same_replies;
 pub use short::{Short, ShortAct, Shorts};
 pub use splitting::{next_token, split_line};

@@ -9,6 +9,7 @@ mod stage;
 mod witness;
 mod world;
 
+pub use drawn_scripts::{Draws, drill_script};
 pub use outcome::Outcome;
 pub use playing::play;
 pub use run_model::Line;
