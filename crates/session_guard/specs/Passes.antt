@@ -11,7 +11,7 @@ use Rattle.run_model.specs.declared.entry.Entry.{Entry}
 use Rattle.session_guard.specs.declared.steps.Visit.{Visit}
 use Rattle.session_guard.specs.declared.steps.Visit.TheVariants as visit
 
--- by origin how many writes were there where it read, and how many it made there
+-- by origin how many writes were there where it read, and how many with the last one that it made there
 pub record PassState : Type 0 where
   pub reads : List ℕ
   pub writes : List ℕ
@@ -38,7 +38,8 @@ lack_of haves pass =
     option_map (λ origin. visit.Behind origin (slice_index haves origin) (wanted pass origin))
     (find (λ origin. nat_lt (slice_index haves origin) (wanted pass origin)) (range_with_len 0 (length haves)))
 
--- a pass after the reply of a replica that had so many writes: with one more of its own, or with all that were read of
+-- a pass after the reply of a replica that had so many writes: with those up to its own new one, or with all that were
+-- read of
 abbrev pub pass_after : List ℕ → ℕ → PassState → Reply → PassState
 pass_after haves replica pass (reply.Done index stamp) = record pass { writes = slice_set pass.writes replica (index + 1) }
 pass_after haves replica pass (reply.Value value sums) =

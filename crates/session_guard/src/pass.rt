@@ -11,8 +11,8 @@ use std::alloc::Global;
 use std::marker::Model;
 use tact_base::{NoMemory, Numbers};
 
-/// By origin how many of its writes a client has read of, and how many it made there, as the replicas told it. With it
-/// the client is answered by replicas alone that have all these.
+/// By origin how many of its writes a client has read of, and how many there were with the last that the client made
+/// there, as the replicas told it. With it the client is answered by replicas alone that have all these.
 #[derive(Debug, Drop)]
 pub struct Pass {
     reads: Numbers,
