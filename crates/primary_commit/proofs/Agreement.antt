@@ -10,8 +10,9 @@ use Rattle.tact_base.proofs.ElementLemmas.{Contains-from_filter}
 use Rattle.tact_base.proofs.ListLemmas.{fold-push, get_or-map_range, get_or-map_range_past}
 use Rattle.run_model.specs.Histories.{IsPrefix}
 use Rattle.run_model.proofs.PrefixLemmas.{EachAfter-prefix, IsPrefix-All, IsPrefix-length, IsPrefix-nil, IsPrefix-refl, IsPrefix-take, IsPrefix-trans}
+use Rattle.run_model.specs.Promises.{AreAgreed}
 use Rattle.primary_commit.specs.Networks.{AreEvents, MayFollow, Network, after_event, committed_at, fresh_network, network_after, no_notice, notice_at, peer_at, with_peer}
-use Rattle.primary_commit.specs.Orders.{AreAgreed, IsAccepted, IsAgreed, IsOrder, StandsAfter, accepts}
+use Rattle.primary_commit.specs.Orders.{IsAccepted, IsAgreed, IsOrder, StandsAfter, accepts}
 use Rattle.primary_commit.specs.Peers.{PeerState, after_accept, after_post, after_take, committed, fresh_peer, has, log_of, no_item, notice_of, pick_of}
 use Rattle.primary_commit.specs.declared.items.Item.{Item}
 use Rattle.primary_commit.specs.declared.items.Notice.{Notice}

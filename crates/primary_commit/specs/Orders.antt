@@ -1,6 +1,7 @@
 -- What a primary's order promises, whatever is lost, repeated or reordered.
-use Rattle.std.specs.Prelude.{◌≢◌, ◌⊎◌, ℕ, ◌<◌, ◌==◌, Bool, false, List, All, AllPairs, Contains, filter, length}
+use Rattle.std.specs.Prelude.{◌≢◌, ℕ, ◌<◌, ◌==◌, Bool, false, List, All, AllPairs, Contains, filter, length}
 use Rattle.run_model.specs.Histories.{EachAfter, IsPrefix}
+use Rattle.run_model.specs.Promises.{AreAgreed}
 use Rattle.primary_commit.specs.Networks.{committed_at, network_after, peer_at}
 use Rattle.primary_commit.specs.Peers.{have, primary}
 use Rattle.primary_commit.specs.declared.items.Pick.{Pick}
@@ -31,10 +32,6 @@ abbrev pub HasAll : ℕ → List Event → Type 0
 HasAll n events =
     (origin index : ℕ) → origin < n → index < have (peer_at (network_after n events) primary) origin
     → Contains (committed_at n events primary) (record { origin = origin; index = index })
-
--- of two lists one is a prefix of the other
-abbrev pub AreAgreed : List Pick → List Pick → Type 0
-AreAgreed one other = IsPrefix one other ⊎ IsPrefix other one
 
 -- Of the events up to any two points and any two peers one committed list is a prefix of the other; and up to any point the
 -- committed lists are orders of what was accepted, of which the primary's has all that it has.
