@@ -9,12 +9,13 @@ use tact_io::{FreeGate, StepClock, SureShelf};
 use work_load::parse_plan;
 
 pub(crate) const WORKED: &[u8] = br#"{"replicas":3,"conits":1,
- "bounds":[[0,0,200,[0,100,100]],[1,0,200,[100,0,100]]],
- "links":[[2,5,7,3]],"settle":4,
+ "bounds":[[0,0,200,[0,100,100]],[1,0,200,[100,0,100]],[2,0,200,[100,100,0]]],
+ "links":[[0,5,7,0],[1,5,7,0],[2,5,7,3]],"settle":4,
  "clients":[
-  [0,0,[["write",["add",1,1],[[0,1,1]]],["read",1,[[0,200,50,1000000]]]]],
-  [1,0,[["reserve",0,5],["held",["add",2,1],[0,5,1]],["release",0]]],
-  [2,0,[["lend",0,0,10],["back",1,0,10],["read",9,[]]]]]}"#;
+  [0,0,[["write",["add",1,1],[[0,1,1]]],["write",["add",1,1],[[0,1,1]]],["read",1,[[0,200,50,1000000]]]]],
+  [0,1,[["reserve",0,5],["held",["add",2,1],[0,5,1]],["release",0]]],
+  [1,0,[["write",["shift",1,2,1],[[0,-1,1]]],["lend",0,0,0],["read",2,[[0,200,50,1000000]]]]],
+  [2,0,[["write",["put",9,4],[[0,2,1]]],["back",0,0,10],["read",9,[]]]]]}"#;
 
 #[test]
 fn the_worked_workload_runs_to_its_end(rt: HostRuntime) -> Result<(), Fail> {
@@ -36,7 +37,7 @@ fn the_worked_workload_runs_to_its_end(rt: HostRuntime) -> Result<(), Fail> {
     assert!(rt; 0 < kinds.sends && 0 < kinds.takes);
     assert_eq!(rt;
         (kinds.calls, kinds.lends, kinds.backs, kinds.restarts),
-        (6, 1, 1, 0)
+        (10, 1, 1, 0)
     );
     Ok(())
 }

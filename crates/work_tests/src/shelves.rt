@@ -62,7 +62,7 @@ fn a_journal_that_fails_once_leaves_a_run(rt: HostRuntime) -> Result<(), Fail> {
             let (text, kinds) = record_over(&rt, rt.alloc(), JournalFail { call, kept })?;
             let said = said_of(rt.alloc(), text.items())?;
             assert!(rt; said.items().starts_with(b"run "));
-            assert_eq!(rt; kinds.calls, 6);
+            assert_eq!(rt; kinds.calls, 10);
             if kinds.restarts == 0 {
                 break;
             }
