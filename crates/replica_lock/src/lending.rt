@@ -30,7 +30,7 @@ impl<'d, J: Journal, G: Gate> Node<'d, J, G> {
     /// Lends a holder a further amount of its own bound on a conit, in a turn of its own. The moment of the entry is
     /// the greater of the handed one and that of the replica's last entry. `Full` comes only where the replica made
     /// 20,000 entries, and `Home` only where the amount passes what is at home, both in what the session's note has seen
-    /// then. No fault makes an entry.
+    /// then. Of these and `Halted`, `NoMemory` and `JournalFault`, which may come too, none makes an entry.
     pub fn lend<R: Wait>(
         &self,
         rt: &R,
@@ -60,7 +60,8 @@ impl<'d, J: Journal, G: Gate> Node<'d, J, G> {
     /// Gives back to an owner an amount of its share of that owner's bound on a conit, in a turn of its own. The moment
     /// of the entry is the greater of the handed one and that of the replica's last entry. `Full` comes only where the
     /// replica made 20,000 entries, and `Free` only where the amount passes what is free of the share, both in what the
-    /// session's note has seen then. No fault makes an entry.
+    /// session's note has seen then. Of these and `Halted`, `NoMemory` and `JournalFault`, which may come too, none makes
+    /// an entry.
     pub fn give_back<R: Wait>(
         &self,
         rt: &R,
@@ -90,8 +91,8 @@ impl<'d, J: Journal, G: Gate> Node<'d, J, G> {
 
 impl<'n, 'd, J: Journal, G: Gate> Turn<'n, 'd, J, G> {
     /// Lends a holder a further amount of its own bound on a conit, as `Replica::lend` does; draws the entry and stores
-    /// it. The amount is a plain count. `Full` comes first, then `Home` exactly where the amount passes what is at
-    /// home.
+    /// it. The amount is a plain count. `Halted` comes first, then `Full`, then `Home` exactly where the amount passes
+    /// what is at home, then `NoMemory`, and `JournalFault` last. None makes an entry.
     pub fn lend(
         &mut self,
         session: &mut Session,
@@ -140,8 +141,8 @@ impl<'n, 'd, J: Journal, G: Gate> Turn<'n, 'd, J, G> {
     }
 
     /// Gives back to an owner an amount of its share of that owner's bound on a conit, as `Replica::give_back` does;
-    /// draws the entry and stores it. The amount is a plain count. `Full` comes first, then `Free` exactly where the
-    /// amount passes what is free of the share.
+    /// draws the entry and stores it. The amount is a plain count. `Halted` comes first, then `Full`, then `Free` exactly
+    /// where the amount passes what is free of the share, then `NoMemory`, and `JournalFault` last. None makes an entry.
     pub fn give_back(
         &mut self,
         session: &mut Session,

@@ -227,7 +227,8 @@ impl<'d, J: Journal, G: Gate> Node<'d, J, G> {
         ended(cell.end(rt, tally))
     }
 
-    /// Answers a call that writes or reads, in a turn of its own.
+    /// Answers a call that writes or reads, in a turn of its own. No refusal makes an entry. After `JournalFault` the
+    /// session is in doubt, after any other it is as it was, but for what it has seen.
     pub fn call<R: Wait>(
         &self,
         rt: &R,

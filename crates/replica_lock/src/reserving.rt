@@ -38,8 +38,9 @@ pub struct Accepted {
 
 impl<'n, 'd, J: Journal, G: Gate> Turn<'n, 'd, J, G> {
     /// Reserves an amount on a conit for a session's client: as much of each share as its later held writes may weigh,
-    /// of either sign. The amount is a plain count. It is a call of the client,
-    /// which is drawn and stored with its reply.
+    /// of either sign. The amount is a plain count. It is a call of the client, which is drawn and stored with its reply.
+    /// No refusal makes an entry. After `JournalFault` the session is in doubt, after any other it is as it was, but for
+    /// what it has seen.
     pub fn reserve(
         &mut self,
         session: &mut Session,
@@ -80,8 +81,8 @@ impl<'n, 'd, J: Journal, G: Gate> Turn<'n, 'd, J, G> {
     }
 
     /// Gives back all that an allowance has, and tells how much that was; it then has nothing. It is a call of the
-    /// session's client, which is drawn and stored. A refusal leaves the allowance as it was, but where the journal failed: then the session is in doubt, and what
-    /// the write takes is kept for it.
+    /// session's client, which is drawn and stored. A refusal leaves the allowance as it was, but where the journal
+    /// failed: then the session is in doubt, and what the release takes is kept for it.
     pub fn release(
         &mut self,
         session: &mut Session,
@@ -120,8 +121,8 @@ impl<'n, 'd, J: Journal, G: Gate> Turn<'n, 'd, J, G> {
 
     /// Writes with a weight that an allowance covers, which never waits. The weight is on the allowance's conit and of
     /// at most its size, which the allowance then is less by. It is a call of the session's client, which is drawn and
-    /// stored. A refusal leaves the allowance as it was, but where the journal failed: then the session is in doubt, and what
-    /// the write takes is kept for it.
+    /// stored. A refusal leaves the allowance as it was, but where the journal failed: then the session is in doubt, and
+    /// what the write takes is kept for it.
     pub fn write_held(
         &mut self,
         session: &mut Session,
@@ -163,8 +164,8 @@ impl<'n, 'd, J: Journal, G: Gate> Turn<'n, 'd, J, G> {
 }
 
 impl<'d, J: Journal, G: Gate> Node<'d, J, G> {
-    /// Reserves an amount on a conit, a plain count, in a turn of its own. `Full` and `NoMemory` make no entry, and
-    /// leave the session as it was, but for what it has seen.
+    /// Reserves an amount on a conit, a plain count, in a turn of its own. No refusal makes an entry. After
+    /// `JournalFault` the session is in doubt, after any other it is as it was, but for what it has seen.
     pub fn reserve<R: Wait>(
         &self,
         rt: &R,
@@ -189,8 +190,9 @@ impl<'d, J: Journal, G: Gate> Node<'d, J, G> {
         answer
     }
 
-    /// Gives back all that an allowance has, in a turn of its own, and tells how much that was. `Full` and `NoMemory`
-    /// make no entry, and leave the allowance as it was, and the session, but for what it has seen.
+    /// Gives back all that an allowance has, in a turn of its own, and tells how much that was. No refusal makes an
+    /// entry. After `JournalFault` the session is in doubt, and what the release takes is kept for it; after any other
+    /// the allowance is as it was, and the session, but for what it has seen.
     pub fn release<R: Wait>(
         &self,
         rt: &R,
@@ -217,8 +219,8 @@ impl<'d, J: Journal, G: Gate> Node<'d, J, G> {
     }
 
     /// Writes with a weight that an allowance covers, in a turn of its own. It waits for the lock, and for nothing
-    /// else. `Full` and `NoMemory` make no entry, and leave the allowance as it was, and the session,
-    /// but for what it has seen.
+    /// else. No refusal makes an entry. After `JournalFault` the session is in doubt, and what the write takes is kept for
+    /// it; after any other the allowance is as it was, and the session, but for what it has seen.
     pub fn write_held<R: Wait>(
         &self,
         rt: &R,

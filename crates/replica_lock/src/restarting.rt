@@ -22,7 +22,7 @@ use tact_io::{Gate, Journal};
 
 impl<'d, J: Journal, G: Gate> Node<'d, J, G> {
     /// Begins anew from its journal, in a turn of its own. The moment of the Restart is the greater of the handed one and
-    /// that of the replica's last entry.
+    /// that of the replica's last entry. After a refusal no Restart was made, and the node may be halted.
     pub fn restart<R: Wait>(
         &self,
         rt: &R,

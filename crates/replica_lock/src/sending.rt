@@ -26,6 +26,7 @@ use tact_io::{Gate, Journal};
 impl<'d, J: Journal, G: Gate> Node<'d, J, G> {
     /// Sends a message to another replica, in a turn of its own: by origin its writes begin past those that the other
     /// is known to have. The moment of the entry is the greater of the handed one and that of the replica's last entry.
+    /// No refusal makes an entry; after `JournalFault` the node is halted.
     pub fn send<R: Wait>(
         &self,
         rt: &R,
@@ -61,7 +62,7 @@ impl<'n, 'd, J: Journal, G: Gate> Turn<'n, 'd, J, G> {
     }
 
     /// Sends a message to another replica, as `Replica::send` does where no firsts are given; draws the entry and
-    /// stores it. The parcel carries the same message.
+    /// stores it. The parcel carries the same message. No refusal makes an entry; after `JournalFault` the node is halted.
     pub fn send(&mut self, session: &mut Session, moment: u64, to: u32) -> Result<Parcel, NodeFault>
         requires session { IsSessionOf self.old.node session.old }
         requires moment { moment ≤ MOMENT_MAX }

@@ -92,7 +92,8 @@ impl<'n, 'd, J: Journal, G: Gate> Turn<'n, 'd, J, G> {
         self.locked.hear(node.desk, &mut session.note, note);
     }
 
-    /// Answers a call of a session's client that writes or reads, as `Replica::call` does; draws it and stores it.
+    /// Answers a call of a session's client that writes or reads, as `Replica::call` does; draws it and stores it. No
+    /// refusal makes an entry. After `JournalFault` the session is in doubt and the node halted.
     pub fn call(
         &mut self,
         session: &mut Session,
