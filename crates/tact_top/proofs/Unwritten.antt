@@ -1,5 +1,5 @@
 -- What is told of an answer of a run that comes with no text: why it comes, and that it may.
-use Rattle.std.proofs.Common.{ℕ, ◌≤◌, List, [], Option, Some, None, IfSome, length, refl, subst, inr}
+use Rattle.std.proofs.Common.{ℕ, ◌≤◌, List, [], Option, length, refl, inr}
 use Rattle.run_model.specs.declared.status.Status.{Status}
 use Rattle.run_model.specs.declared.status.Status.TheVariants as status
 use Rattle.run_work.specs.Shelves.{ShelfEnd}
@@ -9,11 +9,6 @@ use Rattle.tact_top.specs.Answers.{Completes, HasCause}
 use Rattle.tact_top.specs.Running.{AsksOfRun, IsLoadFault, IsUnwritten}
 use Rattle.tact_top.proofs.Played.{completes}
 
--- what is true of an input is true of what the source had left, where it told that
-of_left : (Fact : List ℕ → Type 0) (input : List ℕ) (left : Option (List ℕ)) → IsAllOf left input → Fact input → IfSome left Fact
-of_left Fact input None all fact = tt
-of_left Fact input (Some text) all fact = subst Fact all fact
-
 module _ (shelf : ShelfEnd) (tries : ℕ) (input : List ℕ) (left rest : Option (List ℕ)) (reads reads' writes writes' : ℕ) where
   pub unwritten_cause : (answer : Status)
       → IsUnwritten shelf input answer
@@ -22,12 +17,9 @@ module _ (shelf : ShelfEnd) (tries : ℕ) (input : List ℕ) (left rest : Option
       → IsAtEnd rest
       → HasCause (AsksOfRun shelf tries) IsLoadFault answer left rest reads reads' writes writes'
   unwritten_cause status.NoMemory u all few end = tt
-  unwritten_cause (status.BadInput place kind) u all few end =
-      (end, of_left (λ text. (length text ≤ input_max) × IsLoadFault text place kind) input left all (few, u))
-  unwritten_cause (status.JournalFault replica) u all few end =
-      (end, of_left (λ text. (length text ≤ input_max) × ((made : List ℕ) × AsksOfRun shelf tries text (status.JournalFault replica) made)) input left all (few, ([], inr (u, refl))))
-  unwritten_cause (status.JournalForeign replica place) u all few end =
-      (end, of_left (λ text. (length text ≤ input_max) × ((made : List ℕ) × AsksOfRun shelf tries text (status.JournalForeign replica place) made)) input left all (few, ([], inr (u, refl))))
+  unwritten_cause (status.BadInput place kind) u all few end = (end, (input, all, few, u))
+  unwritten_cause (status.JournalFault replica) u all few end = (end, (input, all, few, ([], inr (u, refl))))
+  unwritten_cause (status.JournalForeign replica place) u all few end = (end, (input, all, few, ([], inr (u, refl))))
   unwritten_cause status.Done u all few end = absurd u.2
   unwritten_cause (status.Bad entry cause) u all few end = absurd u.2
   unwritten_cause (status.Full replica count clock) u all few end = absurd u.2

@@ -4,7 +4,7 @@ use Rattle.std.specs.Prelude.{◌≡◌, ◌⊎◌, ℕ, ◌<◌, ◌≤◌, Lis
 use Rattle.run_model.specs.declared.status.InputKind.{InputKind}
 use Rattle.run_model.specs.declared.status.Status.{Status}
 use Rattle.run_model.specs.declared.status.Status.TheVariants as status
-use Rattle.script_run.specs.Playing.{input_max}
+use Rattle.script_run.specs.Playing.{WasRead, input_max}
 use Rattle.tact_io.specs.Faults.{HasRisen}
 use Rattle.tact_io.specs.Sink.{Gains, GainsPart}
 use Rattle.tact_io.specs.Source.{IsAtEnd}
@@ -24,32 +24,32 @@ IsEnd (status.Bad entry cause) = Unit {0}
 IsEnd (status.Full replica count clock) = Unit {0}
 IsEnd other = ⊥
 
--- where the source told what it had left: it was read to its end, it isn't too long, and this is true of it
-abbrev pub IfRead : Option (List ℕ) → Option (List ℕ) → (List ℕ → Type 0) → Type 0
-IfRead left rest Fact = IsAtEnd rest × IfSome left (λ input. (length input ≤ input_max) × Fact input)
+-- an input was read to its end, of which this is true
+abbrev pub IsRead : Option (List ℕ) → Option (List ℕ) → (List ℕ → Type 0) → Type 0
+IsRead left rest Fact = IsAtEnd rest × WasRead left Fact
 
 -- The cause of each answer: by what the source had left, before and after, and by both counts of faults.
 abbrev pub HasCause : Asking → Faulting → Status → Option (List ℕ) → Option (List ℕ) → ℕ → ℕ → ℕ → ℕ → Type 0
-HasCause Asks Faults (status.BadInput place kind) left rest reads reads' writes writes' = IfRead left rest (λ input. Faults input place kind)
+HasCause Asks Faults (status.BadInput place kind) left rest reads reads' writes writes' = IsRead left rest (λ input. Faults input place kind)
 HasCause Asks Faults status.TooLong left rest reads reads' writes writes' = IfSome left (λ input. input_max < length input)
 HasCause Asks Faults status.ReadFault left rest reads reads' writes writes' = HasRisen reads reads'
 HasCause Asks Faults status.WriteFault left rest reads reads' writes writes' = HasRisen writes writes'
 HasCause Asks Faults status.NoMemory left rest reads reads' writes writes' = Unit {0}
 HasCause Asks Faults (status.Usage kind) left rest reads reads' writes writes' = ⊥
-HasCause Asks Faults answer left rest reads reads' writes writes' = IfRead left rest (λ input. (text : List ℕ) × Asks input answer text)
+HasCause Asks Faults answer left rest reads reads' writes writes' = IsRead left rest (λ input. (text : List ℕ) × Asks input answer text)
 
 -- a text that the input asks for, with some status
 abbrev pub IsAsked : Asking → Option (List ℕ) → List ℕ → Type 0
-IsAsked Asks left text = IfSome left (λ input. (answer : Status) × Asks input answer text)
+IsAsked Asks left text = WasRead left (λ input. (answer : Status) × Asks input answer text)
 
 -- What each answer leaves of the sink: the text that the input asks for with it, a front of a text that it asks for, or
 -- nothing more.
 abbrev pub Writes : Asking → Status → Option (List ℕ) → Option (List ℕ) → Option (List ℕ) → Type 0
 Writes Asks status.WriteFault left before after = (text : List ℕ) × GainsPart before after text × IsAsked Asks left text
 Writes Asks status.NoMemory left before after = (after ≡ before) ⊎ ((text : List ℕ) × GainsPart before after text × IsAsked Asks left text)
-Writes Asks status.Done left before after = (text : List ℕ) × Gains before after text × IfSome left (λ input. Asks input status.Done text)
-Writes Asks (status.Bad entry cause) left before after = (text : List ℕ) × Gains before after text × IfSome left (λ input. Asks input (status.Bad entry cause) text)
-Writes Asks (status.Full replica count clock) left before after = (text : List ℕ) × Gains before after text × IfSome left (λ input. Asks input (status.Full replica count clock) text)
+Writes Asks status.Done left before after = (text : List ℕ) × Gains before after text × WasRead left (λ input. Asks input status.Done text)
+Writes Asks (status.Bad entry cause) left before after = (text : List ℕ) × Gains before after text × WasRead left (λ input. Asks input (status.Bad entry cause) text)
+Writes Asks (status.Full replica count clock) left before after = (text : List ℕ) × Gains before after text × WasRead left (λ input. Asks input (status.Full replica count clock) text)
 Writes Asks other left before after = after ≡ before
 
 -- Without a fault, an input that isn't too long and is in its grammar gets an answer that it asks for, unless memory

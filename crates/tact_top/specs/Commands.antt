@@ -110,3 +110,10 @@ UnlessRun other Fact = Fact
 
 abbrev pub UnlessRuns : Reading → Type 0 → Type 0
 UnlessRuns reading Fact = UnlessRun (Ok (Read reading)) Fact
+
+-- an answer that comes before anything is done of what was read
+abbrev pub IsOfReading : Status → Type 0
+IsOfReading (status.BadInput place kind) = Unit {0}
+IsOfReading status.TooLong = Unit {0}
+IsOfReading status.ReadFault = Unit {0}
+IsOfReading other = ⊥

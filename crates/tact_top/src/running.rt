@@ -2,6 +2,7 @@
 ghost use Rattle.std.specs.Prelude.{◌≡◌, ◌⊎◌, ◌≤◌, ◌<◌, IfErr, IfOk};
 ghost use Rattle.run_model.specs.declared.status.Status.TheVariants as answer;
 ghost use Rattle.tact_top.specs.Answers.{Completes, HasCause, IsEnd, Writes};
+ghost use Rattle.tact_top.specs.Commands.{IsOfReading};
 ghost use Rattle.tact_top.specs.Running.{AsksOfRun, HasEndedBy, HasFailedBy, IsLoadFault, IsRan, IsUnwritten};
 
 use crate::job::{Output, Refusal, written};
@@ -46,6 +47,7 @@ where
     ensures reads_never_fall { S.faults source.old ≤ S.faults source.new }
     ensures writes_never_fall { K.faults sink.old ≤ K.faults sink.new }
     ensures shelf_never_falls { B.faults shelf.old ≤ B.faults shelf.new }
+    ensures unread { IsOfReading result → shelf.new ≡ shelf.old }
 {
     let input = match read_all(alloc, source, INPUT_MAX) {
         Ok(input) => input,
@@ -76,6 +78,7 @@ where
     ensures asked { IfOk result (λ output. IsRan (record { tells = B.J.tells; before = B.faults shelf.old; after = B.faults shelf.new; stored = B.stored shelf.new }) tries input output.status output.text) }
     ensures ends { IfOk result (λ output. IsEnd output.status) }
     ensures unwritten { IfErr result (IsUnwritten (record { tells = B.J.tells; before = B.faults shelf.old; after = B.faults shelf.new; stored = B.stored shelf.new }) input) }
+    ensures unread { IfErr result (λ status. IsOfReading status → shelf.new ≡ shelf.old) }
     ensures never_falls { B.faults shelf.old ≤ B.faults shelf.new }
 {
     let plan = match read_plan(alloc, input.items()) {

@@ -2,7 +2,7 @@
 ghost use Rattle.std.specs.Prelude.{◌≡◌, ◌≤◌, map, IfErr, string_bytes};
 ghost use Rattle.tact_top.specs.Answers.{Completes, HasCause, IsDrawn, Writes};
 ghost use Rattle.tact_top.specs.CommandAnswers.{asks, faults, text_of};
-ghost use Rattle.tact_top.specs.Commands.{IfDraws, IfReads, IsReading, IsUsage, UnlessRun, UnlessRuns, command_of};
+ghost use Rattle.tact_top.specs.Commands.{IfDraws, IfReads, IsOfReading, IsReading, IsUsage, UnlessRun, UnlessRuns, command_of};
 
 use crate::checking::check;
 use crate::drilling::drill;
@@ -55,7 +55,7 @@ use tact_io::{Clock, Gate, Shelf, Sink, Source};
 ///   journals tell their pieces. Nothing was written.
 /// - `TooLong`, `ReadFault`, `WriteFault` and `NoMemory`: as of [`pack`].
 ///
-/// No other command touches the shelf.
+/// No other command touches the shelf, nor does `run` where it answers `BadInput`, `TooLong` or `ReadFault`.
 pub fn tact<
     R: Threads + Wait + Sync,
     C: Clock + Sync,
@@ -91,6 +91,7 @@ where
     ensures writes_never_fall { K.faults sink.old ≤ K.faults sink.new }
     ensures shelf_never_falls { B.faults shelf.old ≤ B.faults shelf.new }
     ensures untouched { UnlessRun (command_of (map string_bytes words.now)) (shelf.new ≡ shelf.old) }
+    ensures unread { IsOfReading result → shelf.new ≡ shelf.old }
 {
     match command_of(alloc, words) {
         Ok(Command::Read(reading)) => obey(rt, alloc, reading, source, sink, clock, gate, shelf),
@@ -128,6 +129,7 @@ where
     ensures writes_never_fall { K.faults sink.old ≤ K.faults sink.new }
     ensures shelf_never_falls { B.faults shelf.old ≤ B.faults shelf.new }
     ensures untouched { UnlessRuns reading (shelf.new ≡ shelf.old) }
+    ensures unread { IsOfReading result → shelf.new ≡ shelf.old }
 {
     match reading {
         Reading::Play => play(alloc, source, sink),
