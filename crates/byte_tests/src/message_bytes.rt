@@ -131,7 +131,8 @@ fn other_bytes_are_told_apart(rt: HostRuntime) -> Result<(), Fail> {
     Ok(())
 }
 
-static FAULTS: [(usize, u8, usize, &str); 28] = [
+static FAULTS: [(usize, u8, usize, &str); 29] = [
+    (0, 0, 0, "no mark"),
     (0, 0x4C, 0, "another mark"),
     (1, 2, 1, "another version"),
     (2, 1, 2, "one replica"),
