@@ -77,7 +77,7 @@ fn split_and_join<R: Wait + Abort>(
     ensures kept { allowance.new ≡ allowance.old }
 {
     let part = node.split_off(allowance, 2);
-    assert_eq!(rt; (part.replica(), part.amount()), (0, 2));
+    assert_eq!(rt; part.amount(), 2);
     if node.join(allowance, part).is_err() {
         panic!(rt; "both are on one conit");
     }

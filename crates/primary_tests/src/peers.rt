@@ -76,19 +76,13 @@ fn tell_twice(
     Ok([once, state(to)])
 }
 
-// What a peer has of the origins 0, 1 and 2, how many picks it was told and how many are committed; and what the key 1
+// What a peer has of the origins 1 and 2, how many picks it was told and how many are committed; and what the key 1
 // holds.
-type State = ([u64; 5], i64);
+type State = ([u64; 4], i64);
 
 fn state(peer: &Peer) -> State {
     let committed = peer.committed().len() as u64;
-    let counts = [
-        have(peer, 0),
-        have(peer, 1),
-        have(peer, 2),
-        peer.told(),
-        committed,
-    ];
+    let counts = [have(peer, 1), have(peer, 2), peer.told(), committed];
     (counts, peer.get(1))
 }
 
@@ -100,9 +94,9 @@ fn have(peer: &Peer, origin: u32) -> u64 {
     }
 }
 
-static WHOLE: State = ([0, 1, 1, 2, 2], 5);
+static WHOLE: State = ([1, 1, 2, 2], 5);
 
-static LACKING: State = ([0, 1, 0, 2, 0], 0);
+static LACKING: State = ([1, 0, 2, 0], 0);
 
 // The put of replica 2 stands before that of replica 1.
 static ORDER: [Pick; 2] = [
