@@ -228,7 +228,7 @@ impl<'d, J: Journal, G: Gate> Node<'d, J, G> {
     }
 
     /// Answers a call that writes or reads, in a turn of its own. No refusal makes an entry. After `JournalFault` the
-    /// session is in doubt, after any other it is as it was, but for what it has seen.
+    /// session is in doubt, after any other it is as it was, but for what it has seen and its marks.
     pub fn call<R: Wait>(
         &self,
         rt: &R,

@@ -40,7 +40,7 @@ impl<'n, 'd, J: Journal, G: Gate> Turn<'n, 'd, J, G> {
     /// Reserves an amount on a conit for a session's client: as much of each share as its later held writes may weigh,
     /// of either sign. The amount is a plain count. It is a call of the client, which is drawn and stored with its reply.
     /// No refusal makes an entry. After `JournalFault` the session is in doubt, after any other it is as it was, but for
-    /// what it has seen.
+    /// what it has seen and its marks.
     pub fn reserve(
         &mut self,
         session: &mut Session,
@@ -165,7 +165,7 @@ impl<'n, 'd, J: Journal, G: Gate> Turn<'n, 'd, J, G> {
 
 impl<'d, J: Journal, G: Gate> Node<'d, J, G> {
     /// Reserves an amount on a conit, a plain count, in a turn of its own. No refusal makes an entry. After
-    /// `JournalFault` the session is in doubt, after any other it is as it was, but for what it has seen.
+    /// `JournalFault` the session is in doubt, after any other it is as it was, but for what it has seen and its marks.
     pub fn reserve<R: Wait>(
         &self,
         rt: &R,
@@ -192,7 +192,7 @@ impl<'d, J: Journal, G: Gate> Node<'d, J, G> {
 
     /// Gives back all that an allowance has, in a turn of its own, and tells how much that was. No refusal makes an
     /// entry. After `JournalFault` the session is in doubt, and what the release takes is kept for it; after any other
-    /// the allowance is as it was, and the session, but for what it has seen.
+    /// the allowance is as it was, and the session, but for what it has seen and its marks.
     pub fn release<R: Wait>(
         &self,
         rt: &R,
@@ -220,7 +220,7 @@ impl<'d, J: Journal, G: Gate> Node<'d, J, G> {
 
     /// Writes with a weight that an allowance covers, in a turn of its own. It waits for the lock, and for nothing
     /// else. No refusal makes an entry. After `JournalFault` the session is in doubt, and what the write takes is kept for
-    /// it; after any other the allowance is as it was, and the session, but for what it has seen.
+    /// it; after any other the allowance is as it was, and the session, but for what it has seen and its marks.
     pub fn write_held<R: Wait>(
         &self,
         rt: &R,
