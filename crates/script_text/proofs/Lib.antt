@@ -7,4 +7,5 @@ pub mod ScriptRun
 pub mod ReaderLemmas
 pub mod Begun
 pub mod Reading
+pub mod AheadLemmas
 pub mod GoodLemmas
