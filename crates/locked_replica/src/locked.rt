@@ -165,6 +165,13 @@ impl Locked {
 }
 
 impl Locked {
+    /// For how many own writes there is room.
+    pub fn spare(&self) -> u64
+        ensures { result ≡ self.now.spare }
+    {
+        self.replica.spare()
+    }
+
     /// Makes room for so many own writes and stored entries. Want of memory is its only error.
     pub fn make_room(&mut self, count: u64) -> Result<(), NodeFault>
         ensures kept { IsLocked self.new }

@@ -67,6 +67,8 @@ impl Locked {
         ensures fault { IfErr result (IsRereadRefusal journal.old journal.new) }
         ensures met { IfErr result (OnlyWhereRestarted J.tells ((met : J) × (J.faults met ≢ 0))) }
         ensures doubt { OnErr result (journal.new.doubt ≡ journal.old.doubt) }
+        ensures room { self.old.room ≤ self.new.room + 1 }
+        ensures journal_room { journal.new.room ≡ journal.old.room }
         ensures err { OnErr result ((self.new.core ≡ self.old.core) × (self.new.stored ≡ self.old.stored) × (self.new.totals ≡ self.old.totals)) }
         ensures learnt { IsPrefix self.old.clerk.seen note.new.seen × IsPrefix note.old.seen note.new.seen }
     {
@@ -101,6 +103,8 @@ impl Locked {
         ensures fault { IfErr result (IsRereadRefusal journal.old journal.new) }
         ensures met { IfErr result (OnlyWhereRestarted J.tells ((met : J) × (J.faults met ≢ 0))) }
         ensures doubt { OnErr result (journal.new.doubt ≡ journal.old.doubt) }
+        ensures room { self.old.room ≤ self.new.room + 1 }
+        ensures journal_room { journal.new.room ≡ journal.old.room }
         ensures err { OnErr result ((self.new.core ≡ self.old.core) × (self.new.stored ≡ self.old.stored) × (self.new.totals ≡ self.old.totals) × (self.new.clerk ≡ self.old.clerk)) }
     {
         self.store_room()?;
@@ -133,6 +137,7 @@ impl Locked {
         ensures fault { IfErr result (IsRereadRefusal journal.old journal.new) }
         ensures met { IfErr result (OnlyWhereRestarted J.tells ((met : J) × (J.faults met ≢ 0))) }
         ensures doubt { OnErr result (journal.new.doubt ≡ journal.old.doubt) }
+        ensures journal_room { journal.new.room ≡ journal.old.room }
     {
         let number = self.replica_number();
         Ok(journal.reread(&self.config, number, self.stored.items())?)
@@ -164,6 +169,7 @@ impl Locked {
         ensures found { result ≡ found_of entry.act }
         ensures grows { IsPrefix self.old.clerk.seen self.new.clerk.seen }
         ensures run { IsRun desk.now.setup self.new.clerk.seen }
+        ensures left { self.old.room ≤ self.new.room + 1 }
     {
         let found = found_of(&entry.act);
         match &entry.act {
@@ -192,6 +198,7 @@ impl Locked {
             (one_more_at (turns_place self.old.core.setup.conits client) self.old.totals)) conit (reserved (part_in self.new) conit) }
         ensures grows { IsPrefix self.old.clerk.seen self.new.clerk.seen }
         ensures run { IsRun desk.now.setup self.new.clerk.seen }
+        ensures left { self.old.room ≤ self.new.room + 1 }
     {
         self.replica = replica;
         draw(&mut self.clerk, &mut self.stored, desk, entry);
@@ -214,6 +221,7 @@ impl Locked {
         ensures totals { self.new.totals ≡ one_more_at (made_place self.old.core.setup.conits 0) self.old.totals }
         ensures grows { IsPrefix self.old.clerk.seen self.new.clerk.seen }
         ensures run { IsRun desk.now.setup self.new.clerk.seen }
+        ensures left { self.old.room ≤ self.new.room + 1 }
     {
         self.replica = replica;
         draw(&mut self.clerk, &mut self.stored, desk, entry);
@@ -225,7 +233,8 @@ impl Locked {
 impl Locked {
     /// Makes a Restart, for a session that has seen what a note has, where nothing is in doubt; the journal isn't halted
     /// any more then. The clerk learns the note; where it isn't refused the Restart is drawn and stored; then the note
-    /// sees what the clerk has seen.
+    /// sees what the clerk has seen. There is room for so many own writes then, and for each stored entry for which there
+    /// was some.
     ///
     /// `Full` comes first, exactly where the replica is full, then `NoMemory`, then `JournalFault`, only where the journal
     /// failed in this call: after it the journal is halted and the Restart is in doubt. None makes an entry.
@@ -236,6 +245,7 @@ impl Locked {
         note: &mut Note,
         moment: u64,
         client: u32,
+        spare: u64,
     ) -> Result<(), RestartFault>
         requires desk { IsOfDesk desk.now self.old }
         requires note { note.old.table ≡ desk.now.table }
@@ -257,11 +267,14 @@ impl Locked {
         ensures never_falls { journal.old.faults ≤ journal.new.faults }
         ensures fault { IfErr result (IsRestartRefusal self.old.core journal.old journal.new) }
         ensures met { IfErr result (OnlyWhereRestarted J.tells ((met : J) × (J.faults met ≢ 0))) }
+        ensures spare { OnOk result (spare ≤ self.new.spare) }
+        ensures room { self.old.room ≤ self.new.room + 1 }
+        ensures journal_room { journal.old.room ≤ journal.new.room + 1 }
         ensures err { OnErr result ((self.new.core ≡ self.old.core) × (self.new.stored ≡ self.old.stored) × (self.new.totals ≡ self.old.totals)) }
         ensures learnt { IsPrefix self.old.clerk.seen note.new.seen × IsPrefix note.old.seen note.new.seen }
     {
         self.learn(desk, note);
-        let answer = self.kept_restart(journal, desk, moment, client);
+        let answer = self.kept_restart(journal, desk, moment, client, spare);
         self.tell(desk, note);
         answer
     }
@@ -273,6 +286,7 @@ impl Locked {
         desk: &Desk,
         moment: u64,
         client: u32,
+        spare: u64,
     ) -> Result<(), RestartFault>
         requires desk { IsOfDesk desk.now self.old }
         requires moment { moment ≤ MOMENT_MAX }
@@ -281,6 +295,9 @@ impl Locked {
         requires sure { journal.old.doubt ≡ None }
         ensures kept { IsLocked self.new }
         ensures label { (self.new.core.setup ≡ self.old.core.setup) × (self.new.core.replica ≡ self.old.core.replica) × (self.new.clerk.table ≡ self.old.clerk.table) }
+        ensures spare { OnOk result (spare ≤ self.new.spare) }
+        ensures room { self.old.room ≤ self.new.room + 1 }
+        ensures journal_room { journal.old.room ≤ journal.new.room + 1 }
         ensures entered { OnOk result (HasEntered self.old self.new self.old.clerk.seen (entry_in self.old moment act.Restart)) }
         ensures rooms { OnOk result (slice_index self.old.totals (made_place self.old.core.setup.conits client) + 1 < 2 ^ 64) }
         ensures totals { OnOk result (self.new.totals ≡ one_more_at (made_place self.old.core.setup.conits client) self.old.totals) }
@@ -295,16 +312,17 @@ impl Locked {
         ensures fault { IfErr result (IsRestartRefusal self.old.core journal.old journal.new) }
         ensures met { IfErr result (OnlyWhereRestarted J.tells ((met : J) × (J.faults met ≢ 0))) }
     {
-        self.keep_restart(journal, moment)?;
+        self.keep_restart(journal, moment, spare)?;
         self.enter_restart(desk, moment, client);
         Ok(())
     }
 
-    // Appends a Restart.
+    // Appends a Restart, once there is room for so many own writes.
     fn keep_restart<J: Journal>(
         &mut self,
         journal: &mut EntryJournal<J>,
         moment: u64,
+        spare: u64,
     ) -> Result<(), RestartFault>
         requires moment { moment ≤ MOMENT_MAX }
         requires journaled { IsJournaled self.old journal.old }
@@ -312,7 +330,10 @@ impl Locked {
         ensures value { self.new ≡ record self.old { spare = self.new.spare; beside = self.new.beside; room = self.new.room } }
         ensures kept { IsLocked self.new }
         ensures free { OnOk result (is_full self.old.core ≡ false) }
+        ensures spare { OnOk result (spare ≤ self.new.spare) }
         ensures room { OnOk result (0 < self.new.room) }
+        ensures no_less { self.old.room ≤ self.new.room }
+        ensures journal_room { journal.old.room ≤ journal.new.room + 1 }
         ensures has { OnOk result (HasKept journal.old journal.new (entry_in self.old moment act.Restart)) }
         ensures journaled { OnErr result (IsJournaled self.new journal.new) }
         ensures doubt { IfErr result (HasRestartDoubt self.old moment journal.new) }
@@ -322,6 +343,7 @@ impl Locked {
         ensures met { IfErr result (OnlyWhereRestarted J.tells ((met : J) × (J.faults met ≢ 0))) }
     {
         self.replica.may_enter()?;
+        self.replica.reserve(spare)?;
         self.store_room()?;
         let entry = self.next_restart(moment);
         let piece = journal.prepare(&entry)?;
@@ -361,6 +383,8 @@ impl Locked {
         ensures totals { self.new.totals ≡ one_more_at (made_place self.old.core.setup.conits client) self.old.totals }
         ensures grows { IsPrefix self.old.clerk.seen self.new.clerk.seen }
         ensures run { IsRun desk.now.setup self.old.clerk.seen → IsRun desk.now.setup self.new.clerk.seen }
+        ensures spare { self.new.spare ≡ self.old.spare }
+        ensures left { self.old.room ≤ self.new.room + 1 }
     {
         let replica = self.replica_number();
         let at = self.moment_after(moment);
@@ -381,6 +405,7 @@ fn begin_anew(replica: &mut Replica, moment: u64)
     requires free { is_full replica.old.core ≡ false }
     ensures goes_on { GoesOn replica.old.core replica.new.core moment (λ part. act.Restart) }
     ensures same { IsSameReplica replica.old.core replica.new.core }
+    ensures spare { replica.new.spare ≡ replica.old.spare }
 {
     match replica.restart(moment) {
         Ok(()) => {}

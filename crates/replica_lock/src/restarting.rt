@@ -46,7 +46,8 @@ impl<'d, J: Journal, G: Gate> Node<'d, J, G> {
 impl<'n, 'd, J: Journal, G: Gate> Turn<'n, 'd, J, G> {
     /// Throws the replica away and makes it again from the journal, whose pieces are to be those of the stored entries, or
     /// of these and of the one in doubt. Where it has that one, it is drawn and stored, and else it is dropped. Then a
-    /// Restart is appended, made, drawn and stored, and the node isn't halted any more.
+    /// Restart is appended, made, drawn and stored, and the node isn't halted any more. Room that was made for the turn
+    /// lasts over it, but over a refusal only that for stored entries and pieces.
     ///
     /// `Full` comes exactly where the replica made 20,000 entries or its clock stands at 2^40, after an entry in doubt was
     /// drawn; it leaves the node as it was, but for that one, and so does `NoMemory`. After the other faults the node is
@@ -67,9 +68,13 @@ impl<'n, 'd, J: Journal, G: Gate> Turn<'n, 'd, J, G> {
         ensures refused { IfErr result (λ told. HasHeard self.old.node.desk.setup session.old (marked_restart told session.old) session.new) }
         ensures fault_seen { IfErr result (IsRestartFaultSeen session.new) }
         ensures met { IfErr result (OnlyWhereRestarted J.tells ((met : J) × (J.faults met ≢ 0))) }
+        ensures spare { OnOk result (self.old.state.spare ≤ self.new.state.spare) }
+        ensures room { self.old.state.room ≤ self.new.state.room + 2 }
+        ensures journal_room { self.old.journal.room ≤ self.new.journal.room + 1 }
     {
+        let spare = self.locked.spare();
         self.recover(session)?;
-        self.begin(session, moment)
+        self.begin(session, moment, spare)
     }
 
     // Makes the replica again from the journal, and draws and stores the entry in doubt where it is there.
@@ -87,6 +92,8 @@ impl<'n, 'd, J: Journal, G: Gate> Turn<'n, 'd, J, G> {
         ensures refused { IfErr result (λ told. HasHeard self.old.node.desk.setup session.old (marked_restart told session.old) session.new) }
         ensures fault_seen { IfErr result (IsRestartFaultSeen session.new) }
         ensures met { IfErr result (OnlyWhereRestarted J.tells ((met : J) × (J.faults met ≢ 0))) }
+        ensures room { self.old.state.room ≤ self.new.state.room + 1 }
+        ensures journal_room { self.new.journal.room ≡ self.old.journal.room }
     {
         let node = self.node;
         stand(&self.locked);
@@ -106,8 +113,8 @@ impl<'n, 'd, J: Journal, G: Gate> Turn<'n, 'd, J, G> {
         }
     }
 
-    // Makes a Restart, where nothing is in doubt.
-    fn begin(&mut self, session: &mut Session, moment: u64) -> Result<(), RestartFault>
+    // Makes a Restart, where nothing is in doubt, and room for so many own writes.
+    fn begin(&mut self, session: &mut Session, moment: u64, spare: u64) -> Result<(), RestartFault>
         requires session { IsAtNode self.old.node session.old }
         requires moment { moment ≤ MOMENT_MAX }
         requires sure { self.old.journal.doubt ≡ None }
@@ -123,6 +130,9 @@ impl<'n, 'd, J: Journal, G: Gate> Turn<'n, 'd, J, G> {
         ensures refused { IfErr result (λ told. HasHeard self.old.node.desk.setup session.old (marked_restart told session.old) session.new) }
         ensures fault_seen { IfErr result (IsRestartFaultSeen session.new) }
         ensures met { IfErr result (OnlyWhereRestarted J.tells ((met : J) × (J.faults met ≢ 0))) }
+        ensures spare { OnOk result (spare ≤ self.new.state.spare) }
+        ensures room { self.old.state.room ≤ self.new.state.room + 1 }
+        ensures journal_room { self.old.journal.room ≤ self.new.journal.room + 1 }
     {
         let node = self.node;
         stand(&self.locked);
@@ -133,6 +143,7 @@ impl<'n, 'd, J: Journal, G: Gate> Turn<'n, 'd, J, G> {
             &mut session.note,
             moment,
             session.client,
+            spare,
         );
         match answer {
             Ok(()) => {

@@ -49,8 +49,8 @@ impl<'n, 'd, J: Journal, G: Gate> Model for Turn<'n, 'd, J, G> {
 
 impl<'n, 'd, J: Journal, G: Gate> Turn<'n, 'd, J, G> {
     /// Makes room for `count` writes and stored entries with their pieces in the journal, which lasts until the turn made
-    /// so many entries. `Halted` comes exactly where the node is halted, and else `NoMemory` alone; both leave everything
-    /// as it was, but for what room there is.
+    /// so many entries; that for writes goes where a `restart` is refused. `Halted` comes exactly where the node is halted,
+    /// and else `NoMemory` alone; both leave everything as it was, but for what room there is.
     pub fn make_room(&mut self, count: u64) -> Result<(), NodeFault>
         ensures node { self.new.node ≡ self.old.node }
         ensures kept { IsLocked self.new.state }
