@@ -74,9 +74,7 @@ fn send(
     let to = (from + 1 + u32::from(below(number, 53, 2))) % 3;
     assert!(rt; (from as usize) < members.len());
     let member = &mut members[from as usize];
-    let firsts = member.no_firsts(alloc)?;
-    let message = member.send(rt, moment, to, &firsts)?;
-    mail.push(message.ok_or("no memory")?)?;
+    mail.push(member.sent(rt, alloc, moment, to)?)?;
     Ok(())
 }
 

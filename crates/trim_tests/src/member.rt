@@ -77,6 +77,19 @@ impl Member {
         answer_of(self.replica.send(u64::from(moment), to, firsts))
     }
 
+    /// What it sends to another where there is memory.
+    pub(crate) fn sent(
+        &mut self,
+        rt: &impl Abort,
+        alloc: Global,
+        moment: u16,
+        to: u32,
+    ) -> Result<Message, Fail> {
+        let firsts = self.no_firsts(alloc)?;
+        let message = self.send(rt, moment, to, &firsts)?;
+        Ok(message.ok_or("no memory")?)
+    }
+
     /// What it would send to another.
     pub(crate) fn peek(
         &self,
@@ -167,10 +180,8 @@ pub(crate) fn tell(
 ) -> Result<(), Fail> {
     assert!(rt; (from as usize) < members.len() && (to as usize) < members.len());
     let sender = &mut members[from as usize];
-    let firsts = sender.no_firsts(alloc)?;
-    let message = sender.send(rt, 0, to, &firsts)?.ok_or("no memory")?;
-    members[to as usize]
-        .take(rt, 0, &message)?
-        .ok_or("no memory")?;
+    let message = sender.sent(rt, alloc, 0, to)?;
+    let taken = members[to as usize].take(rt, 0, &message)?;
+    taken.ok_or("no memory")?;
     Ok(())
 }

@@ -40,10 +40,10 @@ enum Answer {
 }
 
 // What is given: where the told writes may begin, and a message of the other, which wrote twice.
-#[derive(Drop)]
-struct Given {
-    firsts: Numbers,
-    message: Message,
+#[derive(Clone, Copy)]
+struct Given<'a> {
+    firsts: &'a Numbers,
+    message: &'a Message,
 }
 
 // All that can be read.
@@ -55,30 +55,23 @@ struct Readings {
     counts: Counts,
 }
 
-fn light(nweight: i8) -> Light {
-    Light {
-        conit: 0,
-        nweight,
-        oweight: 2,
-    }
-}
+// What all writes of the run weigh but for how much they change.
+const LIGHT: Light = Light {
+    conit: 0,
+    nweight: 3,
+    oweight: 2,
+};
 
-fn make_given(rt: &impl Abort, alloc: Global) -> Result<Given, Fail> {
-    let mut other = Member::of_two(alloc, 1)?;
-    given_by(rt, alloc, &mut other)
-}
-
-fn given_by(rt: &impl Abort, alloc: Global, other: &mut Member) -> Result<Given, Fail> {
+// The message of one that wrote twice.
+fn told_by(rt: &impl Abort, alloc: Global, other: &mut Member) -> Result<Message, Fail> {
     write_one(other)?;
     write_one(other)?;
-    let firsts = other.no_firsts(alloc)?;
-    let message = other.send(rt, 7, 0, &firsts)?.ok_or("no memory")?;
-    Ok(Given { firsts, message })
+    other.sent(rt, alloc, 7, 0)
 }
 
 fn write_one(other: &mut Member) -> Result<(), Fail> {
     other
-        .ask(7, Ask::Write(light(3), Deed::Add(1, 1)))?
+        .ask(7, Ask::Write(LIGHT, Deed::Add(1, 1)))?
         .ok_or("no memory")?;
     Ok(())
 }
@@ -96,13 +89,13 @@ fn read(member: &Member) -> Readings {
 fn take_once(
     rt: &impl Abort,
     member: &mut Member,
-    given: &Given,
+    given: &Given<'_>,
     turn: Turn,
 ) -> Result<Option<Answer>, Fail> {
     match turn {
         Turn::Ask(ask) => ask_once(member, ask),
         Turn::Send => send_once(rt, member, given),
-        Turn::Take => Ok(made(member.take(rt, 9, &given.message)?)),
+        Turn::Take => Ok(made(member.take(rt, 9, given.message)?)),
         Turn::Room(count) => Ok(made(member.reserve(count))),
         _ => {
             take_freely(rt, member, turn);
@@ -151,8 +144,12 @@ fn take_freely(rt: &impl Abort, member: &mut Member, turn: Turn) {
     }
 }
 
-fn send_once(rt: &impl Abort, member: &mut Member, given: &Given) -> Result<Option<Answer>, Fail> {
-    match member.send(rt, 9, 1, &given.firsts)? {
+fn send_once(
+    rt: &impl Abort,
+    member: &mut Member,
+    given: &Given<'_>,
+) -> Result<Option<Answer>, Fail> {
+    match member.send(rt, 9, 1, given.firsts)? {
         Some(message) => Ok(Some(sent(&message))),
         None => Ok(None),
     }
@@ -169,7 +166,7 @@ fn sent(message: &Message) -> Answer {
 fn take_surely(
     rt: &impl Abort,
     member: &mut Member,
-    given: &Given,
+    given: &Given<'_>,
     turn: Turn,
 ) -> Result<Answer, Fail> {
     let before = read(member);
@@ -182,7 +179,7 @@ fn take_surely(
 fn take_again(
     rt: &impl Abort,
     member: &mut Member,
-    given: &Given,
+    given: &Given<'_>,
     turn: Turn,
     before: &Readings,
 ) -> Result<Answer, Fail> {
@@ -193,7 +190,7 @@ fn take_again(
 fn take_all(
     rt: &impl Abort,
     member: &mut Member,
-    given: &Given,
+    given: &Given<'_>,
     table: &[(Turn, Answer)],
 ) -> Result<(), Fail> {
     for (turn, answer) in table {
@@ -203,40 +200,27 @@ fn take_all(
 }
 
 // All that writes or reads.
-fn write_and_read(rt: &impl Abort, member: &mut Member, given: &Given) -> Result<(), Fail> {
-    let (first, last) = (Deed::Add(1, 5), Deed::Shift(1, 2, 3));
-    let table = [
-        (Turn::Ask(Ask::Write(light(1), first)), done(0, 1)),
-        (Turn::Ask(Ask::Write(light(2), Deed::Put(2, 9))), done(1, 2)),
-        (Turn::Ask(Ask::Reserve(10)), Answer::Granted),
-        (Turn::Ask(Ask::Held(light(-4), last)), done(2, 3)),
-        (Turn::Ask(Ask::Release(1)), Answer::Released),
-        (Turn::Room(100), Answer::Made),
-        (Turn::Ask(Ask::Read(2, 6)), value(12, -1)),
-    ];
-    take_all(rt, member, given, &table)
-}
+#[rattlefmt::skip]
+static WRITES_AND_READS: [(Turn, Answer); 7] = [
+    (Turn::Ask(Ask::Write(Light { nweight: 1, ..LIGHT }, Deed::Add(1, 5))), Answer::Done { index: 0, stamp: 1 }),
+    (Turn::Ask(Ask::Write(Light { nweight: 2, ..LIGHT }, Deed::Put(2, 9))), Answer::Done { index: 1, stamp: 2 }),
+    (Turn::Ask(Ask::Reserve(10)), Answer::Granted),
+    (Turn::Ask(Ask::Held(Light { nweight: -4, ..LIGHT }, Deed::Shift(1, 2, 3))), Answer::Done { index: 2, stamp: 3 }),
+    (Turn::Ask(Ask::Release(1)), Answer::Released),
+    (Turn::Room(100), Answer::Made),
+    (Turn::Ask(Ask::Read(2, 6)), Answer::Value { value: 12, sum: -1 }),
+];
 
 // All that has to do with the other.
-fn exchange(rt: &impl Abort, member: &mut Member, given: &Given) -> Result<(), Fail> {
-    let table = [
-        (Turn::Send, Answer::Sent { first: 0, count: 3 }),
-        (Turn::Take, Answer::Made),
-        (Turn::Lend(60), Answer::Made),
-        (Turn::GiveBack(31), Answer::Made),
-        (Turn::Restart, Answer::Made),
-        (Turn::Ask(Ask::Read(1, 2)), value(4, 5)),
-    ];
-    take_all(rt, member, given, &table)
-}
-
-fn done(index: u64, stamp: u64) -> Answer {
-    Answer::Done { index, stamp }
-}
-
-fn value(value: i64, sum: i64) -> Answer {
-    Answer::Value { value, sum }
-}
+#[rattlefmt::skip]
+static EXCHANGES: [(Turn, Answer); 6] = [
+    (Turn::Send, Answer::Sent { first: 0, count: 3 }),
+    (Turn::Take, Answer::Made),
+    (Turn::Lend(60), Answer::Made),
+    (Turn::GiveBack(31), Answer::Made),
+    (Turn::Restart, Answer::Made),
+    (Turn::Ask(Ask::Read(1, 2)), Answer::Value { value: 4, sum: 5 }),
+];
 
 // What can be read then: the other's two writes are seen, of the own ones the last is tentative.
 fn assert_read(rt: &impl Abort, member: &Member) {
@@ -286,16 +270,30 @@ const COUNTS_THEN: Counts = Counts {
     free: 0,
 };
 
-fn run_all(rt: &impl Abort, member: &mut Member, given: &Given) -> Result<(), Fail> {
-    write_and_read(rt, member, given)?;
-    exchange(rt, member, given)?;
+fn run_all(rt: &impl Abort, member: &mut Member, given: &Given<'_>) -> Result<(), Fail> {
+    take_all(rt, member, given, &WRITES_AND_READS)?;
+    take_all(rt, member, given, &EXCHANGES)?;
     assert_read(rt, member);
     Ok(())
 }
 
+fn run_beside(rt: &impl Abort, alloc: Global, other: &mut Member) -> Result<(), Fail> {
+    let message = told_by(rt, alloc, other)?;
+    let firsts = other.no_firsts(alloc)?;
+    let given = Given {
+        firsts: &firsts,
+        message: &message,
+    };
+    run_one(rt, alloc, &given)
+}
+
+fn run_one(rt: &impl Abort, alloc: Global, given: &Given<'_>) -> Result<(), Fail> {
+    let mut member = Member::of_two(alloc, 0)?;
+    run_all(rt, &mut member, given)
+}
+
 #[test]
 fn goes_on_where_memory_was_refused(rt: HostRuntime) -> Result<(), Fail> {
-    let given = make_given(&rt, rt.alloc())?;
-    let mut member = Member::of_two(rt.alloc(), 0)?;
-    run_all(&rt, &mut member, &given)
+    let mut other = Member::of_two(rt.alloc(), 1)?;
+    run_beside(&rt, rt.alloc(), &mut other)
 }

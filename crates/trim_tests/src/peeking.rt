@@ -15,10 +15,23 @@ fn write_and_peek(rt: &impl Abort, alloc: Global, one: &mut Member) -> Result<()
     };
     one.ask(3, Ask::Write(light, Deed::Put(1, 4)))?
         .ok_or("no memory")?;
+    let peeked = peek_at(rt, alloc, one)?;
+    send_the_same(rt, alloc, one, &peeked)
+}
+
+fn peek_at(rt: &impl Abort, alloc: Global, one: &Member) -> Result<Message, Fail> {
     let firsts = one.no_firsts(alloc)?;
-    let peeked = one.peek(rt, 5, 0, &firsts)?;
-    let sent = one.send(rt, 5, 0, &firsts)?.ok_or("no memory")?;
-    assert_same(rt, &peeked, &sent);
+    Ok(one.peek(rt, 5, 0, &firsts)?)
+}
+
+fn send_the_same(
+    rt: &impl Abort,
+    alloc: Global,
+    one: &mut Member,
+    peeked: &Message,
+) -> Result<(), Fail> {
+    let sent = one.sent(rt, alloc, 5, 0)?;
+    assert_same(rt, peeked, &sent);
     Ok(())
 }
 
