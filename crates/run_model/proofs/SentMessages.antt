@@ -1,15 +1,9 @@
--- Pieces of the message that a replica sends: its writes, origin by origin, and what it tells of loans where none was
--- moved.
-use Rattle.std.proofs.Common.{◌≡◌, ℕ, ◌+◌, ◌-◌, List, ◌++◌, length, get_or, take, flat_map, refl, sym, ap, ap₂, ◌∙◌, arith}
+-- Pieces of the message that a replica sends: its writes, origin by origin, and a message by its parts.
+use Rattle.std.proofs.Common.{◌≡◌, ℕ, ◌+◌, ◌-◌, List, ◌++◌, length, take, flat_map, sym, ap, ap₂, ◌∙◌}
 use Rattle.std.specs.List.{range_with_len}
-use Rattle.tact_base.proofs.ListLemmas.{sum_of_none, take-append-taken}
+use Rattle.tact_base.proofs.ListLemmas.{take-append-taken}
 use Rattle.tact_base.specs.declared.write.Cover.{Cover}
 use Rattle.tact_base.specs.declared.write.Write.{Write}
-use Rattle.tact_base.specs.Setup.{Setup, loan_of}
-use Rattle.run_model.specs.Loans.{lent_by_act, returned_by_act, lent, returned, MovesNoLoan, HasNoLoans}
-use Rattle.run_model.specs.declared.entry.Act.{Act}
-use Rattle.run_model.specs.declared.entry.Act.TheVariants as act
-use Rattle.run_model.specs.declared.entry.Entry.{Entry}
 use Rattle.run_model.specs.declared.entry.Message.{Message}
 use Rattle.tact_base.proofs.RangeLists.{flat_map_range_more}
 
@@ -25,31 +19,6 @@ writes_more of_origin n room before after was left grew =
     ∙ ap (λ (ws : List Write). ws ++ take (64 - length ws) (of_origin n)) was
     ∙ sym (take-append-taken 64 (flat_map of_origin (range_with_len 0 n)) (of_origin n))
     ∙ ap (take 64) (sym (flat_map_range_more of_origin n))
-
--- a part without loans lent and gave back nothing
-lends_nothing : (done : Act) (holder conit : ℕ)
-    → MovesNoLoan done
-    → lent_by_act holder conit done ≡ 0
-lends_nothing (act.Lend to at amount) holder conit none = absurd none
-lends_nothing other holder conit none = refl
-
-returns_nothing : (done : Act) (owner conit : ℕ)
-    → MovesNoLoan done
-    → returned_by_act owner conit done ≡ 0
-returns_nothing (act.Back to at amount) owner conit none = absurd none
-returns_nothing other owner conit none = refl
-
-pub lent_opening : (setup : Setup) (replica : ℕ) (part : List Entry) (holder conit : ℕ)
-    → HasNoLoans part
-    → lent setup replica part holder conit ≡ loan_of setup replica conit holder
-lent_opening setup replica part holder conit none =
-    omega (arith, sum_of_none (λ (entry : Entry). lent_by_act holder conit entry.act) part (λ k d within. lends_nothing (get_or part k d).act holder conit (none k d within)))
-
-pub returned_nothing : (part : List Entry) (owner conit : ℕ)
-    → HasNoLoans part
-    → returned part owner conit ≡ 0
-returned_nothing part owner conit none =
-    sum_of_none (λ (entry : Entry). returned_by_act owner conit entry.act) part (λ k d within. returns_nothing (get_or part k d).act owner conit (none k d within))
 
 -- messages of the same parts
 abbrev pub told_by : ℕ

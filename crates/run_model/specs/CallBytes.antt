@@ -86,10 +86,6 @@ request_at conits bytes place = do
 
 -- ---- replies
 
--- numbers of 64 bits
-abbrev pub AreWide : List ℕ → Type 0
-AreWide numbers = All (λ number. number < 2 ^ 64) numbers
-
 -- The conits and replicas that a reply names have one byte each.
 abbrev pub HasSmallNames : Reply → Type 0
 HasSmallNames (TooHeavy conit peer weight share) = (conit < 256) × (peer < 256)

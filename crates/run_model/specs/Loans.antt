@@ -1,6 +1,6 @@
 -- Loans: an owner's alpha on a conit is at home or lent out, and both sides count what they ever gave (this project's
 -- own rule).
-use Rattle.std.specs.Prelude.{ℕ, ◌+◌, ◌-◌, ◌==◌, ◌&&◌, max, List, All, map, sum, sum_by, slice_index, if◌then◌else◌}
+use Rattle.std.specs.Prelude.{ℕ, ◌+◌, ◌-◌, ◌==◌, ◌&&◌, max, List, map, sum, sum_by, slice_index, if◌then◌else◌}
 use Rattle.tact_base.specs.Setup.{Setup, alpha_of, loan_of, peers_of}
 use Rattle.run_model.specs.Histories.{taken_from, greatest}
 use Rattle.run_model.specs.Missing.{greater_missing, reserved}
@@ -49,12 +49,3 @@ home setup replica part conit = alpha_of setup replica conit - sum (map (λ peer
 abbrev pub free : Setup → ℕ → List Entry → ℕ → ℕ → ℕ
 free setup replica part owner conit =
     share setup replica part owner conit - greater_missing replica part owner conit - reserved part conit
-
--- an act that lends nothing and gives nothing back, and a part of such acts
-abbrev pub MovesNoLoan : Act → Type 0
-MovesNoLoan (act.Lend to conit amount) = ⊥
-MovesNoLoan (act.Back owner conit amount) = ⊥
-MovesNoLoan other = Unit {0}
-
-abbrev pub HasNoLoans : List Entry → Type 0
-HasNoLoans part = All (λ entry. MovesNoLoan entry.act) part

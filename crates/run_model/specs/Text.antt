@@ -75,14 +75,6 @@ act_tokens (Lend to conit amount) = codes "lend" ∷ map decimal (to ∷ conit �
 act_tokens (Back owner conit amount) = codes "back" ∷ map decimal (owner ∷ conit ∷ amount ∷ [])
 act_tokens Restart = codes "restart" ∷ []
 
--- a request, as it stands in an entry
-abbrev pub request_text : Request → List ℕ
-request_text request = line_text (request_tokens request)
-
--- a reply, as it stands in an entry
-abbrev pub reply_text : Reply → List ℕ
-reply_text reply = line_text (reply_tokens reply)
-
 -- an entry: `e REPLICA MOMENT` and its act
 abbrev pub entry_text : Entry → List ℕ
 entry_text entry = line_text (codes "e" ∷ decimal entry.replica ∷ decimal entry.moment ∷ act_tokens entry.act)

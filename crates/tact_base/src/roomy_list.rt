@@ -57,7 +57,7 @@ impl<T> RoomyList<T> {
     }
 
     /// Makes room for at least `count` more items, without memory where there is so much. A list that takes memory
-    /// takes it for four times its items, and for 1,024 at least, if it can, so that what it holds is seldom moved: a
+    /// takes it for four times its items, and for 2,048 at least, if it can, so that what it holds is seldom moved: a
     /// list of large items then has pages of its own, which the system moves without a copy and lends only where they
     /// are written to. `NoMemory` leaves the list as it was.
     pub fn reserve(&mut self, count: u64) -> Result<(), NoMemory>

@@ -90,13 +90,6 @@ impl<T: MadeWith<Global> + Drop> ShortItems<T> {
     {
         self.items.truncate(len);
     }
-
-    /// Drops all items, and keeps the memory that they had.
-    pub fn clear(&mut self)
-        ensures { self.new ≡ [] }
-    {
-        self.items.clear();
-    }
 }
 
 impl<T: MadeWith<Global> + Copy> ShortItems<T> {

@@ -1,5 +1,4 @@
 ghost use Rattle.std.specs.Prelude.{◌≡◌, ◌+◌, ◌<◌, ◌≤◌, [], ◌∷◌, ◌++◌, length, decimal};
-ghost use Rattle.std.specs.Fmt.{signed_decimal};
 
 use itoa::write_digits;
 use std::marker::Model;
@@ -75,19 +74,6 @@ impl ShortText {
         ensures room { self.old.room ≤ self.new.room + 21 }
     {
         self.put_number(value);
-        self.put(mark);
-    }
-
-    /// Puts a byte and the decimal text of a number, with `-` before a negative one.
-    pub fn put_marked_signed(&mut self, mark: u8, value: i64)
-        requires { 22 ≤ self.old.room }
-        ensures items { self.new.items ≡ mark ∷ signed_decimal value ++ self.old.items }
-        ensures room { self.old.room ≤ self.new.room + 22 }
-    {
-        self.put_number(value.unsigned_abs());
-        if value < 0 {
-            self.put(b'-');
-        }
         self.put(mark);
     }
 
