@@ -41,6 +41,6 @@ pub use script_line::Line;
 pub use short_bytes::ShortBytes;
 pub use status::{ByteKind, InputKind, LineKind, LoadKind, Status, UsageKind};
 pub use tact_base::ConfigFault;
-pub use text::line_of;
+pub use text::{LineRoom, line_of, line_with};
 pub use tokens::{all_or_nothing, put_number, put_row, put_token};
 pub use worked::worked_scripts;

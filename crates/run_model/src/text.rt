@@ -17,13 +17,45 @@ use tact_base::{Bytes, Need, NoMemory, Op, Weight};
 /// A message has this many numbers by origin at most, where its line is put together at once.
 const FEW_FIRSTS: usize = 8;
 
+/// The room in which lines are put together. Who appends many lines keeps one for them all, so that it isn't made anew
+/// for each.
+#[derive(Debug, Drop)]
+pub struct LineRoom {
+    // What it holds between two lines is read by nobody.
+    bytes: Room,
+}
+
+impl LineRoom {
+    /// Room for a line. Takes no memory.
+    pub fn new() -> LineRoom {
+        LineRoom {
+            bytes: [0; LINE_ROOM],
+        }
+    }
+}
+
 /// Appends the line of an entry, with its line feed. `NoMemory` leaves `out` as it was.
 pub fn line_of(entry: &Entry, out: &mut Bytes) -> Result<(), NoMemory>
     ensures ok { OnOk result (out.new ≡ out.old ++ entry_text entry.now ++ 10 ∷ []) }
     ensures err { OnErr result (out.new ≡ out.old) }
 {
-    let mut room = [0; LINE_ROOM];
-    let end = put(b"\n", &mut room, LINE_ROOM);
+    line_with(&mut LineRoom::new(), entry, out)
+}
+
+/// Appends the line of an entry as [`line_of`], put together in a room that the caller keeps.
+pub fn line_with(room: &mut LineRoom, entry: &Entry, out: &mut Bytes) -> Result<(), NoMemory>
+    ensures ok { OnOk result (out.new ≡ out.old ++ entry_text entry.now ++ 10 ∷ []) }
+    ensures err { OnErr result (out.new ≡ out.old) }
+{
+    line_in(&mut room.bytes, entry, out)
+}
+
+// The same, in the bytes of the room.
+fn line_in(room: &mut Room, entry: &Entry, out: &mut Bytes) -> Result<(), NoMemory>
+    ensures ok { OnOk result (out.new ≡ out.old ++ entry_text entry.now ++ 10 ∷ []) }
+    ensures err { OnErr result (out.new ≡ out.old) }
+{
+    let end = put(b"\n", room, LINE_ROOM);
     let start = match &entry.act {
         Act::Call {
             client,
@@ -31,38 +63,38 @@ pub fn line_of(entry: &Entry, out: &mut Bytes) -> Result<(), NoMemory>
             request,
             reply,
         } => {
-            let start = put_reply(reply, &mut room, end);
-            let start = put_request(request, &mut room, start);
-            let start = put_pair(u64::from(*client), *number, &mut room, start);
-            put(b" call", &mut room, start)
+            let start = put_reply(reply, room, end);
+            let start = put_request(request, room, start);
+            let start = put_pair(u64::from(*client), *number, room, start);
+            put(b" call", room, start)
         }
         Act::Send { message } => {
             let firsts = message.firsts.items();
             if firsts.len() > FEW_FIRSTS {
                 return long_line_of(entry, message, out);
             }
-            let start = put_numbers(firsts, &mut room, end);
-            put_sent(message, &mut room, start)
+            let start = put_numbers(firsts, room, end);
+            put_sent(message, room, start)
         }
         Act::Take { message } => {
-            let start = put_pair(u64::from(message.from), message.number, &mut room, end);
-            put(b" take", &mut room, start)
+            let start = put_pair(u64::from(message.from), message.number, room, end);
+            put(b" take", room, start)
         }
         Act::Lend { to, conit, amount } => {
-            let start = put_loan(*to, *conit, *amount, &mut room, end);
-            put(b" lend", &mut room, start)
+            let start = put_loan(*to, *conit, *amount, room, end);
+            put(b" lend", room, start)
         }
         Act::Back {
             owner,
             conit,
             amount,
         } => {
-            let start = put_loan(*owner, *conit, *amount, &mut room, end);
-            put(b" back", &mut room, start)
+            let start = put_loan(*owner, *conit, *amount, room, end);
+            put(b" back", room, start)
         }
-        Act::Restart => put(b" restart", &mut room, end),
+        Act::Restart => put(b" restart", room, end),
     };
-    let start = put_begin(entry, &mut room, start);
+    let start = put_begin(entry, room, start);
     out.append(&room[start..])
 }
 
