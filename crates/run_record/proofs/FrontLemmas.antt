@@ -140,7 +140,7 @@ lacks-append byte [] ys none more = more
 lacks-append byte (x ∷ xs) ys (other, none) more = (other, lacks-append byte xs ys none more)
 
 -- a token in front
-token_in_front : (token after rest : List ℕ)
+pub token_in_front : (token after rest : List ℕ)
     → 0 < length token
     → Lacks 32 token
     → IsPast after rest

@@ -1,6 +1,7 @@
 pub mod SplitLemmas
 pub mod FieldLemmas
 pub mod FrontLemmas
+pub mod TokensInFront
 pub mod ListLoop
 pub mod PartLemmas
 pub mod Rising

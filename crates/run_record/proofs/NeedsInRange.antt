@@ -1,5 +1,5 @@
 -- What the type of needs keeps, and what is left to test of them.
-use Rattle.std.proofs.Common.{◌<◌, true, List, get_or, All, refl}
+use Rattle.std.proofs.Common.{◌<◌, true, List, get_or, refl}
 use Rattle.std.proofs.lemmas.List.Elements.{All-weaker}
 use Rattle.tact_base.specs.declared.conit_list.Need.{Need}
 use Rattle.tact_base.proofs.ConitListLemmas.{IsConitList-limits}

@@ -7,7 +7,7 @@ ghost use Rattle.run_model.specs.Ranges.{IsOpInRange};
 ghost use Rattle.run_record.specs.Splitting.{tokens};
 ghost use Rattle.run_record.specs.Fields.{Gives, token_at, in_line, number_at, count_at, signed_at, replica_at, other_replica_at, client_at, put_at, add_at, shift_at, op_at, end_at};
 
-use crate::fronts::number_in_front;
+use crate::fronts::{digit_in_front, number_in_front, past_word, whole_signed_in_front};
 use crate::line_fault::LineFault;
 use crate::splitting::next_token;
 use run_model::LineKind;
@@ -48,17 +48,36 @@ fn signed_of(token: &[u8], size: u64) -> Result<i64, LineFault>
 }
 
 /// A number of at most `most`.
-#[tactic(auto, unfolding(crate::specs::Fields::number_at))]
 pub fn number_at(rest: &[u8], most: u64) -> Result<(u64, &[u8]), LineFault>
     ensures within { IfOk result (λ x. x.0 ≤ most) }
     ensures number { Gives (λ x. (x.0, tokens x.1.now)) result (number_at most (tokens rest.now)) }
 {
-    if let Some((number, after)) = number_in_front(rest, most) {
-        return Ok((number, after));
+    match number_in_front(rest, most) {
+        Some((number, after)) => Ok((number, after)),
+        None => number_of_token_at(rest, most),
     }
+}
+
+// The same of any token.
+#[tactic(auto, unfolding(crate::specs::Fields::number_at))]
+fn number_of_token_at(rest: &[u8], most: u64) -> Result<(u64, &[u8]), LineFault>
+    ensures within { IfOk result (λ x. x.0 ≤ most) }
+    ensures number { Gives (λ x. (x.0, tokens x.1.now)) result (number_at most (tokens rest.now)) }
+{
     let (token, rest) = token_at(rest)?;
     let number = number_of(token, most)?;
     Ok((number, rest))
+}
+
+/// The same of a number that almost always is one digit, which is read at once.
+pub fn small_at(rest: &[u8], most: u64) -> Result<(u64, &[u8]), LineFault>
+    ensures within { IfOk result (λ x. x.0 ≤ most) }
+    ensures number { Gives (λ x. (x.0, tokens x.1.now)) result (number_at most (tokens rest.now)) }
+{
+    match digit_in_front(rest, most) {
+        Some((number, after)) => Ok((number, after)),
+        None => number_of_token_at(rest, most),
+    }
 }
 
 /// A number from `least` to `most`.
@@ -76,8 +95,20 @@ pub fn count_at(rest: &[u8], least: u32, most: u32) -> Result<(u32, &[u8]), Line
 }
 
 /// A number from `-size` to `size`.
-#[tactic(auto, unfolding(crate::specs::Fields::signed_at))]
 pub fn signed_at(rest: &[u8], size: u64) -> Result<(i64, &[u8]), LineFault>
+    requires { size < 2 ^ 63 }
+    ensures within { IfOk result (λ x. unsigned_abs x.0 ≤ size) }
+    ensures number { Gives (λ x. (x.0, tokens x.1.now)) result (signed_at size (tokens rest.now)) }
+{
+    match whole_signed_in_front(rest, size) {
+        Some((number, after)) => Ok((number, after)),
+        None => signed_of_token_at(rest, size),
+    }
+}
+
+// The same of any token.
+#[tactic(auto, unfolding(crate::specs::Fields::signed_at))]
+fn signed_of_token_at(rest: &[u8], size: u64) -> Result<(i64, &[u8]), LineFault>
     requires { size < 2 ^ 63 }
     ensures within { IfOk result (λ x. unsigned_abs x.0 ≤ size) }
     ensures number { Gives (λ x. (x.0, tokens x.1.now)) result (signed_at size (tokens rest.now)) }
@@ -93,7 +124,7 @@ pub fn replica_at(rest: &[u8], replicas: u32) -> Result<(u32, &[u8]), LineFault>
     ensures within { IfOk result (λ x. x.0 < replicas) }
     ensures replica { Gives (λ x. (x.0, tokens x.1.now)) result (replica_at replicas (tokens rest.now)) }
 {
-    let (number, rest) = number_at(rest, u64::from(replicas - 1))?;
+    let (number, rest) = small_at(rest, u64::from(replicas - 1))?;
     Ok((number as u32, rest))
 }
 
@@ -117,7 +148,7 @@ pub fn client_at(rest: &[u8]) -> Result<(u32, &[u8]), LineFault>
     ensures within { IfOk result (λ x. x.0 < CLIENTS) }
     ensures client { Gives (λ x. (x.0, tokens x.1.now)) result (client_at (tokens rest.now)) }
 {
-    let (number, rest) = number_at(rest, u64::from(CLIENTS - 1))?;
+    let (number, rest) = small_at(rest, u64::from(CLIENTS - 1))?;
     Ok((number as u32, rest))
 }
 
@@ -155,6 +186,24 @@ fn shift_at(rest: &[u8]) -> Result<(Op, &[u8]), LineFault>
 /// `put KEY VALUE`, `add KEY DELTA` or `shift KEY KEY AMOUNT`. `UnknownWord` at any other word.
 #[tactic(auto, unfolding(crate::specs::Fields::op_at))]
 pub fn op_at(rest: &[u8]) -> Result<(Op, &[u8]), LineFault>
+    ensures within { IfOk result (λ x. IsOpInRange x.0) }
+    ensures op { Gives (λ x. (x.0, tokens x.1.now)) result (op_at (tokens rest.now)) }
+{
+    if let Some(after) = past_word(rest, b"put") {
+        return put_at(after);
+    }
+    if let Some(after) = past_word(rest, b"add") {
+        return add_at(after);
+    }
+    if let Some(after) = past_word(rest, b"shift") {
+        return shift_at(after);
+    }
+    any_op_at(rest)
+}
+
+// The same of any token.
+#[tactic(auto, unfolding(crate::specs::Fields::op_at))]
+fn any_op_at(rest: &[u8]) -> Result<(Op, &[u8]), LineFault>
     ensures within { IfOk result (λ x. IsOpInRange x.0) }
     ensures op { Gives (λ x. (x.0, tokens x.1.now)) result (op_at (tokens rest.now)) }
 {

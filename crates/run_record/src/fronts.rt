@@ -1,25 +1,48 @@
-//! Numbers, weights and needs at the front of what is left of a line, read in one pass. They are found where they have
-//! their plain form; else the readers of fields say what stands there.
-ghost use Rattle.std.specs.Prelude.{◌≡◌, ◌≤◌, ◌<◌, ◌^◌, ◌∷◌, IfSome, unsigned_abs};
-ghost use Rattle.tact_base.specs.Numbers.{whole_number, whole_signed};
+//! Numbers, words, weights and needs at the front of what is left of a line, read in one pass over their bytes. They
+//! are found where they have their plain form; else the readers of fields say what stands there.
+ghost use Rattle.std.specs.Prelude.{◌≡◌, ◌≤◌, ◌<◌, ◌^◌, ◌∷◌, ◌++◌, IfSome, Ok, unsigned_abs};
+ghost use Rattle.tact_base.specs.Numbers.{ReadsNumber, whole_number, whole_signed};
 ghost use Rattle.run_record.specs.CallTokens.{whole_wide};
 ghost use Rattle.run_record.specs.Fields.{in_line};
 ghost use Rattle.run_record.specs.Fronts.{Begins, IsPast, IsNext};
 ghost use Rattle.run_record.specs.Lists.{need_of, weight_of};
 
 use crate::call_tokens::negated;
-use tact_base::{AMOUNT_MAX, MOMENT_MAX, Need, WEIGHT_MAX, Weight, read_number};
+use tact_base::{AMOUNT_MAX, MOMENT_MAX, Need, WEIGHT_MAX, Weight};
 
-// The number of the digits in front, if it is at most `most`, and what follows them.
+// A number that passes this isn't read on here.
+const DIGITS_MAX: u64 = 1_000_000_000_000_000_000;
+
+// The number of the digits in front, and how many they are.
+fn plain_digits(bytes: &[u8]) -> Option<(u64, usize)>
+    ensures { IfSome result (λ x. ReadsNumber bytes.now 0 (Ok x.0) x.1) }
+{
+    if bytes.is_empty() || !bytes[0].is_ascii_digit() {
+        return None;
+    }
+    let mut value = u64::from(bytes[0] - b'0');
+    for place in 1..bytes.len() {
+        if !bytes[place].is_ascii_digit() {
+            return Some((value, place));
+        }
+        if value > DIGITS_MAX {
+            return None;
+        }
+        value = 10 * value + u64::from(bytes[place] - b'0');
+    }
+    Some((value, bytes.len()))
+}
+
+// The same of a number that is at most `most`, and what follows it.
 fn digits_in_front(bytes: &[u8], most: u64) -> Option<(u64, &[u8])>
     ensures within { IfSome result (λ x. x.0 ≤ most) }
     ensures begins { IfSome result (λ x. Begins (λ part. whole_number part most) bytes.now x.0 x.1.now) }
 {
-    let mut place = 0;
-    match read_number(bytes, &mut place) {
-        Ok(value) if value <= most => Some((value, &bytes[place..])),
-        _ => None,
+    let (value, count) = plain_digits(bytes)?;
+    if value > most {
+        return None;
     }
+    Some((value, &bytes[count..]))
 }
 
 // The same, with a minus before the digits or without.
@@ -37,22 +60,42 @@ fn positive_in_front(bytes: &[u8], size: u64) -> Option<(i64, &[u8])>
     requires { size < 2 ^ 63 }
     ensures { IfSome result (λ x. Begins (λ part. whole_signed part size) bytes.now x.0 x.1.now) }
 {
-    let mut place = 0;
-    match read_number(bytes, &mut place) {
-        Ok(value) if value <= size => Some((value as i64, &bytes[place..])),
-        _ => None,
+    let (value, count) = plain_digits(bytes)?;
+    if value > size {
+        return None;
     }
+    Some((value as i64, &bytes[count..]))
 }
 
 fn negative_in_front(digits: &[u8], size: u64) -> Option<(i64, &[u8])>
     requires { size < 2 ^ 63 }
     ensures { IfSome result (λ x. Begins (λ part. whole_signed part size) (45 ∷ digits.now) x.0 x.1.now) }
 {
-    let mut place = 0;
-    match read_number(digits, &mut place) {
-        Ok(value) if value <= size => Some((negated(value), &digits[place..])),
-        _ => None,
+    let (value, count) = plain_digits(digits)?;
+    if value > size {
+        return None;
     }
+    Some((negated(value), &digits[count..]))
+}
+
+/// What is left past a word in front and the space after it.
+#[inline(always)]
+pub fn past_word<'a>(rest: &'a [u8], word: &[u8]) -> Option<&'a [u8]>
+    ensures { IfSome result (λ after. rest.now ≡ word.now ++ 32 ∷ after.now) }
+{
+    let size = word.len();
+    if rest.len() <= size {
+        return None;
+    }
+    for (place, byte) in word.iter().enumerate() {
+        if rest[place] != *byte {
+            return None;
+        }
+    }
+    if rest[size] != b' ' {
+        return None;
+    }
+    Some(&rest[size + 1..])
 }
 
 // What is left past the space after a token, or past the end of the line, where this follows.
@@ -62,16 +105,6 @@ fn past_token(after: &[u8]) -> Option<&[u8]>
     match after {
         [] => Some(after),
         [b' ', rest @ ..] => Some(rest),
-        _ => None,
-    }
-}
-
-// What is left past a colon.
-fn past_colon(after: &[u8]) -> Option<&[u8]>
-    ensures { IfSome result (λ rest. after.now ≡ 58 ∷ rest.now) }
-{
-    match after {
-        [b':', rest @ ..] => Some(rest),
         _ => None,
     }
 }
@@ -86,12 +119,49 @@ fn part_in_front(bytes: &[u8], most: u64) -> Option<(u64, &[u8])>
     Some((value, rest))
 }
 
+// What is left past a colon.
+fn past_colon(after: &[u8]) -> Option<&[u8]>
+    ensures { IfSome result (λ rest. after.now ≡ 58 ∷ rest.now) }
+{
+    match after {
+        [b':', rest @ ..] => Some(rest),
+        _ => None,
+    }
+}
+
 /// The number that the token in front is, and what is left after it.
 pub(crate) fn number_in_front(bytes: &[u8], most: u64) -> Option<(u64, &[u8])>
     ensures within { IfSome result (λ x. x.0 ≤ most) }
     ensures next { IfSome result (λ x. IsNext (λ token. in_line (whole_number token most)) bytes.now x.0 x.1.now) }
 {
     let (value, after) = digits_in_front(bytes, most)?;
+    let rest = past_token(after)?;
+    Some((value, rest))
+}
+
+/// The same of a token that is one digit.
+pub(crate) fn digit_in_front(bytes: &[u8], most: u64) -> Option<(u64, &[u8])>
+    ensures within { IfSome result (λ x. x.0 ≤ most) }
+    ensures next { IfSome result (λ x. IsNext (λ token. in_line (whole_number token most)) bytes.now x.0 x.1.now) }
+{
+    match bytes {
+        [digit, b' ', rest @ ..] if digit.is_ascii_digit() && u64::from(*digit - b'0') <= most => {
+            Some((u64::from(*digit - b'0'), rest))
+        }
+        [digit] if digit.is_ascii_digit() && u64::from(*digit - b'0') <= most => {
+            Some((u64::from(*digit - b'0'), &[]))
+        }
+        _ => None,
+    }
+}
+
+/// The signed number that the token in front is, and what is left after it.
+pub(crate) fn whole_signed_in_front(bytes: &[u8], size: u64) -> Option<(i64, &[u8])>
+    requires { size < 2 ^ 63 }
+    ensures within { IfSome result (λ x. unsigned_abs x.0 ≤ size) }
+    ensures next { IfSome result (λ x. IsNext (λ token. in_line (whole_signed token size)) bytes.now x.0 x.1.now) }
+{
+    let (value, after) = signed_in_front(bytes, size)?;
     let rest = past_token(after)?;
     Some((value, rest))
 }

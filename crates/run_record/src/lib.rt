@@ -30,8 +30,9 @@ mod splitting;
 pub use fault::{PartFault, RecordFault};
 pub use fields::{
     client_at, count_at, end_at, number_at, op_at, other_replica_at, replica_at, signed_at,
-    token_at,
+    small_at, token_at,
 };
+pub use fronts::past_word;
 pub use get_acts::short_at;
 pub use get_record::parse_bytes;
 pub use held::Record;

@@ -19,8 +19,8 @@ use crate::splitting::{next_token, place_of};
 use run_model::{LineKind, Sums};
 use std::alloc::Global;
 use tact_base::{
-    AMOUNT_MAX, HISTORY_MAX, LIST_MAX, MOMENT_MAX, Need, Needs, Numbers, TokenFault, WEIGHT_MAX,
-    Weight, Weights, whole_number, whole_signed,
+    AMOUNT_MAX, ConitList, HISTORY_MAX, LIST_MAX, MOMENT_MAX, Need, Needs, Numbers, OnConit,
+    TokenFault, WEIGHT_MAX, Weight, Weights, whole_number, whole_signed,
 };
 
 /// Where a list of a line ends before it is full.
@@ -192,6 +192,7 @@ fn is_end(rest: &[u8], end: ListEnd) -> bool
     ensures { result ≡ is_end end (tokens rest.now) }
 {
     match rest {
+        [] => true,
         [first, ..] if *first != b' ' && *first != b'=' => false,
         _ => ends_by(rest, end),
     }
@@ -305,6 +306,16 @@ fn fill<'a, T: Listed>(
     Ok((count, rest))
 }
 
+// The list of no items.
+fn no_items<T: OnConit>() -> ConitList<T>
+    ensures { result ≡ [] }
+{
+    match ConitList::new(&[]) {
+        Ok(list) => list,
+        Err(_) => unreachable!(),
+    }
+}
+
 /// One weight `CONIT:NWEIGHT:OWEIGHT`. Of its token `NotNumber`, then `OutOfRange`. Takes no memory.
 pub fn weight_at(rest: &[u8], conits: u32) -> Result<(Weight, &[u8]), LineFault>
     requires { 0 < conits }
@@ -324,6 +335,18 @@ pub fn weights_at(rest: &[u8], conits: u32, end: ListEnd) -> Result<(Weights, &[
     ensures within { IfOk result (λ x. AreWeightsOf conits x.0) }
     ensures weights { Gives (λ x. (x.0, tokens x.1.now)) result (weights_at conits end (tokens rest.now)) }
 {
+    if rest.is_empty() {
+        return Ok((no_items(), rest));
+    }
+    some_weights_at(rest, conits, end)
+}
+
+// The same where there may be some.
+fn some_weights_at(rest: &[u8], conits: u32, end: ListEnd) -> Result<(Weights, &[u8]), LineFault>
+    requires { 0 < conits }
+    ensures within { IfOk result (λ x. AreWeightsOf conits x.0) }
+    ensures weights { Gives (λ x. (x.0, tokens x.1.now)) result (weights_at conits end (tokens rest.now)) }
+{
     let mut items = [Weight::default(); LIST_MAX];
     let (count, rest) = fill(&mut items, rest, conits, end)?;
     match Weights::new(&items[..count]) {
@@ -334,6 +357,18 @@ pub fn weights_at(rest: &[u8], conits: u32, end: ListEnd) -> Result<(Weights, &[
 
 /// At most 4 needs `CONIT:NUM:ORDER:STALE` with rising conits below `conits`, alike.
 pub fn needs_at(rest: &[u8], conits: u32, end: ListEnd) -> Result<(Needs, &[u8]), LineFault>
+    requires { 0 < conits }
+    ensures within { IfOk result (λ x. AreNeedsOf conits x.0) }
+    ensures needs { Gives (λ x. (x.0, tokens x.1.now)) result (needs_at conits end (tokens rest.now)) }
+{
+    if rest.is_empty() {
+        return Ok((no_items(), rest));
+    }
+    some_needs_at(rest, conits, end)
+}
+
+// The same where there may be some.
+fn some_needs_at(rest: &[u8], conits: u32, end: ListEnd) -> Result<(Needs, &[u8]), LineFault>
     requires { 0 < conits }
     ensures within { IfOk result (λ x. AreNeedsOf conits x.0) }
     ensures needs { Gives (λ x. (x.0, tokens x.1.now)) result (needs_at conits end (tokens rest.now)) }

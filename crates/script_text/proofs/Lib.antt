@@ -7,5 +7,4 @@ pub mod ScriptRun
 pub mod ReaderLemmas
 pub mod Begun
 pub mod Reading
-pub mod AheadLemmas
 pub mod GoodLemmas

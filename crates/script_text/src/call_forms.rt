@@ -7,11 +7,12 @@ ghost use Rattle.script_text.specs.Adding.{AddsLine};
 ghost use Rattle.script_text.specs.LineRanges.{bare};
 ghost use Rattle.script_text.specs.Forms.{write_line, held_line, reserve_line, release_line, read_line};
 
-use crate::fields::{client_at, number_at, op_at, replica_at};
 use crate::forms::conit_at;
-use crate::lists::{needs_at, weights_at};
 use run_model::{Line, LineKind};
-use run_record::{LineFault, end_at, weight_at};
+use run_record::{
+    LineFault, ListEnd, client_at, end_at, needs_at, number_at, op_at, replica_at, weight_at,
+    weights_at,
+};
 use tact_base::{AMOUNT_MAX, KEY_MAX};
 
 /// `write R K OP WEIGHT..`
@@ -30,7 +31,7 @@ pub(crate) fn write_line(
     let (replica, rest) = replica_at(rest, replicas)?;
     let (client, rest) = client_at(rest)?;
     let (op, rest) = op_at(rest)?;
-    let (weights, rest) = match weights_at(rest, conits) {
+    let (weights, rest) = match weights_at(rest, conits, ListEnd::Line) {
         Ok(read) => read,
         Err(fault) => return Err(fault),
     };
@@ -59,7 +60,7 @@ pub(crate) fn held_line(
 {
     let (replica, rest) = replica_at(rest, replicas)?;
     let (client, rest) = client_at(rest)?;
-    let (op, rest) = run_record::op_at(rest)?;
+    let (op, rest) = op_at(rest)?;
     let (weight, rest) = weight_at(rest, conits)?;
     end_at(rest, LineKind::Extra)?;
     lines.push_reserved(Line::Held {
@@ -141,7 +142,7 @@ pub(crate) fn read_line(
     let (replica, rest) = replica_at(rest, replicas)?;
     let (client, rest) = client_at(rest)?;
     let (key, rest) = number_at(rest, KEY_MAX)?;
-    let (needs, rest) = match needs_at(rest, conits) {
+    let (needs, rest) = match needs_at(rest, conits, ListEnd::Line) {
         Ok(read) => read,
         Err(fault) => return Err(fault),
     };

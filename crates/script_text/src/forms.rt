@@ -9,9 +9,8 @@ ghost use Rattle.script_text.specs.Adding.{AddsLine};
 ghost use Rattle.script_text.specs.LineRanges.{bare};
 ghost use Rattle.script_text.specs.Forms.{conit_at, start_line, bound_line, at_line, restart_line, show_line, ref_line, AreStartNumbers};
 
-use crate::fields::{number_at, replica_at, small_at};
 use run_model::{Line, LineKind};
-use run_record::{LineFault, count_at, end_at};
+use run_record::{LineFault, count_at, end_at, number_at, replica_at, small_at};
 use tact_base::{ALPHA_MAX, AMOUNT_MAX, CONITS_MAX, MOMENT_MAX, REPLICAS_MAX, REPLICAS_MIN};
 
 /// One of the conits.

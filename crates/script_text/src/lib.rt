@@ -1,15 +1,12 @@
 //! What the text of a script says: its reader, and the law that a script's history is a run.
 #![tactic(auto)]
 
-mod ahead;
 mod call_forms;
 mod dispatch;
 mod fault;
-mod fields;
 mod forms;
 mod good_lines;
 mod laws;
-mod lists;
 mod peer_forms;
 mod reader;
 mod room;

@@ -7,10 +7,9 @@ ghost use Rattle.script_text.specs.Adding.{AddsLine};
 ghost use Rattle.script_text.specs.LineRanges.{bare};
 ghost use Rattle.script_text.specs.Forms.{send_line, take_line, sync_line, lend_line, back_line};
 
-use crate::fields::{number_at, other_replica_at, replica_at};
 use crate::forms::conit_at;
 use run_model::{Line, LineKind};
-use run_record::{LineFault, end_at, firsts_at};
+use run_record::{LineFault, end_at, firsts_at, number_at, other_replica_at, replica_at};
 use std::alloc::Global;
 use tact_base::AMOUNT_MAX;
 

@@ -4,8 +4,7 @@ ghost use Rattle.run_record.specs.Splitting.{tokens};
 ghost use Rattle.run_record.specs.Fields.{Fails, token_at};
 ghost use Rattle.script_text.specs.Words.{word_of, BeginsBy};
 
-use crate::ahead::past_word;
-use run_record::{LineFault, token_at};
+use run_record::{LineFault, past_word, token_at};
 
 /// The word that a line begins with.
 #[derive(Clone, Copy, Debug, PartialEq, Eq)]

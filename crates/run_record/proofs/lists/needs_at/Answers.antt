@@ -1,14 +1,11 @@
-use Rattle.std.proofs.Common.{subst, sym}
-use Rattle.run_model.specs.Bytes.{AreNeedsOf}
-use Rattle.run_record.specs.Splitting.{tokens}
-use Rattle.run_record.proofs.ItemLemmas.{needs_are_good, needs_not_refused}
+use Rattle.std.proofs.Common.{◌≡◌, refl, arith, length}
+use Rattle.std.proofs.lemmas.Bool.Decides.{nat_tests}
+use Rattle.run_record.specs.Lists.{list_at}
+use Rattle.run_record.proofs.SplitLemmas.{tokens_none}
 use Rattle.run_record.proofs.lists.needs_at.Goals as goal
 
-pub unreachable-requires : goal.unreachable-requires
-unreachable-requires c =
-    needs_not_refused c.args.conits c.requires c.args.end (tokens c.args.rest.now) _ c.in-Err.field-0 c.in_ok-count.ensures.read c.in-Err.ensures
-
-pub returns-clause-within : goal.returns-clause-within
-returns-clause-within c =
-    subst (AreNeedsOf c.args.conits) (sym c.in-Ok.ensures.1)
-    (needs_are_good c.args.conits c.requires c.args.end (tokens c.args.rest.now) _ c.in_ok-count.ensures.read)
+pub returns-then-is_empty-clause-needs : goal.returns-then-is_empty-clause-needs
+unfolding list_at
+returns-then-is_empty-clause-needs c =
+    let empty : length c.args.rest.now ≡ 0 = grind (arith, nat_tests) in
+    rw (tokens_none c.args.rest.now empty, c.no_items.ensures) refl

@@ -1,5 +1,5 @@
 use Rattle.std.proofs.Common.{sym}
-use Rattle.script_text.proofs.AheadLemmas.{token_at-ok}
+use Rattle.run_record.proofs.TokensInFront.{token_at-ok}
 use Rattle.script_text.proofs.word.any_word_at.Goals as goal
 
 pub returns-clause-word : goal.returns-clause-word

@@ -1,5 +1,5 @@
 use Rattle.std.proofs.Common.{[], ◌∷◌, refl, arith}
-use Rattle.script_text.proofs.AheadLemmas.{word_is_next}
+use Rattle.run_record.proofs.TokensInFront.{word_is_next}
 use Rattle.script_text.proofs.word.rarer_word_at.Goals as goal
 
 pub returns-in-Some-clause-word : goal.returns-in-Some-clause-word

@@ -3,8 +3,8 @@ use Rattle.std.specs.Int.{w64}
 use Rattle.std.specs.Prelude.{unsigned_abs}
 use Rattle.std.proofs.lemmas.Int.{to_z-of_z}
 use Rattle.run_record.proofs.FieldLemmas.{whole_signed-most}
-use Rattle.script_text.proofs.AheadLemmas.{signed_is_next}
-use Rattle.script_text.proofs.ahead.whole_signed_ahead.Goals as goal
+use Rattle.run_record.proofs.TokensInFront.{signed_is_next}
+use Rattle.run_record.proofs.fronts.whole_signed_in_front.Goals as goal
 
 pub returns-clause-within : goal.returns-clause-within
 returns-clause-within c =

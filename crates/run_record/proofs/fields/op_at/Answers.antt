@@ -1,7 +1,7 @@
 use Rattle.std.proofs.Common.{[], ◌∷◌, refl, arith}
 use Rattle.run_record.specs.Fields.{token_at, op_at}
-use Rattle.script_text.proofs.AheadLemmas.{word_is_next}
-use Rattle.script_text.proofs.fields.op_at.Goals as goal
+use Rattle.run_record.proofs.TokensInFront.{word_is_next}
+use Rattle.run_record.proofs.fields.op_at.Goals as goal
 
 pub returns-in-Some-clause-op : goal.returns-in-Some-clause-op
 unfolding op_at token_at

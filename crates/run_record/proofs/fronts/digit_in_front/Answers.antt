@@ -1,7 +1,7 @@
 use Rattle.std.proofs.Common.{rules, arith}
 use Rattle.std.proofs.lemmas.List.{take_rest}
-use Rattle.script_text.proofs.AheadLemmas.{digit_next, digit_last}
-use Rattle.script_text.proofs.ahead.digit_ahead.Goals as goal
+use Rattle.run_record.proofs.TokensInFront.{digit_next, digit_last}
+use Rattle.run_record.proofs.fronts.digit_in_front.Goals as goal
 
 pub returns-in-32-clause-next : goal.returns-in-32-clause-next
 returns-in-32-clause-next c =

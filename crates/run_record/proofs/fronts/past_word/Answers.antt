@@ -1,7 +1,7 @@
 use Rattle.std.proofs.Common.{rules, arith}
 use Rattle.std.proofs.lemmas.List.{take_rest, take_more_same}
-use Rattle.script_text.proofs.AheadLemmas.{past_word_is}
-use Rattle.script_text.proofs.ahead.past_word.Goals as goal
+use Rattle.run_record.proofs.TokensInFront.{past_word_is}
+use Rattle.run_record.proofs.fronts.past_word.Goals as goal
 
 pub loop-place-preserved : goal.loop-place-preserved
 loop-place-preserved c =

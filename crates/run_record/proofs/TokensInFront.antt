@@ -1,32 +1,16 @@
 -- Tokens that were read in front, as the readers of a line give them.
-use Rattle.std.proofs.Common.{◌≡◌, ℕ, suc, ◌+◌, ◌-◌, ◌<◌, ◌≤◌, true, false, List, [], ◌∷◌, ◌++◌, length, get_or, take, drop, drop-cons, take_while, Ok, refl, sym, ap, ◌∙◌, ⊎_elim, inl, inr, arith}
+use Rattle.std.proofs.Common.{◌≡◌, ℕ, suc, ◌+◌, ◌-◌, ◌<◌, ◌≤◌, true, false, List, [], ◌∷◌, ◌++◌, length, get_or, take, drop, drop-cons, take_while, Ok, refl, sym, ap, ◌∙◌, inl, inr, arith}
 use Rattle.std.specs.Char.{is_ascii_digit}
 use Rattle.std.specs.Prelude.{ℤ}
 use Rattle.std.proofs.lemmas.Bool.Decides.{nat_tests}
-use Rattle.std.proofs.lemmas.List.{append-nil, take_all, take-append-drop}
+use Rattle.std.proofs.lemmas.List.{take_all, take-append-drop}
 use Rattle.std.proofs.lemmas.List.Sums.{take_while-cons}
 use Rattle.tact_base.specs.Numbers.{ReadsNumber, whole_number, whole_signed}
 use Rattle.run_record.specs.Fields.{in_line, token_at, signed_at}
 use Rattle.run_record.specs.Fronts.{Lacks, Begins, IsPast, IsNext}
 use Rattle.run_record.specs.Splitting.{tokens}
 use Rattle.run_record.proofs.FieldLemmas.{ok_is}
-use Rattle.run_record.proofs.FrontLemmas.{number_is_next, read_begins}
-use Rattle.run_record.proofs.PrintedTokens.{piece_ends, last_piece}
-use Rattle.run_record.proofs.SplitLemmas.{tokens_some}
-
--- a token in front
-pub token_ahead : (token after rest : List ℕ)
-    → 0 < length token
-    → Lacks 32 token
-    → IsPast after rest
-    → tokens (token ++ after) ≡ token ∷ tokens rest
-token_ahead token after rest some none past =
-    tokens_some (token ++ after) token rest
-    (⊎_elim
-    (λ (ends : (after ≡ []) × (rest ≡ [])). rw (ends.0, ends.1, append-nil token) (last_piece 32 token some none))
-    (λ (goes : after ≡ 32 ∷ rest). rw goes (piece_ends 32 token rest none))
-    past)
-    some
+use Rattle.run_record.proofs.FrontLemmas.{number_is_next, read_begins, token_in_front}
 
 -- the signed number of a token
 pub signed_is_next : (bytes after rest : List ℕ) (size : ℕ) (number : ℤ)
@@ -35,7 +19,7 @@ pub signed_is_next : (bytes after rest : List ℕ) (size : ℕ) (number : ℤ)
     → IsNext (λ token. in_line (whole_signed token size)) bytes number rest
 signed_is_next bytes after rest size number begins past = record {
   token = begins.part;
-  is = ap tokens begins.whole ∙ token_ahead begins.part after rest begins.some begins.no_space past;
+  is = ap tokens begins.whole ∙ token_in_front begins.part after rest begins.some begins.no_space past;
   says = ap in_line begins.says;
 }
 
@@ -110,9 +94,9 @@ pub word_is_next : (rest word after : List ℕ)
     → 0 < length word
     → Lacks 32 word
     → tokens rest ≡ word ∷ tokens after
-word_is_next rest word after whole some none = ap tokens whole ∙ token_ahead word (32 ∷ after) after some none (inr refl)
+word_is_next rest word after whole some none = ap tokens whole ∙ token_in_front word (32 ∷ after) after some none (inr refl)
 
--- a token in front, by what was read
+-- the next token, by what was read
 pub token_at-ok : (ts : List (List ℕ)) (x : List ℕ × List (List ℕ)) → token_at ts ≡ Ok x → ts ≡ x.0 ∷ x.1
 unfolding token_at
 token_at-ok [] x is = cc

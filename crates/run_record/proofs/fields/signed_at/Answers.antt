@@ -2,8 +2,8 @@ use Rattle.std.proofs.Common.{◌≡◌, ◌≤◌, arith, to_z, of_z}
 use Rattle.std.specs.Int.{w64}
 use Rattle.std.specs.Prelude.{unsigned_abs}
 use Rattle.std.proofs.lemmas.Int.{to_z-of_z}
-use Rattle.script_text.proofs.AheadLemmas.{signed_at-next}
-use Rattle.script_text.proofs.fields.signed_at.Goals as goal
+use Rattle.run_record.proofs.TokensInFront.{signed_at-next}
+use Rattle.run_record.proofs.fields.signed_at.Goals as goal
 
 pub returns-in-Some-clause-number : goal.returns-in-Some-clause-number
 returns-in-Some-clause-number c =
