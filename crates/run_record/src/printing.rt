@@ -8,7 +8,8 @@ ghost use Rattle.run_record.specs.RecordText.{record_text, is_call, short_act_to
 
 use crate::{Record, Short, ShortAct};
 use run_model::{
-    Act, Config, Entry, all_or_nothing, end_of, head_of, line_of, put_number, put_row, put_token,
+    Act, Config, Entry, LineRoom, all_or_nothing, end_of, head_of, line_with, put_number, put_row,
+    put_token,
 };
 use tact_base::{Bytes, NoMemory};
 
@@ -59,8 +60,9 @@ fn print_entries(run: &[Entry], out: &mut Bytes) -> Result<(), NoMemory>
     ensures ok { OnOk result (out.new ≡ out.old ++ flat_map short_line (map short_of run.now)) }
     ensures err { OnErr result (BeginsWith out.old out.new) }
 {
+    let mut room = LineRoom::new();
     for entry in run {
-        line_of(entry, out)?;
+        line_with(&mut room, entry, out)?;
     }
     Ok(())
 }
@@ -70,15 +72,16 @@ fn print_shorts(entries: &[Short], out: &mut Bytes) -> Result<(), NoMemory>
     ensures ok { OnOk result (out.new ≡ out.old ++ flat_map short_line entries.now) }
     ensures err { OnErr result (BeginsWith out.old out.new) }
 {
+    let mut room = LineRoom::new();
     for short in entries {
-        print_short(short, out)?;
+        print_short(short, &mut room, out)?;
     }
     Ok(())
 }
 
 // The line of an entry. That of a call is printed as that of the whole entry, which says the same.
 #[tactic(auto, using(run_model::proofs::TextLemmas::begins_grown, run_model::proofs::TextLemmas::always_err))]
-fn print_short(short: &Short, out: &mut Bytes) -> Result<(), NoMemory>
+fn print_short(short: &Short, room: &mut LineRoom, out: &mut Bytes) -> Result<(), NoMemory>
     ensures ok { OnOk result (out.new ≡ out.old ++ short_line short.now) }
     ensures err { OnErr result (BeginsWith out.old out.new) }
 {
@@ -99,7 +102,7 @@ fn print_short(short: &Short, out: &mut Bytes) -> Result<(), NoMemory>
                 reply: reply.clone()?,
             },
         };
-        return line_of(&entry, out);
+        return line_with(room, &entry, out);
     }
     out.append(b"e")?;
     put_number(u64::from(short.replica), out)?;

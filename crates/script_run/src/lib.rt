@@ -4,6 +4,7 @@
 mod comments;
 mod outbox;
 mod outcome;
+mod page;
 mod playing;
 mod stage;
 mod witness;

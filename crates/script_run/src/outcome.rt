@@ -6,6 +6,7 @@ ghost use Rattle.script_text.specs.Scripts.{IsScript};
 ghost use Rattle.script_text.specs.Setups.{setup_of};
 
 use crate::comments::show;
+use crate::page::Page;
 use crate::stage::{Stage, step_all};
 use crate::witness::Witness;
 use script_text::Script;
@@ -45,7 +46,7 @@ impl Outcome {
         ensures saw { OnOk result (W.saw witness.new (history_of (setup_of script.now) script.now)) }
     {
         let mut stage = Stage::new(alloc, script.config(), false)?;
-        let mut scratch = Bytes::new(alloc);
+        let mut scratch = Page::with(Bytes::new(alloc));
         step_all(&mut stage, script.lines(), witness, &mut scratch)?;
         Ok(Outcome { stage })
     }

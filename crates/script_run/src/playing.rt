@@ -8,6 +8,7 @@ ghost use Rattle.script_text.specs.Scripts.{IsScript};
 ghost use Rattle.script_text.specs.Setups.{setup_of};
 ghost use Rattle.script_run.specs.Playing.{Completes, HasCause, IsWritten, Writes, WritesText};
 
+use crate::page::Page;
 use crate::stage::{Stage, step_all};
 use crate::witness::Count;
 use run_model::{InputKind, Status, end_of, head_of};
@@ -79,11 +80,11 @@ fn text_of(alloc: Global, script: &Script) -> Result<Bytes, NoMemory>
     requires few { length script.now ≤ SCRIPT_LINES }
     ensures { IfOk result (λ text. text ≡ play_text (setup_of script.now) script.now) }
 {
-    let mut text = Bytes::ample(alloc, AMPLE);
-    head_of(script.config(), &mut text)?;
+    let mut page = Page::with(Bytes::ample(alloc, AMPLE));
+    head_of(script.config(), &mut page.text)?;
     let mut stage = Stage::new(alloc, script.config(), true)?;
     let mut count = Count { entries: 0 };
-    step_all(&mut stage, script.lines(), &mut count, &mut text)?;
-    end_of(count.entries, &mut text)?;
-    Ok(text)
+    step_all(&mut stage, script.lines(), &mut count, &mut page)?;
+    end_of(count.entries, &mut page.text)?;
+    Ok(page.into_text())
 }

@@ -17,12 +17,13 @@ mod sending;
 
 use crate::comments::{needs, reference, show};
 use crate::outbox::Outbox;
+use crate::page::Page;
 use crate::witness::Witness;
 use calling::needs_in;
 use given_up::GivenUp;
 use reference_book::Book;
 use replica_set::ReplicaSet;
-use run_model::{Act, Config, Entry, Line, line_of};
+use run_model::{Act, Config, Entry, Line, line_with};
 use std::alloc::Global;
 use tact_base::{Bytes, NoMemory, Numbers};
 
@@ -81,7 +82,7 @@ impl Stage {
         &mut self,
         line: &Line,
         witness: &mut W,
-        out: &mut Bytes,
+        out: &mut Page,
     ) -> Result<(), NoMemory>
         requires keeps { Keeps self.old }
         requires ready { IsReadyFor (setup_in self.old) self.old.history.items line.now }
@@ -144,8 +145,8 @@ impl Stage {
                 amount,
             } => self.give_back(*holder, *owner, *conit, *amount, witness, out),
             Line::Restart { replica } => self.restart(*replica, witness, out),
-            Line::Show { replica } => self.show(*replica, out),
-            Line::Ref { conit } => self.tell_reference(*conit, out),
+            Line::Show { replica } => self.show(*replica, &mut out.text),
+            Line::Ref { conit } => self.tell_reference(*conit, &mut out.text),
         }
     }
 
@@ -188,7 +189,7 @@ impl Stage {
         &mut self,
         entry: &Entry,
         witness: &mut W,
-        out: &mut Bytes,
+        out: &mut Page,
     ) -> Result<(), NoMemory>
         requires made { IsMade self.old entry.now }
         requires saw { W.saw witness.old self.old.history.items }
@@ -206,7 +207,7 @@ impl Stage {
         &self,
         entry: &Entry,
         witness: &mut W,
-        out: &mut Bytes,
+        out: &mut Page,
     ) -> Result<GivenUp<Entry>, NoMemory>
         requires made { IsMade self.now entry.now }
         requires saw { W.saw witness.old self.now.history.items }
@@ -214,8 +215,8 @@ impl Stage {
         ensures saw { IfOk result (λ history. W.saw witness.new history.items) }
     {
         if self.prints {
-            line_of(entry, out)?;
-            self.comment_on(entry, out)?;
+            line_with(&mut out.room, entry, &mut out.text)?;
+            self.comment_on(entry, &mut out.text)?;
         }
         witness.sees(entry)?;
         Ok(self.history.and(entry))
@@ -237,7 +238,7 @@ impl Stage {
         &mut self,
         replica: u32,
         witness: &mut W,
-        out: &mut Bytes,
+        out: &mut Page,
     ) -> Result<(), NoMemory>
         requires keeps { Keeps self.old }
         requires replica { replica < (setup_in self.old).replicas }
@@ -266,7 +267,7 @@ pub(crate) fn step_all<W: Witness>(
     stage: &mut Stage,
     lines: &[Line],
     witness: &mut W,
-    text: &mut Bytes,
+    page: &mut Page,
 ) -> Result<(), NoMemory>
     requires script { IsScript lines.now }
     requires few { length lines.now ≤ SCRIPT_LINES }
@@ -276,10 +277,10 @@ pub(crate) fn step_all<W: Witness>(
     requires saw { W.saw witness.old stage.old.history.items }
     ensures goes { OnOk result (GoesOnTo stage.old stage.new (played_by (setup_of lines.now) lines.now)) }
     ensures saw { OnOk result (W.saw witness.new stage.new.history.items) }
-    ensures text { OnOk result (stage.old.prints ≡ true → text.new ≡ text.old ++ lines_text (setup_of lines.now) not_played lines.now) }
+    ensures text { OnOk result (stage.old.prints ≡ true → page.new ≡ page.old ++ lines_text (setup_of lines.now) not_played lines.now) }
 {
     for line in lines {
-        stage.step(line, witness, text)?;
+        stage.step(line, witness, page)?;
     }
     Ok(())
 }

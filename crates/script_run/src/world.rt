@@ -3,6 +3,7 @@ ghost use Rattle.std.specs.Prelude.{◌≡◌, [], ◌∷◌, ◌++◌, true, fa
 ghost use Rattle.run_model.specs.ScriptRuns.{played_by, history_of, text_after};
 ghost use Rattle.script_run.specs.Worlds.{AreFirstLines};
 
+use crate::page::Page;
 use crate::stage::Stage;
 use given_up::GivenUp;
 use run_model::{Config, Entry, Line};
@@ -20,7 +21,7 @@ pub struct World {
     entries: Items<Entry>,
     lines: GivenUp<Line>,
     /// What the last line printed.
-    text: Bytes,
+    page: Page,
     spent: bool,
 }
 
@@ -45,7 +46,7 @@ impl World {
             stage: Stage::new(alloc, config, true)?,
             entries: Items::new(alloc),
             lines: GivenUp::new(),
-            text: Bytes::new(alloc),
+            page: Page::with(Bytes::new(alloc)),
             spent: false,
         })
     }
@@ -67,9 +68,9 @@ impl World {
         }
         self.spent = true;
         self.lines = self.lines.and(line);
-        self.text.truncate(0);
-        self.stage.step(line, &mut self.entries, &mut self.text)?;
-        out.append(self.text.items())?;
+        self.page.text.truncate(0);
+        self.stage.step(line, &mut self.entries, &mut self.page)?;
+        out.append(self.page.text.items())?;
         self.spent = false;
         Ok(())
     }

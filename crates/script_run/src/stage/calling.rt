@@ -10,11 +10,12 @@ ghost use Rattle.reference_book.specs.Books.{IsBookOf, IsNextIn};
 ghost use Rattle.script_run.specs.Stages.{Asked, asked_by, IsAsking, IsAnsweredBy, needs_in, needs_met};
 
 use super::Stage;
+use crate::page::Page;
 use crate::witness::Witness;
 use reference_book::Book;
 use replica_set::ReplicaSet;
 use run_model::{Act, Entry, Line, Reply, Request};
-use tact_base::{Bytes, Need, NoMemory, Op, Weight, Weights, Write};
+use tact_base::{Need, NoMemory, Op, Weight, Weights, Write};
 
 impl Stage {
     ghost use Rattle.script_run.specs.Stages.{Keeps, Steps, IsReadyFor, setup_in};
@@ -26,7 +27,7 @@ impl Stage {
         client: u32,
         line: &Line,
         witness: &mut W,
-        out: &mut Bytes,
+        out: &mut Page,
     ) -> Result<(), NoMemory>
         requires keeps { Keeps self.old }
         requires ready { IsReadyFor (setup_in self.old) self.old.history.items line.now }

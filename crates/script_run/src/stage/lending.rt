@@ -5,10 +5,11 @@ ghost use Rattle.run_model.specs.declared.script_line.Line.TheVariants as line;
 
 use super::Stage;
 use crate::comments::{back_refused, lend_refused};
+use crate::page::Page;
 use crate::witness::Witness;
 use replica_core::LoanFault;
 use run_model::{Act, Entry};
-use tact_base::{Bytes, NoMemory};
+use tact_base::NoMemory;
 
 impl Stage {
     ghost use Rattle.script_run.specs.Stages.{Keeps, Steps, setup_in};
@@ -21,7 +22,7 @@ impl Stage {
         conit: u32,
         amount: u64,
         witness: &mut W,
-        out: &mut Bytes,
+        out: &mut Page,
     ) -> Result<(), NoMemory>
         requires keeps { Keeps self.old }
         requires owner { owner < (setup_in self.old).replicas }
@@ -50,7 +51,7 @@ impl Stage {
                 out,
             ),
             Err(LoanFault::Home { conit: _, home }) => {
-                lend_refused(owner, holder, conit, amount, home, out)
+                lend_refused(owner, holder, conit, amount, home, &mut out.text)
             }
             Err(_) => Err(NoMemory),
         }
@@ -64,7 +65,7 @@ impl Stage {
         conit: u32,
         amount: u64,
         witness: &mut W,
-        out: &mut Bytes,
+        out: &mut Page,
     ) -> Result<(), NoMemory>
         requires keeps { Keeps self.old }
         requires holder { holder < (setup_in self.old).replicas }
@@ -96,7 +97,7 @@ impl Stage {
                 out,
             ),
             Err(LoanFault::Free { conit: _, free }) => {
-                back_refused(holder, owner, conit, amount, free, out)
+                back_refused(holder, owner, conit, amount, free, &mut out.text)
             }
             Err(_) => Err(NoMemory),
         }

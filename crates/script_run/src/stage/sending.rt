@@ -9,10 +9,11 @@ ghost use Rattle.script_run.specs.Stages.{IsSentBy};
 
 use super::Stage;
 use crate::outbox::Outbox;
+use crate::page::Page;
 use crate::witness::Witness;
 use replica_set::ReplicaSet;
 use run_model::{Act, Entry, Message};
-use tact_base::{Bytes, NoMemory, Numbers};
+use tact_base::{NoMemory, Numbers};
 
 impl Stage {
     ghost use Rattle.script_run.specs.Stages.{Keeps, Enters, setup_in, played_in};
@@ -24,7 +25,7 @@ impl Stage {
         to: u32,
         firsts: &Numbers,
         witness: &mut W,
-        out: &mut Bytes,
+        out: &mut Page,
     ) -> Result<(), NoMemory>
         requires keeps { Keeps self.old }
         requires from { from < (setup_in self.old).replicas }
@@ -59,7 +60,7 @@ impl Stage {
         from: u32,
         number: u64,
         witness: &mut W,
-        out: &mut Bytes,
+        out: &mut Page,
     ) -> Result<(), NoMemory>
         requires keeps { Keeps self.old }
         requires replica { replica < (setup_in self.old).replicas }
@@ -89,7 +90,7 @@ impl Stage {
         from: u32,
         to: u32,
         witness: &mut W,
-        out: &mut Bytes,
+        out: &mut Page,
     ) -> Result<(), NoMemory>
         requires keeps { Keeps self.old }
         requires from { from < (setup_in self.old).replicas }
