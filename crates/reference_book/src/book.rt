@@ -20,7 +20,11 @@ use rollback_apply::Image;
 use run_model::Config;
 use std::alloc::Global;
 use std::marker::Model;
+use std::slice;
 use tact_base::{NoMemory, RoomyList, Write, WriteList};
+
+// For so many writes of an origin memory is taken at first, if it can be had.
+const LOG_ROOM: usize = 1_024;
 
 /// All writes that the replicas of a setup accepted, by origin, with the sums of their weights, which are kept as
 /// writes come. Contracts see on how many conits the writes may weigh, and the writes by origin; `IsBookOf` says of
@@ -50,7 +54,7 @@ impl Book {
     {
         let mut logs = Vec::with_capacity(alloc, config.replicas() as usize)?;
         for _ in 0..config.replicas() {
-            logs.push(WriteList::new(alloc))?;
+            logs.push(WriteList::ample(alloc, LOG_ROOM))?;
         }
         let sums = Running::new(alloc, config.conits())?;
         Ok(Book { alloc, logs, sums })
@@ -68,7 +72,7 @@ impl Book {
         ensures err { OnErr result (self.new ≡ self.old) }
     {
         let log = &mut self.logs[write.origin as usize];
-        log.push_amply(*write)?;
+        log.append(slice::from_ref(write))?;
         self.sums.add(&write.weights);
         Ok(())
     }

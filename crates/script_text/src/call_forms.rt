@@ -1,6 +1,6 @@
 //! The forms of lines in which a client calls. Each reader is given what is left of the line after its first
 //! word, and the counts of replicas and conits, and adds the line to those before it.
-ghost use Rattle.std.specs.Prelude.{◌<◌, vec_len};
+ghost use Rattle.std.specs.Prelude.{◌≡◌, ◌<◌, [], vec_len};
 ghost use Rattle.std.specs.Vec.{vec_capacity};
 ghost use Rattle.run_record.specs.Splitting.{tokens};
 ghost use Rattle.script_text.specs.Adding.{AddsLine};
@@ -13,7 +13,7 @@ use run_record::{
     LineFault, ListEnd, client_at, end_at, needs_at, number_at, op_at, replica_at, weight_at,
     weights_at,
 };
-use tact_base::{AMOUNT_MAX, KEY_MAX};
+use tact_base::{AMOUNT_MAX, KEY_MAX, Weights};
 
 /// `write R K OP WEIGHT..`
 #[tactic(auto, unfolding(crate::specs::Forms::write_line))]
@@ -31,6 +31,15 @@ pub(crate) fn write_line(
     let (replica, rest) = replica_at(rest, replicas)?;
     let (client, rest) = client_at(rest)?;
     let (op, rest) = op_at(rest)?;
+    if rest.is_empty() {
+        lines.push_reserved(Line::Write {
+            replica,
+            client,
+            op,
+            weights: no_weights(),
+        });
+        return Ok(());
+    }
     let (weights, rest) = match weights_at(rest, conits, ListEnd::Line) {
         Ok(read) => read,
         Err(fault) => return Err(fault),
@@ -43,6 +52,16 @@ pub(crate) fn write_line(
         weights,
     });
     Ok(())
+}
+
+// The list of no weights.
+fn no_weights() -> Weights
+    ensures { result ≡ [] }
+{
+    match Weights::new(&[]) {
+        Ok(list) => list,
+        Err(_) => unreachable!(),
+    }
 }
 
 /// `held R K OP WEIGHT`

@@ -43,9 +43,9 @@ loop-line-preserved g c =
       c.in_ok-step.ensures.saw,
       λ prints.
           steps.text (goes.prints ∙ prints)
-          ∙ ap₂ (λ (s : Setup) (p : Played). c.loop-line.text ++ text_after s p l) same goes.played
+          ∙ ap₂ (λ (s : Setup) (p : Played). c.loop-line.page ++ text_after s p l) same goes.played
           ∙ ap (λ (text : List ℕ). text ++ printed) (c.loop-line.invariant.2 prints)
-          ∙ append_assoc c.args.text.now (lines_text setup not_played (take i lines)) printed
-          ∙ ap (λ (more : List ℕ). c.args.text.now ++ more) (sym (lines_text-push setup not_played (take i lines) l))
-          ∙ ap (λ (ls : List Line). c.args.text.now ++ lines_text setup not_played ls) (sym front),
+          ∙ append_assoc c.args.page.now (lines_text setup not_played (take i lines)) printed
+          ∙ ap (λ (more : List ℕ). c.args.page.now ++ more) (sym (lines_text-push setup not_played (take i lines) l))
+          ∙ ap (λ (ls : List Line). c.args.page.now ++ lines_text setup not_played ls) (sym front),
     )

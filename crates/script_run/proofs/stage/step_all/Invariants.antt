@@ -8,4 +8,4 @@ abbrev pub invariant-loop-line : goal.invariant-loop-line
 invariant-loop-line g l =
     GoesOnTo l.initial.stage l.stage (played_by (setup_of l.lines) (take l.line-index l.lines))
     × g.W.Witness.saw l.witness l.stage.history.items
-    × (l.initial.stage.prints ≡ true → l.text ≡ l.initial.text ++ lines_text (setup_of l.lines) not_played (take l.line-index l.lines))
+    × (l.initial.stage.prints ≡ true → l.page ≡ l.initial.page ++ lines_text (setup_of l.lines) not_played (take l.line-index l.lines))
