@@ -1,10 +1,11 @@
 //! An allowance that is reserved, split, joined, spent and released, and two on different conits.
-ghost use Rattle.std.specs.Prelude.{◌≡◌, ◌<◌, ◌≤◌, IfOk};
+ghost use Rattle.std.specs.Prelude.{◌≡◌, ◌<◌, ◌≤◌};
 ghost use Rattle.tact_base.specs.declared.limits.TheConstants.{AMOUNT_MAX};
 ghost use Rattle.run_history.specs.Seats.{fresh_clerk};
 ghost use Rattle.replica_lock.specs.Allowances.{IsAllowanceOf};
 ghost use Rattle.replica_lock.specs.Sessions.{IsSessionOf};
 
+use crate::opened::node_of;
 use crate::writers::session;
 use replica_lock::{Accepted, Allowance, Node, Reserving, Session};
 use run_history::{Clerk, Desk};
@@ -12,7 +13,6 @@ use run_model::Config;
 use std::alloc::Global;
 use std::process::Abort;
 use std::sync::Wait;
-use std::test::Fail;
 use tact_base::{Op, Weight};
 use tact_io::{FreeGate, SureJournal};
 
@@ -24,25 +24,21 @@ struct Wide {
     clerk: Clerk,
 }
 
-fn open_wide(alloc: Global) -> Result<Wide, Fail>
-    ensures setup { IfOk result (λ made. made.desk.setup ≡ made.config) }
-    ensures clerk { IfOk result (λ made. made.clerk ≡ fresh_clerk made.desk.table 0) }
+fn open_wide(rt: &impl Abort, alloc: Global) -> Wide
+    ensures setup { result.desk.setup ≡ result.config }
+    ensures conits { result.config.conits ≡ 2 }
+    ensures clerk { result.clerk ≡ fresh_clerk result.desk.table 0 }
 {
-    let config = Config::new(
-        alloc,
-        2,
-        2,
-        &[10, 10, 10, 10],
-        &[0, 10, 0, 10, 10, 0, 10, 0],
-    )?;
-    let (desk, mut clerks) = Desk::new(alloc, &config)?;
-    let _ = clerks.pop().ok_or("a second clerk")?;
-    let clerk = clerks.pop().ok_or("a first clerk")?;
-    Ok(Wide {
+    let loans = [0, 10, 0, 10, 10, 0, 10, 0];
+    let config = Config::new(alloc, 2, 2, &[10, 10, 10, 10], &loans).expect(rt, "a setup");
+    let (desk, mut clerks) = Desk::new(alloc, &config).expect(rt, "a desk");
+    let _ = clerks.pop().expect(rt, "a second clerk");
+    let clerk = clerks.pop().expect(rt, "a first clerk");
+    Wide {
         desk,
         config,
         clerk,
-    })
+    }
 }
 
 // Reserves an amount on conit 0, which is granted.
@@ -134,36 +130,34 @@ fn join_across<R: Wait + Abort>(
     assert_eq!(rt; (back.conit(), back.amount()), (1, 0));
 }
 
+// All that is done with an allowance of 6: three calls, each with an entry.
+fn reserve_and_spend<R: Wait + Abort>(
+    rt: &R,
+    node: &Node<'_, SureJournal, FreeGate>,
+    session: &mut Session,
+)
+    requires session { IsSessionOf node.now session.old }
+    requires setup { 1 < node.now.desk.setup.conits }
+{
+    let mut allowance = reserve(rt, node, session, 6);
+    split_and_join(rt, node, &mut allowance);
+    let (accepted, left, released) = spend_and_release(rt, node, session, &mut allowance);
+    assert_eq!(rt; (accepted.index, accepted.stamp), (0, 1));
+    assert_eq!(rt; (left, released, allowance.amount()), (2, 2, 0));
+    join_across(rt, node, session, &mut allowance);
+    assert_eq!(rt; (session.calls(), session.made()), (3, 3));
+}
+
 #[test]
-fn an_allowance_is_spent(rt: HostRuntime) -> Result<(), Fail> {
+fn an_allowance_is_spent(rt: HostRuntime) {
     let Wide {
         desk,
         config,
         clerk,
-    } = open_wide(rt.alloc())?;
-    let Ok((node, mut roster)) = Node::new(
-        rt.alloc(),
-        &desk,
-        &config,
-        clerk,
-        SureJournal::new(rt.alloc()),
-        FreeGate::new(),
-    ) else {
-        panic!(rt; "no memory")
-    };
-    if config.conits() != 2 {
-        panic!(rt; "two conits");
-    }
+    } = open_wide(&rt, rt.alloc());
+    let (node, mut roster) = node_of(&rt, rt.alloc(), &desk, &config, clerk);
     let mut one = session(&rt, &node, &mut roster, 0);
-    let mut allowance = reserve(&rt, &node, &mut one, 6);
-    split_and_join(&rt, &node, &mut allowance);
-    let (accepted, left, released) = spend_and_release(&rt, &node, &mut one, &mut allowance);
-    assert_eq!(rt; (accepted.index, accepted.stamp), (0, 1));
-    assert_eq!(rt; (left, released, allowance.amount()), (2, 2, 0));
-    join_across(&rt, &node, &mut one, &mut allowance);
-    let counts = (one.calls(), one.made());
+    reserve_and_spend(&rt, &node, &mut one);
     let ended = node.end(&rt, roster);
-    assert_eq!(rt; counts, (3, 3));
     assert_eq!(rt; ended.stored.pairs().len(), 3);
-    Ok(())
 }

@@ -18,7 +18,6 @@ use run_model::{Act, Config, Reply, Request};
 use std::alloc::Global;
 use std::process::Abort;
 use std::sync::Wait;
-use std::test::Fail;
 use std::thread;
 use std::thread::Threads;
 use tact_base::{Need, Needs, Op, Weight, Weights};
@@ -274,26 +273,19 @@ fn all_made(rt: &impl Abort, made: &Made) -> u64 {
 }
 
 // All that was stored is the record of a run with so many calls.
-fn is_lawful(
-    rt: &impl Abort,
-    alloc: Global,
-    config: &Config,
-    ended: &Ended,
-    calls: u64,
-) -> Result<(), Fail> {
+fn is_lawful(rt: &impl Abort, alloc: Global, config: &Config, ended: &Ended, calls: u64) {
     let stored = [&ended.first, &ended.second, &ended.third, &ended.fourth];
-    let Verdict::Run(summary) = judged(alloc, config, &stored)? else {
+    let Verdict::Run(summary) = judged(rt, alloc, config, &stored) else {
         panic!(rt; "it isn't the record of a run")
     };
     assert_eq!(rt; (summary.calls, summary.sends), (calls, 192));
     assert!(rt; 0 < summary.takes && 0 < summary.writes);
     let others = summary.takes.saturating_add(192);
     assert_eq!(rt; calls.saturating_add(others), summary.entries);
-    Ok(())
 }
 
 #[test]
-fn four_nodes_with_eight_clients_each(rt: HostRuntime) -> Result<(), Fail> {
+fn four_nodes_with_eight_clients_each(rt: HostRuntime) {
     let Four {
         desk,
         config,
@@ -301,7 +293,7 @@ fn four_nodes_with_eight_clients_each(rt: HostRuntime) -> Result<(), Fail> {
         second,
         third,
         fourth,
-    } = open_four(rt.alloc())?;
+    } = open_four(&rt, rt.alloc());
     let (boxes, keys) = Boxes::new(&rt, rt.alloc(), &desk, PLAN, first.note(&desk));
     let (one, mut one_roster) = node_of(&rt, rt.alloc(), &desk, &config, first);
     let (two, mut two_roster) = node_of(&rt, rt.alloc(), &desk, &config, second);
@@ -328,5 +320,5 @@ fn four_nodes_with_eight_clients_each(rt: HostRuntime) -> Result<(), Fail> {
     for counts in counts {
         assert_eq!(rt; (counts.puts, counts.lost), (48, 9));
     }
-    is_lawful(&rt, rt.alloc(), &config, &ended, calls)
+    is_lawful(&rt, rt.alloc(), &config, &ended, calls);
 }

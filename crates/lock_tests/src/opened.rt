@@ -1,5 +1,5 @@
 //! Desks for two replicas on one conit, their nodes, and requests of clients.
-ghost use Rattle.std.specs.Prelude.{◌≡◌, [], IfOk, vec_len, slice_index_or};
+ghost use Rattle.std.specs.Prelude.{◌≡◌, []};
 ghost use Rattle.tact_base.specs.Setup.{Setup};
 ghost use Rattle.run_model.specs.Ranges.{IsRequestInRange};
 ghost use Rattle.run_history.specs.Seats.{fresh_clerk};
@@ -9,9 +9,8 @@ ghost use Rattle.replica_lock.specs.Rosters.{IsRosterOf};
 use replica_lock::{Node, Roster};
 use run_history::{Clerk, Desk};
 use run_model::{Config, Request};
-use std::alloc::{AllocError, Global};
+use std::alloc::Global;
 use std::process::Abort;
-use std::test::Fail;
 use tact_base::{Needs, Op, Weights};
 use tact_io::{FreeGate, SureJournal};
 
@@ -25,22 +24,22 @@ pub struct Opened {
 }
 
 /// Opens a desk.
-pub fn open_two(alloc: Global) -> Result<Opened, Fail>
-    ensures setup { IfOk result (λ made. made.desk.setup ≡ made.config) }
-    ensures first { IfOk result (λ made. made.first ≡ fresh_clerk made.desk.table 0) }
-    ensures second { IfOk result (λ made. made.second ≡ fresh_clerk made.desk.table 1) }
-    ensures replicas { IfOk result (λ made. made.config.replicas ≡ 2) }
+pub fn open_two(rt: &impl Abort, alloc: Global) -> Opened
+    ensures setup { result.desk.setup ≡ result.config }
+    ensures first { result.first ≡ fresh_clerk result.desk.table 0 }
+    ensures second { result.second ≡ fresh_clerk result.desk.table 1 }
+    ensures replicas { result.config.replicas ≡ 2 }
 {
-    let config = Config::new(alloc, 2, 1, &[10, 10], &[0, 10, 10, 0])?;
-    let (desk, mut clerks) = Desk::new(alloc, &config)?;
-    let second = clerks.pop().ok_or("a second clerk")?;
-    let first = clerks.pop().ok_or("a first clerk")?;
-    Ok(Opened {
+    let config = Config::new(alloc, 2, 1, &[10, 10], &[0, 10, 10, 0]).expect(rt, "a setup");
+    let (desk, mut clerks) = Desk::new(alloc, &config).expect(rt, "a desk");
+    let second = clerks.pop().expect(rt, "a second clerk");
+    let first = clerks.pop().expect(rt, "a first clerk");
+    Opened {
         desk,
         config,
         first,
         second,
-    })
+    }
 }
 
 /// A desk for four replicas, its setup, and the clerk of each.
@@ -55,29 +54,29 @@ pub struct Four {
 }
 
 /// Opens a desk for four replicas, of which each lends 4 of its 12 to each other.
-pub fn open_four(alloc: Global) -> Result<Four, Fail>
-    ensures setup { IfOk result (λ made. made.desk.setup ≡ made.config) }
-    ensures counts { IfOk result (λ made. (made.config.replicas ≡ 4) × (made.config.conits ≡ 1)) }
-    ensures first { IfOk result (λ made. made.first ≡ fresh_clerk made.desk.table 0) }
-    ensures second { IfOk result (λ made. made.second ≡ fresh_clerk made.desk.table 1) }
-    ensures third { IfOk result (λ made. made.third ≡ fresh_clerk made.desk.table 2) }
-    ensures fourth { IfOk result (λ made. made.fourth ≡ fresh_clerk made.desk.table 3) }
+pub fn open_four(rt: &impl Abort, alloc: Global) -> Four
+    ensures setup { result.desk.setup ≡ result.config }
+    ensures counts { (result.config.replicas ≡ 4) × (result.config.conits ≡ 1) }
+    ensures first { result.first ≡ fresh_clerk result.desk.table 0 }
+    ensures second { result.second ≡ fresh_clerk result.desk.table 1 }
+    ensures third { result.third ≡ fresh_clerk result.desk.table 2 }
+    ensures fourth { result.fourth ≡ fresh_clerk result.desk.table 3 }
 {
     let loans = [0, 4, 4, 4, 4, 0, 4, 4, 4, 4, 0, 4, 4, 4, 4, 0];
-    let config = Config::new(alloc, 4, 1, &[12, 12, 12, 12], &loans)?;
-    let (desk, mut clerks) = Desk::new(alloc, &config)?;
-    let fourth = clerks.pop().ok_or("a fourth clerk")?;
-    let third = clerks.pop().ok_or("a third clerk")?;
-    let second = clerks.pop().ok_or("a second clerk")?;
-    let first = clerks.pop().ok_or("a first clerk")?;
-    Ok(Four {
+    let config = Config::new(alloc, 4, 1, &[12, 12, 12, 12], &loans).expect(rt, "a setup");
+    let (desk, mut clerks) = Desk::new(alloc, &config).expect(rt, "a desk");
+    let fourth = clerks.pop().expect(rt, "a fourth clerk");
+    let third = clerks.pop().expect(rt, "a third clerk");
+    let second = clerks.pop().expect(rt, "a second clerk");
+    let first = clerks.pop().expect(rt, "a first clerk");
+    Four {
         desk,
         config,
         first,
         second,
         third,
         fourth,
-    })
+    }
 }
 
 /// The node of a clerk that drew nothing, and its roster.
@@ -108,15 +107,15 @@ pub fn node_of<'d>(
 }
 
 /// Closes a desk for two replicas with their clerks, and gives how many entries its history has.
-pub fn closed(alloc: Global, desk: Desk, first: Clerk, second: Clerk) -> Result<u64, AllocError>
+pub fn closed(rt: &impl Abort, alloc: Global, desk: Desk, first: Clerk, second: Clerk) -> u64
     requires replicas { desk.setup.replicas ≡ 2 }
     requires first { (first.table ≡ desk.table) × (first.replica ≡ 0) }
     requires second { (second.table ≡ desk.table) × (second.replica ≡ 1) }
 {
-    let mut clerks = Vec::new(alloc);
-    clerks.push(first)?;
-    clerks.push(second)?;
-    Ok(desk.close(clerks).entries())
+    let Ok(clerks) = vec![in alloc; first, second] else {
+        panic!(rt; "no memory")
+    };
+    desk.close(clerks).entries()
 }
 
 /// A write without weights, which adds 1 to key 7.

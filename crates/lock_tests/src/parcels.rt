@@ -9,7 +9,6 @@ use run_history::Desk;
 use run_model::Act;
 use std::process::Abort;
 use std::sync::Wait;
-use std::test::Fail;
 use tact_io::SureJournal;
 
 // Replica 0 writes and sends to replica 1. It has something to tell it from then on.
@@ -120,14 +119,22 @@ fn mark(rt: &impl Abort, ended: &Ended<SureJournal>, marks: &mut [u8; 15]) {
     }
 }
 
+// What both stored, by tick.
+fn are_marked(rt: &impl Abort, one: &Ended<SureJournal>, other: &Ended<SureJournal>) {
+    let mut marks = [b'.'; 15];
+    mark(rt, one, &mut marks);
+    mark(rt, other, &mut marks);
+    assert_eq!(rt; &marks, b"csttcstcscstctc");
+}
+
 #[test]
-fn parcels_are_taken_twice_and_late(rt: HostRuntime) -> Result<(), Fail> {
+fn parcels_are_taken_twice_and_late(rt: HostRuntime) {
     let Opened {
         desk,
         config,
         first,
         second,
-    } = open_two(rt.alloc())?;
+    } = open_two(&rt, rt.alloc());
     let (one, mut roster) = node_of(&rt, rt.alloc(), &desk, &config, first);
     let (other, mut other_roster) = node_of(&rt, rt.alloc(), &desk, &config, second);
     let sender = Client::new(&rt, &one, &mut roster, 0);
@@ -135,11 +142,7 @@ fn parcels_are_taken_twice_and_late(rt: HostRuntime) -> Result<(), Fail> {
     exchange(&rt, &desk, sender, taker);
     let one = one.end(&rt, roster);
     let other = other.end(&rt, other_roster);
-    let mut marks = [b'.'; 15];
-    mark(&rt, &one, &mut marks);
-    mark(&rt, &other, &mut marks);
-    assert_eq!(rt; &marks, b"csttcstcscstctc");
-    let entries = closed(rt.alloc(), desk, one.clerk, other.clerk)?;
+    are_marked(&rt, &one, &other);
+    let entries = closed(&rt, rt.alloc(), desk, one.clerk, other.clerk);
     assert_eq!(rt; entries, 15);
-    Ok(())
 }

@@ -5,45 +5,38 @@ use run_check::{Verdict, check_record, put_verdict};
 use run_model::{Config, end_of, head_of, line_of};
 use run_record::parse_text;
 use std::alloc::Global;
-use std::test::Fail;
+use std::process::Abort;
 use tact_base::Bytes;
 
 /// The line that the checker says of all that nodes stored.
-pub fn said_of(alloc: Global, config: &Config, stored: &[&Stored]) -> Result<Bytes, Fail> {
-    match judged(alloc, config, stored) {
-        Ok(verdict) => line_on(alloc, &verdict),
-        Err(fault) => Err(fault),
-    }
-}
-
-// The line on a verdict.
-fn line_on(alloc: Global, verdict: &Verdict) -> Result<Bytes, Fail> {
+pub fn said_of(rt: &impl Abort, alloc: Global, config: &Config, stored: &[&Stored]) -> Bytes {
+    let verdict = judged(rt, alloc, config, stored);
     let mut line = Bytes::new(alloc);
-    put_verdict(alloc, verdict, &mut line)?;
-    Ok(line)
+    put_verdict(alloc, &verdict, &mut line).expect(rt, "a line");
+    line
 }
 
 /// What the checker says of all that nodes stored: printed by tick, and read again.
-pub fn judged(alloc: Global, config: &Config, stored: &[&Stored]) -> Result<Verdict, Fail> {
-    let text = text_of(alloc, config, stored)?;
-    let record = parse_text(alloc, text.items())?;
-    Ok(check_record(alloc, &record)?)
+pub fn judged(rt: &impl Abort, alloc: Global, config: &Config, stored: &[&Stored]) -> Verdict {
+    let text = text_of(rt, alloc, config, stored);
+    let record = parse_text(alloc, text.items()).expect(rt, "a record");
+    check_record(alloc, &record).expect(rt, "a verdict")
 }
 
 // The record of what nodes stored, as text, with the entries by tick.
-fn text_of(alloc: Global, config: &Config, stored: &[&Stored]) -> Result<Bytes, Fail> {
+fn text_of(rt: &impl Abort, alloc: Global, config: &Config, stored: &[&Stored]) -> Bytes {
     let mut pairs = Vec::new(alloc);
     for part in stored {
         for pair in part.pairs() {
-            pairs.push(pair)?;
+            pairs.push(pair).expect(rt, "room for a pair");
         }
     }
-    pairs.sort_by_key(|pair| pair.0)?;
+    pairs.sort_by_key(|pair| pair.0).expect(rt, "room to sort");
     let mut text = Bytes::new(alloc);
-    head_of(config, &mut text)?;
+    head_of(config, &mut text).expect(rt, "a head");
     for (_, entry) in pairs.iter() {
-        line_of(entry, &mut text)?;
+        line_of(entry, &mut text).expect(rt, "a line");
     }
-    end_of(pairs.len() as u64, &mut text)?;
-    Ok(text)
+    end_of(pairs.len() as u64, &mut text).expect(rt, "an end");
+    text
 }

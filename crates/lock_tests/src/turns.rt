@@ -3,13 +3,12 @@ ghost use Rattle.std.specs.Prelude.{◌≡◌, ◌<◌, Contains};
 ghost use Rattle.replica_lock.specs.Rosters.{IsRosterOf};
 ghost use Rattle.replica_lock.specs.Sessions.{IsSessionOf};
 
-use crate::opened::{Opened, open_two, plain_read, plain_write};
+use crate::opened::{Opened, node_of, open_two, plain_read, plain_write};
 use crate::writers::{session, write};
 use replica_lock::{Node, Roster, Session, SessionFault};
 use run_model::Reply;
 use std::process::Abort;
 use std::sync::Wait;
-use std::test::Fail;
 use tact_io::{FreeGate, SureJournal};
 
 // Reads key 7.
@@ -58,36 +57,39 @@ fn is_taken(rt: &impl Abort, node: &Node<'_, SureJournal, FreeGate>, roster: &mu
     assert_eq!(rt; fault, SessionFault::Taken { client: 0 });
 }
 
+// One client writes, another hears of it and reads, and the first writes once more, in a turn.
+fn hear_and_turn<R: Wait + Abort>(
+    rt: &R,
+    node: &Node<'_, SureJournal, FreeGate>,
+    one: &mut Session,
+    other: &mut Session,
+)
+    requires one { IsSessionOf node.now one.old }
+    requires other { IsSessionOf node.now other.old }
+{
+    let first = write(rt, node, one);
+    let note = node.note(one);
+    node.hear(rt, other, note);
+    let value = read(rt, node, other);
+    let second = write_in_turn(rt, node, one);
+    assert_eq!(rt; (first, value, second), (0, 1, 1));
+    let counts = [one.calls(), one.made(), other.calls(), other.made()];
+    assert_eq!(rt; counts, [2, 2, 1, 1]);
+}
+
 #[test]
-fn a_note_and_a_turn(rt: HostRuntime) -> Result<(), Fail> {
+fn a_note_and_a_turn(rt: HostRuntime) {
     let Opened {
         desk,
         config,
         first,
         second: _,
-    } = open_two(rt.alloc())?;
-    let Ok((node, mut roster)) = Node::new(
-        rt.alloc(),
-        &desk,
-        &config,
-        first,
-        SureJournal::new(rt.alloc()),
-        FreeGate::new(),
-    ) else {
-        panic!(rt; "no memory")
-    };
+    } = open_two(&rt, rt.alloc());
+    let (node, mut roster) = node_of(&rt, rt.alloc(), &desk, &config, first);
     let mut one = session(&rt, &node, &mut roster, 0);
     let mut other = session(&rt, &node, &mut roster, 1);
     is_taken(&rt, &node, &mut roster);
-    let first = write(&rt, &node, &mut one);
-    let note = node.note(&mut one);
-    node.hear(&rt, &mut other, note);
-    let value = read(&rt, &node, &mut other);
-    let second = write_in_turn(&rt, &node, &mut one);
-    let counts = [one.calls(), one.made(), other.calls(), other.made()];
+    hear_and_turn(&rt, &node, &mut one, &mut other);
     let ended = node.end(&rt, roster);
-    assert_eq!(rt; (first, value, second), (0, 1, 1));
-    assert_eq!(rt; counts, [2, 2, 1, 1]);
     assert_eq!(rt; ended.stored.pairs().len(), 3);
-    Ok(())
 }

@@ -12,10 +12,11 @@ use postbox::Postbox;
 use replica_lock::{Node, Parcel, Session};
 use run_history::Desk;
 use run_model::Reply;
+use std::alloc::Global;
 use std::process::Abort;
 use std::sync::Wait;
-use std::test::Fail;
 use std::thread;
+use std::thread::Threads;
 use tact_io::{FreeGate, SureJournal};
 
 const SAID: &[u8] = b"run 8 calls 4 writes 2 waits 0 sends 2 takes 2 lends 0 backs 0 restarts 0\n";
@@ -62,38 +63,57 @@ fn visit<R: Wait + Abort>(
     }
 }
 
+// Both visits at once, with a postbox for each replica: the value that each of them read.
+fn meet<R: Threads + Wait + Abort + Sync>(
+    rt: &R,
+    alloc: Global,
+    desk: &Desk,
+    north: &Node<'_, SureJournal, FreeGate>,
+    south: &Node<'_, SureJournal, FreeGate>,
+    mut ann: Session,
+    mut bob: Session,
+) -> (i64, i64)
+    requires replicas { desk.now.setup.replicas ≡ 2 }
+    requires north { (north.now.desk ≡ desk.now) × (north.now.replica ≡ 0) }
+    requires south { (south.now.desk ≡ desk.now) × (south.now.replica ≡ 1) }
+    requires ann { IsSessionOf north.now ann }
+    requires bob { IsSessionOf south.now bob }
+{
+    let plan = LinkPlan::default();
+    let (to_north, north_key) = Postbox::new(alloc, plan, north.note(&mut ann), 0).expect(
+        rt,
+        "a postbox",
+    );
+    let (to_south, south_key) = Postbox::new(alloc, plan, south.note(&mut bob), 1).expect(
+        rt,
+        "a postbox",
+    );
+    let values = thread::join(
+        rt,
+        || visit(rt, desk, north, ann, &to_north, &to_south),
+        || visit(rt, desk, south, bob, &to_south, &to_north),
+    );
+    to_north.end(rt, north_key);
+    to_south.end(rt, south_key);
+    values
+}
+
 #[test]
-fn two_nodes_on_threads(rt: HostRuntime) -> Result<(), Fail> {
+fn two_nodes_on_threads(rt: HostRuntime) {
     let Opened {
         desk,
         config,
         first,
         second,
-    } = open_two(rt.alloc())?;
+    } = open_two(&rt, rt.alloc());
     let (north, mut north_roster) = node_of(&rt, rt.alloc(), &desk, &config, first);
     let (south, mut south_roster) = node_of(&rt, rt.alloc(), &desk, &config, second);
-    let mut ann = session(&rt, &north, &mut north_roster, 0);
-    let mut bob = session(&rt, &south, &mut south_roster, 0);
-    let plan = LinkPlan::default();
-    let (to_north, north_key) = Postbox::new(rt.alloc(), plan, north.note(&mut ann), 0).expect(
-        &rt,
-        "a postbox",
-    );
-    let (to_south, south_key) = Postbox::new(rt.alloc(), plan, south.note(&mut bob), 1).expect(
-        &rt,
-        "a postbox",
-    );
-    let values = thread::join(
-        &rt,
-        || visit(&rt, &desk, &north, ann, &to_north, &to_south),
-        || visit(&rt, &desk, &south, bob, &to_south, &to_north),
-    );
-    to_north.end(&rt, north_key);
-    to_south.end(&rt, south_key);
+    let ann = session(&rt, &north, &mut north_roster, 0);
+    let bob = session(&rt, &south, &mut south_roster, 0);
+    let values = meet(&rt, rt.alloc(), &desk, &north, &south, ann, bob);
     let north = north.end(&rt, north_roster).stored;
     let south = south.end(&rt, south_roster).stored;
-    let said = said_of(rt.alloc(), &config, &[&north, &south])?;
+    let said = said_of(&rt, rt.alloc(), &config, &[&north, &south]);
     assert_eq!(rt; values, (2, 2));
     assert_eq!(rt; said.items(), SAID);
-    Ok(())
 }

@@ -4,12 +4,11 @@ ghost use Rattle.tact_base.specs.declared.limits.TheConstants.{CLIENTS};
 ghost use Rattle.replica_lock.specs.Rosters.{IsRosterOf};
 ghost use Rattle.replica_lock.specs.Sessions.{IsSessionOf};
 
-use crate::opened::{Opened, open_two, plain_write};
+use crate::opened::{Opened, node_of, open_two, plain_write};
 use replica_lock::{Node, Roster, Session};
 use run_model::Reply;
 use std::process::Abort;
 use std::sync::Wait;
-use std::test::Fail;
 use std::thread;
 use tact_io::{FreeGate, SureJournal};
 
@@ -71,23 +70,14 @@ fn stand_once(rt: &impl Abort, one: &[u64; WRITES], other: &[u64; WRITES]) {
 }
 
 #[test]
-fn two_threads_write_at_a_node(rt: HostRuntime) -> Result<(), Fail> {
+fn two_threads_write_at_a_node(rt: HostRuntime) {
     let Opened {
         desk,
         config,
         first,
         second: _,
-    } = open_two(rt.alloc())?;
-    let Ok((node, mut roster)) = Node::new(
-        rt.alloc(),
-        &desk,
-        &config,
-        first,
-        SureJournal::new(rt.alloc()),
-        FreeGate::new(),
-    ) else {
-        panic!(rt; "no memory")
-    };
+    } = open_two(&rt, rt.alloc());
+    let (node, mut roster) = node_of(&rt, rt.alloc(), &desk, &config, first);
     let one = session(&rt, &node, &mut roster, 0);
     let other = session(&rt, &node, &mut roster, 1);
     let (one, other) = thread::join(
@@ -102,5 +92,4 @@ fn two_threads_write_at_a_node(rt: HostRuntime) -> Result<(), Fail> {
     let ended = node.end(&rt, roster);
     stand_once(&rt, &one, &other);
     assert_eq!(rt; ended.stored.pairs().len(), 2 * WRITES);
-    Ok(())
 }
