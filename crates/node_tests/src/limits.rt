@@ -5,7 +5,6 @@ use crate::opened::{Opened, open_two};
 use replica_lock::NodeFault;
 use std::process::Abort;
 use std::sync::Wait;
-use std::test::Fail;
 
 const READS: u64 = 19_999;
 
@@ -25,13 +24,13 @@ fn count_of_full<R: Wait + Abort>(rt: &R, client: &mut LoneClient<'_>) -> u64 {
 }
 
 #[test]
-fn a_node_is_full_after_20_000_reads(rt: HostRuntime) -> Result<(), Fail> {
+fn a_node_is_full_after_20_000_reads(rt: HostRuntime) {
     let Opened {
         desk,
         config,
         first,
         second: _,
-    } = open_two(rt.alloc())?;
+    } = open_two(&rt, rt.alloc());
     let mut client = LoneClient::new(&rt, rt.alloc(), &desk, &config, first);
     read_often(&rt, &mut client);
     let value = client.value(&rt);
@@ -40,5 +39,4 @@ fn a_node_is_full_after_20_000_reads(rt: HostRuntime) -> Result<(), Fail> {
     assert_eq!(rt; value, 0);
     assert_eq!(rt; count, 20_000);
     assert_eq!(rt; ended.stored.pairs().len(), 20_000);
-    Ok(())
 }

@@ -1,5 +1,5 @@
 //! Desks for two replicas on one conit, their nodes, and requests of clients.
-ghost use Rattle.std.specs.Prelude.{◌≡◌, ◌<◌, ◌≤◌, ◌∷◌, ◌++◌, [], IsTrue, IfOk, false, unsigned_abs};
+ghost use Rattle.std.specs.Prelude.{◌≡◌, ◌<◌, ◌≤◌, ◌∷◌, ◌++◌, [], IsTrue, false, unsigned_abs};
 ghost use Rattle.tact_base.specs.Setup.{Setup};
 ghost use Rattle.tact_base.specs.declared.limits.TheConstants.{CLIENTS, WEIGHT_MAX};
 ghost use Rattle.run_model.specs.Ranges.{IsRequestInRange};
@@ -11,10 +11,9 @@ ghost use Rattle.replica_lock.specs.Sessions.{IsAtNode, IsSessionOf};
 use replica_lock::{Node, NodeFault, Roster, Session};
 use run_history::{Clerk, Desk};
 use run_model::{Config, Reply, Request};
-use std::alloc::{AllocError, Global};
+use std::alloc::Global;
 use std::process::Abort;
 use std::sync::Wait;
-use std::test::Fail;
 use tact_base::{Needs, Op, Weight, Weights};
 use tact_io::{FreeGate, Journal};
 
@@ -28,23 +27,23 @@ pub struct Opened {
 }
 
 /// Opens a desk for two replicas, of which each lends all its 10 to the other.
-pub fn open_two(alloc: Global) -> Result<Opened, Fail>
-    ensures setup { IfOk result (λ made. made.desk.setup ≡ made.config) }
-    ensures first { IfOk result (λ made. made.first ≡ fresh_clerk made.desk.table 0) }
-    ensures second { IfOk result (λ made. made.second ≡ fresh_clerk made.desk.table 1) }
-    ensures replicas { IfOk result (λ made. made.config.replicas ≡ 2) }
-    ensures conits { IfOk result (λ made. made.config.conits ≡ 1) }
+pub fn open_two(rt: &impl Abort, alloc: Global) -> Opened
+    ensures setup { result.desk.setup ≡ result.config }
+    ensures first { result.first ≡ fresh_clerk result.desk.table 0 }
+    ensures second { result.second ≡ fresh_clerk result.desk.table 1 }
+    ensures replicas { result.config.replicas ≡ 2 }
+    ensures conits { result.config.conits ≡ 1 }
 {
-    let config = Config::new(alloc, 2, 1, &[10, 10], &[0, 10, 10, 0])?;
-    let (desk, mut clerks) = Desk::new(alloc, &config)?;
-    let second = clerks.pop().ok_or("a second clerk")?;
-    let first = clerks.pop().ok_or("a first clerk")?;
-    Ok(Opened {
+    let config = Config::new(alloc, 2, 1, &[10, 10], &[0, 10, 10, 0]).expect(rt, "a setup");
+    let (desk, mut clerks) = Desk::new(alloc, &config).expect(rt, "a desk");
+    let second = clerks.pop().expect(rt, "a second clerk");
+    let first = clerks.pop().expect(rt, "a first clerk");
+    Opened {
         desk,
         config,
         first,
         second,
-    })
+    }
 }
 
 /// The node of a clerk that drew nothing, with a journal without pieces, and its roster.
@@ -112,15 +111,15 @@ pub fn ask<J: Journal, R: Wait + Abort>(
 }
 
 /// Closes a desk for two replicas with their clerks, and gives how many entries its history has.
-pub fn closed(alloc: Global, desk: Desk, first: Clerk, second: Clerk) -> Result<u64, AllocError>
+pub fn closed(rt: &impl Abort, alloc: Global, desk: Desk, first: Clerk, second: Clerk) -> u64
     requires replicas { desk.setup.replicas ≡ 2 }
     requires first { (first.table ≡ desk.table) × (first.replica ≡ 0) }
     requires second { (second.table ≡ desk.table) × (second.replica ≡ 1) }
 {
-    let mut clerks = Vec::new(alloc);
-    clerks.push(first)?;
-    clerks.push(second)?;
-    Ok(desk.close(clerks).entries())
+    let Ok(clerks) = vec![in alloc; first, second] else {
+        panic!(rt; "no memory")
+    };
+    desk.close(clerks).entries()
 }
 
 /// What each write here does: it adds 1 to key 7.

@@ -14,7 +14,6 @@ use run_model::{Config, Reply, Request};
 use std::alloc::Global;
 use std::process::Abort;
 use std::sync::Wait;
-use std::test::Fail;
 use tact_base::{Need, Needs};
 use tact_io::{FreeGate, Journal, JournalFail, MemJournal};
 
@@ -145,50 +144,47 @@ fn two_clients<'d, R: Wait + Abort>(
 }
 
 #[test]
-fn a_kept_piece_is_found_again(rt: HostRuntime) -> Result<(), Fail> {
+fn a_kept_piece_is_found_again(rt: HostRuntime) {
     let Opened {
         desk,
         config,
         first,
         ..
-    } = open_two(rt.alloc())?;
+    } = open_two(&rt, rt.alloc());
     let mut clients = two_clients(&rt, rt.alloc(), &desk, &config, first, true);
     halt(&rt, &mut clients);
     assert!(&rt; clients.restart(&rt).is_ok());
     assert!(&rt; clients.resume(&rt) == Some(Reply::Done { index: 1, stamp: 2 }));
     assert!(&rt; sum_of(&rt, &clients.read(&rt)) == 7);
-    Ok(())
 }
 
 #[test]
-fn a_lost_piece_is_dropped(rt: HostRuntime) -> Result<(), Fail> {
+fn a_lost_piece_is_dropped(rt: HostRuntime) {
     let Opened {
         desk,
         config,
         first,
         ..
-    } = open_two(rt.alloc())?;
+    } = open_two(&rt, rt.alloc());
     let mut clients = two_clients(&rt, rt.alloc(), &desk, &config, first, false);
     halt(&rt, &mut clients);
     assert!(&rt; clients.restart(&rt).is_ok());
     assert!(&rt; clients.resume(&rt) == None);
     assert!(&rt; sum_of(&rt, &clients.read(&rt)) == 3);
     assert!(&rt; clients.write(&rt, 1) == done(1, 2));
-    Ok(())
 }
 
 #[test]
-fn a_journal_that_loses_its_first_piece_is_foreign(rt: HostRuntime) -> Result<(), Fail> {
+fn a_journal_that_loses_its_first_piece_is_foreign(rt: HostRuntime) {
     let Opened {
         desk,
         config,
         first,
         ..
-    } = open_two(rt.alloc())?;
+    } = open_two(&rt, rt.alloc());
     let journal = Headless::new(rt.alloc());
     let mut clients = TwoClients::new(&rt, rt.alloc(), &desk, &config, first, journal);
     assert!(&rt; clients.write(&rt, 3) == done(0, 1));
     assert!(&rt; clients.restart(&rt) == Err(RestartFault::Foreign { place: 0 }));
     assert!(&rt; clients.read(&rt) == Err(NodeFault::Halted));
-    Ok(())
 }

@@ -10,7 +10,6 @@ use replica_lock::{Allowance, Node, Reserving, Roster, Session, SessionFault};
 use run_model::Reply;
 use std::process::Abort;
 use std::sync::Wait;
-use std::test::Fail;
 use std::thread;
 use tact_base::Weight;
 use tact_io::{FreeGate, SureJournal};
@@ -113,13 +112,13 @@ fn waits(rt: &impl Abort, reply: Reply) {
 }
 
 #[test]
-fn two_threads_spend_what_they_reserved(rt: HostRuntime) -> Result<(), Fail> {
+fn two_threads_spend_what_they_reserved(rt: HostRuntime) {
     let Opened {
         desk,
         config,
         first,
         second: _,
-    } = open_two(rt.alloc())?;
+    } = open_two(&rt, rt.alloc());
     let (node, mut roster) = node_of(
         &rt,
         rt.alloc(),
@@ -139,5 +138,4 @@ fn two_threads_spend_what_they_reserved(rt: HostRuntime) -> Result<(), Fail> {
         "{first}, {second}"
     );
     assert_eq!(rt; ended.stored.pairs().len(), 5);
-    Ok(())
 }

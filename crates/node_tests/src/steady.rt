@@ -9,7 +9,6 @@ use run_model::Reply;
 use std::alloc::Global;
 use std::process::Abort;
 use std::sync::Wait;
-use std::test::Fail;
 use steady_node::{call, release, reserve, write_held};
 use tact_base::Weight;
 use tact_io::{FreeGate, JournalFail, MemJournal, StepClock};
@@ -84,18 +83,14 @@ impl<'n, 'd> Client<'n, 'd> {
 }
 
 // What a client of a node is answered whose journal fails at a call.
-fn answers<R: Wait + Abort>(
-    rt: &R,
-    alloc: Global,
-    fail: JournalFail,
-) -> Result<((u64, u64), Reply), Fail> {
+fn answers<R: Wait + Abort>(rt: &R, alloc: Global, fail: JournalFail) -> ((u64, u64), Reply) {
     let Opened {
         desk,
         config,
         first,
         ..
-    } = open_two(alloc)?;
-    let journal = MemJournal::new(alloc, &[fail])?;
+    } = open_two(rt, alloc);
+    let journal = MemJournal::new(alloc, &[fail]).expect(rt, "a journal");
     let (node, mut roster) = node_of(rt, alloc, &desk, &config, first, journal);
     let session = session(rt, &node, &mut roster, 0);
     let mut client = Client {
@@ -105,17 +100,16 @@ fn answers<R: Wait + Abort>(
     };
     let spent = client.spend(rt);
     let reply = client.write(rt);
-    Ok((spent, reply))
+    (spent, reply)
 }
 
 #[test]
-fn calls_go_on_where_the_journal_fails(rt: HostRuntime) -> Result<(), Fail> {
+fn calls_go_on_where_the_journal_fails(rt: HostRuntime) {
     for call in 0..6 {
         for kept in [false, true] {
-            let (spent, reply) = answers(&rt, rt.alloc(), JournalFail { call, kept })?;
+            let (spent, reply) = answers(&rt, rt.alloc(), JournalFail { call, kept });
             assert_eq!(rt; spent, (0, 3), "{call}");
             assert_eq!(rt; reply, Reply::Done { index: 1, stamp: 2 }, "{call}");
         }
     }
-    Ok(())
 }

@@ -6,7 +6,6 @@ use crate::opened::{Opened, closed, open_two};
 use run_history::Desk;
 use std::process::Abort;
 use std::sync::Wait;
-use std::test::Fail;
 
 // Replica 0 sends to replica 1, which takes the parcel, and then its twin.
 fn tell_twice<R: Wait + Abort>(
@@ -28,13 +27,13 @@ fn tell_twice<R: Wait + Abort>(
 }
 
 #[test]
-fn a_parcel_and_its_twin_are_taken(rt: HostRuntime) -> Result<(), Fail> {
+fn a_parcel_and_its_twin_are_taken(rt: HostRuntime) {
     let Opened {
         desk,
         config,
         first,
         second,
-    } = open_two(rt.alloc())?;
+    } = open_two(&rt, rt.alloc());
     let mut sender = LoneClient::new(&rt, rt.alloc(), &desk, &config, first);
     let mut taker = LoneClient::new(&rt, rt.alloc(), &desk, &config, second);
     let written = sender.write(&rt);
@@ -43,9 +42,8 @@ fn a_parcel_and_its_twin_are_taken(rt: HostRuntime) -> Result<(), Fail> {
     let seen = taker.look(&desk);
     let sender = sender.finish(&rt, rt.alloc());
     let taker = taker.finish(&rt, rt.alloc());
-    let entries = closed(rt.alloc(), desk, sender.clerk, taker.clerk)?;
+    let entries = closed(&rt, rt.alloc(), desk, sender.clerk, taker.clerk);
     assert_eq!(rt; written, (0, 1));
     assert_eq!(rt; value, 1);
     assert_eq!(rt; (seen, entries), (5, 5));
-    Ok(())
 }
