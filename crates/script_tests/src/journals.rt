@@ -1,6 +1,7 @@
 //! Journals and shelves in memory: which of their calls fail, what a failed append leaves, and what is put back.
 
 use std::alloc::Global;
+use std::process::Abort;
 use std::test::Fail;
 use tact_base::{Bytes, NoMemory};
 use tact_io::{
@@ -34,75 +35,82 @@ fn put<J: Journal>(journal: &mut J, piece: &[u8]) -> Result<Result<(), Failed>, 
 }
 
 /// The first three pieces, each ended by a semicolon.
-fn pieces<J: Journal>(alloc: Global, journal: &mut J) -> Result<Bytes, OutFault> {
+fn pieces(alloc: Global, journal: &mut MemJournal) -> Result<Bytes, OutFault> {
     let mut text = Bytes::new(alloc);
     for at in 0..3 {
-        if let Some(piece) = journal.read(at)? {
-            text.append(piece.items())?;
-            text.append(b";")?;
-        }
+        append_piece(journal, at, &mut text)?;
     }
     Ok(text)
 }
 
+fn append_piece(journal: &mut MemJournal, at: u64, text: &mut Bytes) -> Result<(), OutFault> {
+    match journal.read(at)? {
+        Some(piece) => Ok(append_ended(piece.items(), text)?),
+        None => Ok(()),
+    }
+}
+
+fn append_ended(piece: &[u8], text: &mut Bytes) -> Result<(), NoMemory> {
+    text.append(piece)?;
+    text.append(b";")
+}
+
+// The calls that fail, what the appends of two pieces answer, how often the journal has failed, and what it has.
+#[rattlefmt::skip]
+static FAULTS: [(&[JournalFail], Result<(), Failed>, Result<(), Failed>, u64, &[u8]); 4] = [
+    (&[], Ok(()), Ok(()), 0, b"one;two;"),
+    (&[LOST_FIRST], Err(Failed), Ok(()), 1, b"two;"),
+    (&[LOST_SECOND], Ok(()), Err(Failed), 1, b"one;"),
+    (&[KEPT_SECOND, LOST_FIRST], Err(Failed), Err(Failed), 2, b"two;"),
+];
+
 #[test]
 fn journals_fail_where_listed(rt: HostRuntime) -> Result<(), Fail> {
-    let alloc = rt.alloc();
-    let failed = Err(Failed);
-    for (fails, first, second, faults, want) in [
-        ([].as_slice(), Ok(()), Ok(()), 0, b"one;two;".as_slice()),
-        (
-            [LOST_FIRST].as_slice(),
-            failed,
-            Ok(()),
-            1,
-            b"two;".as_slice(),
-        ),
-        (
-            [LOST_SECOND].as_slice(),
-            Ok(()),
-            failed,
-            1,
-            b"one;".as_slice(),
-        ),
-        (
-            [KEPT_SECOND, LOST_FIRST].as_slice(),
-            failed,
-            failed,
-            2,
-            b"two;".as_slice(),
-        ),
-    ] {
-        let mut journal = MemJournal::new(alloc, fails)?;
+    for &(fails, first, second, faults, want) in &FAULTS {
+        let mut journal = MemJournal::new(rt.alloc(), fails)?;
         assert_eq!(rt; put(&mut journal, b"one"), Ok(first));
         assert_eq!(rt; put(&mut journal, b"two"), Ok(second));
         assert_eq!(rt; journal.faults(), faults);
-        let text = pieces(alloc, &mut journal)?;
+        let text = pieces(rt.alloc(), &mut journal)?;
         assert_eq!(rt; text.items(), want, "fails {fails:?}");
     }
-    let mut sure = SureJournal::new(alloc);
-    assert_eq!(rt; put(&mut sure, b"one"), Ok(Ok(())));
-    assert_eq!(rt; sure.read(0), Ok(Some(Bytes::from_slice(alloc, b"one")?)));
-    assert_eq!(rt; sure.read(1), Ok(None));
     Ok(())
 }
 
 #[test]
-fn journals_are_put_back(rt: HostRuntime) -> Result<(), Fail> {
-    let alloc = rt.alloc();
-    let mut shelf = MemShelf::new(alloc, &[THIRD])?;
-    let mut journal = shelf.fetch(7)?;
-    assert_eq!(rt; put(&mut journal, b"one"), Ok(Ok(())));
-    assert_eq!(rt; put(&mut journal, b"two"), Ok(Ok(())));
+fn a_sure_journal_keeps_its_pieces(rt: HostRuntime) -> Result<(), Fail> {
+    let one = Bytes::from_slice(rt.alloc(), b"one")?;
+    let mut sure = SureJournal::new(rt.alloc());
+    assert_eq!(rt; put(&mut sure, b"one"), Ok(Ok(())));
+    assert_eq!(rt; sure.read(0), Ok(Some(one)));
+    assert_eq!(rt; sure.read(1), Ok(None));
+    Ok(())
+}
+
+// Two pieces are put in, and the third call fails.
+fn fill(rt: &impl Abort, journal: &mut MemJournal) {
+    assert_eq!(rt; put(journal, b"one"), Ok(Ok(())));
+    assert_eq!(rt; put(journal, b"two"), Ok(Ok(())));
     assert_eq!(rt; journal.read(0), Err(OutFault::Failed));
+}
+
+#[test]
+fn journals_are_put_back(rt: HostRuntime) -> Result<(), Fail> {
+    let mut shelf = MemShelf::new(rt.alloc(), &[THIRD])?;
+    let mut journal = shelf.fetch(7)?;
+    fill(&rt, &mut journal);
     assert_eq!(rt; shelf.journal(7).is_none(), true);
     shelf.put_back(7, journal);
     assert_eq!(rt; shelf.journal(7).map(MemJournal::faults), Some(1));
     assert_eq!(rt; shelf.journal(6).is_none(), true);
+    Ok(())
+}
 
-    let mut sure = SureShelf::new(alloc)?;
-    let journal = sure.fetch(0)?;
-    sure.put_back(0, journal);
-    assert_eq!(rt; sure.journal(0).is_some(), true);
+#[test]
+fn sure_journals_are_put_back(rt: HostRuntime) -> Result<(), Fail> {
+    let mut shelf = SureShelf::new(rt.alloc())?;
+    let journal = shelf.fetch(0)?;
+    shelf.put_back(0, journal);
+    assert_eq!(rt; shelf.journal(0).is_some(), true);
     Ok(())
 }

@@ -3,6 +3,7 @@
 use run_model::{InputKind, LineKind, Status};
 use script_run::play;
 use std::alloc::Global;
+use std::process::Abort;
 use std::test::Fail;
 use tact_io::{MemSink, MemSource};
 
@@ -31,6 +32,20 @@ pub(crate) fn played(
     let mut sink = MemSink::new(alloc, writes)?;
     let status = play(alloc, &mut source, &mut sink);
     Ok((status, sink))
+}
+
+/// A script ends so, and this is written.
+pub(crate) fn assert_plays(
+    rt: &impl Abort,
+    alloc: Global,
+    script: &str,
+    wanted: &Status,
+    text: &str,
+) -> Result<(), Fail> {
+    let (status, sink) = played(alloc, script.as_bytes(), &[], &[])?;
+    assert_eq!(rt; &status, wanted, "{script}");
+    assert_eq!(rt; sink.bytes(), text.as_bytes(), "{script}");
+    Ok(())
 }
 
 /// The status of a script whose first line at fault is this one, with this fault.

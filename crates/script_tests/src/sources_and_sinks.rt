@@ -1,5 +1,6 @@
 //! Sources and sinks: their forms in memory, the real edge, and reading and writing to the end; and clocks.
 
+use std::alloc::Global;
 use std::fmt::Display;
 use std::io;
 use std::io::{ErrorKind, Read};
@@ -60,85 +61,117 @@ fn five_reads(source: &mut impl Source) -> [Option<usize>; 5] {
     answers
 }
 
+// The reads that fail, and what five reads of eight bytes answer.
+static READS: [(&[u64], [Option<usize>; 5]); 4] = [
+    (&[], [Some(3), Some(3), Some(2), Some(0), Some(0)]),
+    (&[0], [None, Some(3), Some(3), Some(2), Some(0)]),
+    (&[1], [Some(3), None, Some(3), Some(2), Some(0)]),
+    (&[4, 2, 9], [Some(3), Some(3), None, Some(2), None]),
+];
+
 #[test]
 fn sources_in_memory_fail_where_listed(rt: HostRuntime) -> Result<(), Fail> {
-    let alloc = rt.alloc();
-    let (three, two, end) = (Some(3), Some(2), Some(0));
-    for (fails, want) in [
-        ([].as_slice(), [three, three, two, end, end]),
-        ([0].as_slice(), [None, three, three, two, end]),
-        ([1].as_slice(), [three, None, three, two, end]),
-        ([4, 2, 9].as_slice(), [three, three, None, two, None]),
-    ] {
-        let mut source = MemSource::new(alloc, b"abcdefgh", fails)?;
-        assert_eq!(rt; five_reads(&mut source), want, "fails {fails:?}");
+    for (fails, want) in &READS {
+        let mut source = MemSource::new(rt.alloc(), b"abcdefgh", fails)?;
+        assert_eq!(rt; &five_reads(&mut source), want, "fails {fails:?}");
     }
-    let mut sure = SureSource::new(alloc, b"abcdefgh")?;
-    assert_eq!(rt; five_reads(&mut sure), [three, three, two, end, end]);
     Ok(())
 }
 
 #[test]
+fn a_sure_source_is_read(rt: HostRuntime) -> Result<(), Fail> {
+    let mut sure = SureSource::new(rt.alloc(), b"abcdefgh")?;
+    assert_eq!(rt;
+        &five_reads(&mut sure),
+        &[Some(3), Some(3), Some(2), Some(0), Some(0)]
+    );
+    Ok(())
+}
+
+const FAILED: Result<(), OutFault> = Err(OutFault::Failed);
+
+// The writes that fail, what the writes of two texts answer, and what is written.
+static WRITES: [(&[u64], Result<(), OutFault>, Result<(), OutFault>, &[u8]); 4] = [
+    (&[], Ok(()), Ok(()), b"onetwo"),
+    (&[0], FAILED, Ok(()), b"two"),
+    (&[1], Ok(()), FAILED, b"one"),
+    (&[1, 0], FAILED, FAILED, b""),
+];
+
+#[test]
 fn sinks_in_memory_fail_where_listed(rt: HostRuntime) -> Result<(), Fail> {
-    let alloc = rt.alloc();
-    let failed = Err(OutFault::Failed);
-    for (fails, first, second, want) in [
-        ([].as_slice(), Ok(()), Ok(()), b"onetwo".as_slice()),
-        ([0].as_slice(), failed, Ok(()), b"two".as_slice()),
-        ([1].as_slice(), Ok(()), failed, b"one".as_slice()),
-        ([1, 0].as_slice(), failed, failed, b"".as_slice()),
-    ] {
-        let mut sink = MemSink::new(alloc, fails)?;
+    for &(fails, first, second, want) in &WRITES {
+        let mut sink = MemSink::new(rt.alloc(), fails)?;
         assert_eq!(rt; write_all(&mut sink, b"one"), first, "fails {fails:?}");
         assert_eq!(rt; write_all(&mut sink, b"two"), second, "fails {fails:?}");
         assert_eq!(rt; sink.bytes(), want, "fails {fails:?}");
     }
-    let mut sure = SureSink::new(alloc)?;
+    Ok(())
+}
+
+#[test]
+fn a_sure_sink_is_written(rt: HostRuntime) -> Result<(), Fail> {
+    let mut sure = SureSink::new(rt.alloc())?;
     assert_eq!(rt; write_all(&mut sure, b"one"), Ok(()));
     assert_eq!(rt; sure.bytes(), b"one".as_slice());
     Ok(())
 }
 
+// How many bytes are there, how many are read at most, the reads that fail, and how many are read.
+static ENDS: [(usize, u64, &[u64], Result<usize, ReadEnd>); 11] = [
+    (0, 0, &[], Ok(0)),
+    (5, 5, &[], Ok(5)),
+    (6, 5, &[], Err(ReadEnd::TooLong)),
+    (16_384, 16_384, &[], Ok(16_384)),
+    (16_385, 16_384, &[], Err(ReadEnd::TooLong)),
+    (40_000, 50_000, &[], Ok(40_000)),
+    (40_000, 50_000, &[0], Err(ReadEnd::Fault)),
+    (40_000, 50_000, &[1], Err(ReadEnd::Fault)),
+    (40_000, 50_000, &[10], Err(ReadEnd::Fault)),
+    (40_000, 50_000, &[11], Ok(40_000)),
+    (40_000, 20_000, &[5], Err(ReadEnd::TooLong)),
+];
+
+// How many bytes are read to the end of a source.
+fn read_of(
+    alloc: Global,
+    bytes: &[u8],
+    most: u64,
+    fails: &[u64],
+) -> Result<Result<usize, ReadEnd>, Fail> {
+    let mut source = MemSource::new(alloc, bytes, fails)?;
+    Ok(read_all(alloc, &mut source, most).map(|bytes| bytes.len()))
+}
+
 #[test]
 fn reading_to_the_end(rt: HostRuntime) -> Result<(), Fail> {
-    let alloc = rt.alloc();
-    let all = vec![in alloc; b'x'; 40_000]?;
-    for (length, most, fails, want) in [
-        (0, 0, [].as_slice(), Ok(0)),
-        (5, 5, [].as_slice(), Ok(5)),
-        (6, 5, [].as_slice(), Err(ReadEnd::TooLong)),
-        (16_384, 16_384, [].as_slice(), Ok(16_384)),
-        (16_385, 16_384, [].as_slice(), Err(ReadEnd::TooLong)),
-        (40_000, 50_000, [].as_slice(), Ok(40_000)),
-        (40_000, 50_000, [0].as_slice(), Err(ReadEnd::Fault)),
-        (40_000, 50_000, [1].as_slice(), Err(ReadEnd::Fault)),
-        (40_000, 50_000, [10].as_slice(), Err(ReadEnd::Fault)),
-        (40_000, 50_000, [11].as_slice(), Ok(40_000)),
-        (40_000, 20_000, [5].as_slice(), Err(ReadEnd::TooLong)),
-    ] {
-        let mut source = MemSource::new(alloc, all.get(..length).unwrap_or(&[]), fails)?;
-        let answer = read_all(alloc, &mut source, most);
-        assert_eq!(rt;
-            answer.map(|bytes| bytes.len()),
-            want,
-            "{length} bytes, fails {fails:?}"
-        );
+    let all = vec![in rt.alloc(); b'x'; 40_000]?;
+    for &(length, most, fails, want) in &ENDS {
+        let bytes = all.get(..length).unwrap_or(&[]);
+        let answer = read_of(rt.alloc(), bytes, most, fails)?;
+        assert_eq!(rt; answer, want, "{length} bytes, fails {fails:?}");
     }
-    let mut sure = SureSource::new(alloc, b"tact 1 2 1\n")?;
-    assert_eq!(rt;
-        read_all(alloc, &mut sure, 11)?.items(),
-        b"tact 1 2 1\n".as_slice()
-    );
     Ok(())
 }
 
 #[test]
+fn a_sure_source_is_read_to_its_end(rt: HostRuntime) -> Result<(), Fail> {
+    let mut sure = SureSource::new(rt.alloc(), b"tact 1 2 1\n")?;
+    let bytes = read_all(rt.alloc(), &mut sure, 11)?;
+    assert_eq!(rt; bytes.items(), b"tact 1 2 1\n".as_slice());
+    Ok(())
+}
+
+// The first moment of a clock, its step, and what it tells then.
+static MOMENTS: [(u64, u64, [u64; 3]); 3] = [
+    (7, 0, [7, 7, 7]),
+    (5, 3, [5, 8, 11]),
+    (u64::MAX, 2, [u64::MAX, 1, 3]),
+];
+
+#[test]
 fn clocks(rt: HostRuntime) {
-    for (first, step, want) in [
-        (7, 0, [7, 7, 7]),
-        (5, 3, [5, 8, 11]),
-        (u64::MAX, 2, [u64::MAX, 1, 3]),
-    ] {
+    for &(first, step, want) in &MOMENTS {
         let clock = StepClock::new(first, step);
         assert_eq!(rt; [clock.now(), clock.now(), clock.now()], want);
     }

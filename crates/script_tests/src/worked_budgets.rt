@@ -129,17 +129,20 @@ e 0 0 call 0 5 release 0 1 = not-held 0 0 1
 end 6
 ";
 
+// Each script, what its text begins with, and the lines that follow.
+static BUDGETS: [(&str, &str, &str); 7] = [
+    (OVER_THE_SHARE, THREE, OVER_THE_SHARE_TEXT),
+    (OTHER_PEER, THREE, OTHER_PEER_TEXT),
+    (TOO_HEAVY, THREE, TOO_HEAVY_TEXT),
+    (OLD_ACKNOWLEDGEMENT, TWO, OLD_ACKNOWLEDGEMENT_TEXT),
+    (LOST_RETURN, THREE, LOST_RETURN_TEXT),
+    (LOANS, TWO_LENT_FOUR, LOANS_TEXT),
+    (ALLOWANCES, TWO, ALLOWANCES_TEXT),
+];
+
 #[test]
 fn budgets_hold(rt: HostRuntime) -> Result<(), Fail> {
-    for (script, header, lines) in [
-        (OVER_THE_SHARE, THREE, OVER_THE_SHARE_TEXT),
-        (OTHER_PEER, THREE, OTHER_PEER_TEXT),
-        (TOO_HEAVY, THREE, TOO_HEAVY_TEXT),
-        (OLD_ACKNOWLEDGEMENT, TWO, OLD_ACKNOWLEDGEMENT_TEXT),
-        (LOST_RETURN, THREE, LOST_RETURN_TEXT),
-        (LOANS, TWO_LENT_FOUR, LOANS_TEXT),
-        (ALLOWANCES, TWO, ALLOWANCES_TEXT),
-    ] {
+    for &(script, header, lines) in &BUDGETS {
         assert!(rt; prints(rt.alloc(), script, header, lines)?, "{script}");
     }
     Ok(())

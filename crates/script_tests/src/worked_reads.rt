@@ -168,18 +168,21 @@ e 0 110 call 0 2 read 1 0:10:0:9 = wait-stale 0 1 100 101
 end 5
 ";
 
+// Each script, what its text begins with, and the lines that follow.
+static READS: [(&str, &str, &str); 8] = [
+    (LENT, THREE, LENT_TEXT),
+    (SIGNS, THREE, SIGNS_TEXT),
+    (LATER_REPEAT, TWO, LATER_REPEAT_TEXT),
+    (GAP, TWO_OF_HUNDRED, GAP_TEXT),
+    (SYNC, TWO, SYNC_TEXT),
+    (ROLLBACK, THREE, ROLLBACK_TEXT),
+    (ORDER_BOUND, THREE, ORDER_BOUND_TEXT),
+    (STALENESS, TWO, STALENESS_TEXT),
+];
+
 #[test]
 fn reads_are_told(rt: HostRuntime) -> Result<(), Fail> {
-    for (script, header, lines) in [
-        (LENT, THREE, LENT_TEXT),
-        (SIGNS, THREE, SIGNS_TEXT),
-        (LATER_REPEAT, TWO, LATER_REPEAT_TEXT),
-        (GAP, TWO_OF_HUNDRED, GAP_TEXT),
-        (SYNC, TWO, SYNC_TEXT),
-        (ROLLBACK, THREE, ROLLBACK_TEXT),
-        (ORDER_BOUND, THREE, ORDER_BOUND_TEXT),
-        (STALENESS, TWO, STALENESS_TEXT),
-    ] {
+    for &(script, header, lines) in &READS {
         assert!(rt; prints(rt.alloc(), script, header, lines)?, "{script}");
     }
     Ok(())

@@ -1,6 +1,6 @@
 //! Scripts, and the text of their runs.
 
-use crate::playing::played;
+use crate::playing::assert_plays;
 use run_model::Status;
 use std::test::Fail;
 
@@ -98,20 +98,21 @@ end 0
 
 const ONE_LINE_TEXT: &str = "tact 1 2 1\nbound 0 0 0 0 0\nbound 1 0 0 0 0\nend 0\n";
 
+// Each script and its text.
+static SCRIPTS: [(&str, &str); 7] = [
+    ("start 2 1 0 0\n", ONE_LINE_TEXT),
+    ("start 2 1 0 0", ONE_LINE_TEXT),
+    ("# first\n\n  start 02 1 0 0  \n#last", ONE_LINE_TEXT),
+    (EQUAL_STAMPS, EQUAL_STAMPS_TEXT),
+    (REPEAT, REPEAT_TEXT),
+    (OTHER_ORDER, OTHER_ORDER_TEXT),
+    (NOTHING_SEEN, NOTHING_SEEN_TEXT),
+];
+
 #[test]
 fn each_script_has_its_text(rt: HostRuntime) -> Result<(), Fail> {
-    for (script, text) in [
-        ("start 2 1 0 0\n", ONE_LINE_TEXT),
-        ("start 2 1 0 0", ONE_LINE_TEXT),
-        ("# first\n\n  start 02 1 0 0  \n#last", ONE_LINE_TEXT),
-        (EQUAL_STAMPS, EQUAL_STAMPS_TEXT),
-        (REPEAT, REPEAT_TEXT),
-        (OTHER_ORDER, OTHER_ORDER_TEXT),
-        (NOTHING_SEEN, NOTHING_SEEN_TEXT),
-    ] {
-        let (status, sink) = played(rt.alloc(), script.as_bytes(), &[], &[])?;
-        assert_eq!(rt; status, Status::Done, "{script}");
-        assert_eq!(rt; sink.bytes(), text.as_bytes(), "{script}");
+    for &(script, text) in &SCRIPTS {
+        assert_plays(&rt, rt.alloc(), script, &Status::Done, text)?;
     }
     Ok(())
 }
