@@ -1,8 +1,9 @@
 //! A bulletin board on three replicas, whose record is checked, packed and unpacked.
 
-use crate::obeying::obeyed;
+use crate::obeying::{assert_obeys, done, obeyed};
 use run_model::Status;
 use std::alloc::Global;
+use std::process::Abort;
 use std::sync::Wait;
 use std::test::Fail;
 use std::thread::Threads;
@@ -29,27 +30,25 @@ const VERDICT: &str =
 fn script(alloc: Global) -> Result<String, Fail> {
     let mut script = String::from_str(alloc, "start 3 1 20 10\n")?;
     for key in 0..40_u64 {
-        let post = format!(in alloc; "write {} 0 put {key} 1 0:1:1\n", key % 3)?;
-        script.push_str(&post)?;
-        if key % 6 == 5 || key == 39 {
-            script.push_str(ROUND)?;
-        }
+        push_post(alloc, key, &mut script)?;
     }
     script.push_str(LAST_LINES)?;
     Ok(script)
 }
 
-// What a command writes on an input, where it ends Done.
-fn done<R: Threads + Wait + Sync + AllocGlobal>(
-    rt: &R,
-    line: &str,
-    input: &[u8],
-) -> Result<MemSink, Fail> {
-    let (status, sink) = obeyed(rt, line, input, &[], &[])?;
-    if status != Status::Done {
-        return Err("a command that isn't done".into());
+fn push_post(alloc: Global, key: u64, script: &mut String) -> Result<(), Fail> {
+    let post = format!(in alloc; "write {} 0 put {key} 1 0:1:1\n", key % 3)?;
+    script.push_str(&post)?;
+    if key % 6 == 5 || key == 39 {
+        script.push_str(ROUND)?;
     }
-    Ok(sink)
+    Ok(())
+}
+
+// The text of its run.
+fn played<R: Threads + Wait + Sync + AllocGlobal>(rt: &R) -> Result<MemSink, Fail> {
+    let script = script(rt.alloc())?;
+    done(rt, "tactcli play", script.as_bytes())
 }
 
 // The lines of a text but its comments.
@@ -63,48 +62,81 @@ fn without_comments(alloc: Global, text: &[u8]) -> Result<Vec<u8>, Fail> {
     Ok(kept)
 }
 
+// The verdict on a record of the run.
+fn assert_checks<R: Threads + Wait + Sync + AllocGlobal + Abort>(
+    rt: &R,
+    record: &[u8],
+) -> Result<(), Fail> {
+    assert_obeys(
+        rt,
+        "tactcli check",
+        record,
+        Status::Done,
+        VERDICT.as_bytes(),
+    )
+}
+
 #[test]
 fn a_board_is_played_and_checked(rt: HostRuntime) -> Result<(), Fail> {
-    let played = done(&rt, "tactcli play", script(rt.alloc())?.as_bytes())?;
+    let played = played(&rt)?;
     assert_eq!(rt; played.bytes().ends_with(LAST_TEXT.as_bytes()), true);
-    let said = done(&rt, "tactcli check", played.bytes())?;
-    assert_eq!(rt; said.bytes(), VERDICT.as_bytes());
+    assert_checks(&rt, played.bytes())
+}
+
+// Where these reads and writes fail, playing it ends so, and what is written is the front of the text: all of it, or nothing.
+fn assert_plays<R: Threads + Wait + Sync + AllocGlobal + Abort>(
+    rt: &R,
+    script: &[u8],
+    whole: &[u8],
+    reads: &[u64],
+    writes: &[u64],
+    wanted: Status,
+) -> Result<(), Fail> {
+    let (status, sink) = obeyed(rt, "tactcli play", script, reads, writes)?;
+    assert_eq!(rt; status, wanted, "{reads:?} {writes:?}");
+    assert_eq!(rt; whole.starts_with(sink.bytes()), true);
+    let written = if status == Status::Done {
+        whole.len()
+    } else {
+        0
+    };
+    assert_eq!(rt; sink.bytes().len(), written, "{reads:?} {writes:?}");
     Ok(())
+}
+
+fn assert_all_play<R: Threads + Wait + Sync + AllocGlobal + Abort>(
+    rt: &R,
+    script: &[u8],
+    whole: &[u8],
+) -> Result<(), Fail> {
+    assert_plays(rt, script, whole, &[0], &[], Status::ReadFault)?;
+    assert_plays(rt, script, whole, &[1], &[], Status::ReadFault)?;
+    assert_plays(rt, script, whole, &[2], &[], Status::Done)?;
+    assert_plays(rt, script, whole, &[], &[0], Status::WriteFault)?;
+    assert_plays(rt, script, whole, &[], &[1], Status::Done)
 }
 
 #[test]
 fn a_board_where_a_read_or_a_write_fails(rt: HostRuntime) -> Result<(), Fail> {
     let script = script(rt.alloc())?;
     let whole = done(&rt, "tactcli play", script.as_bytes())?;
-    for (reads, writes, wanted) in &[
-        ([0].as_slice(), [].as_slice(), Status::ReadFault),
-        ([1].as_slice(), [].as_slice(), Status::ReadFault),
-        ([2].as_slice(), [].as_slice(), Status::Done),
-        ([].as_slice(), [0].as_slice(), Status::WriteFault),
-        ([].as_slice(), [1].as_slice(), Status::Done),
-    ] {
-        let (status, sink) = obeyed(&rt, "tactcli play", script.as_bytes(), reads, writes)?;
-        assert_eq!(rt; &status, wanted, "{reads:?} {writes:?}");
-        // What is written is the front of the text: all of it, or nothing.
-        assert_eq!(rt; whole.bytes().starts_with(sink.bytes()), true);
-        let written = if status == Status::Done {
-            whole.bytes().len()
-        } else {
-            0
-        };
-        assert_eq!(rt; sink.bytes().len(), written, "{reads:?} {writes:?}");
-    }
-    Ok(())
+    assert_all_play(&rt, script.as_bytes(), whole.bytes())
+}
+
+// What is packed is checked too, and is unpacked to the text without its comments.
+fn assert_unpacks<R: Threads + Wait + Sync + AllocGlobal + Abort>(
+    rt: &R,
+    text: &[u8],
+    packed: &[u8],
+) -> Result<(), Fail> {
+    assert_checks(rt, packed)?;
+    let kept = without_comments(rt.alloc(), text)?;
+    assert_obeys(rt, "tactcli unpack", packed, Status::Done, &kept)
 }
 
 #[test]
 fn packed_and_unpacked_it_has_no_comments(rt: HostRuntime) -> Result<(), Fail> {
-    let played = done(&rt, "tactcli play", script(rt.alloc())?.as_bytes())?;
+    let played = played(&rt)?;
     let packed = done(&rt, "tactcli pack", played.bytes())?;
-    let said = done(&rt, "tactcli check", packed.bytes())?;
-    assert_eq!(rt; said.bytes(), VERDICT.as_bytes());
-    let unpacked = done(&rt, "tactcli unpack", packed.bytes())?;
-    let kept = without_comments(rt.alloc(), played.bytes())?;
-    assert_eq!(rt; unpacked.bytes(), kept.as_slice());
-    Ok(())
+    assert_unpacks(&rt, played.bytes(), packed.bytes())
 }

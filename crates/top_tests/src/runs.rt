@@ -1,13 +1,13 @@
 //! Runs of workloads, whose records are checked.
 
-use crate::obeying::{obeyed, obeyed_over};
+use crate::obeying::{assert_fails, assert_obeys, done, obeyed, obeyed_over};
 use run_model::{InputKind, LoadKind, Status};
-use std::alloc::Global;
+use std::process::Abort;
 use std::sync::Wait;
 use std::test::Fail;
 use std::thread::Threads;
-use tact_base::Bytes;
-use tact_io::{JournalFail, MemShelf};
+use tact_base::{Bytes, NoMemory};
+use tact_io::{JournalFail, MemShelf, MemSink};
 
 const WORKED: &[u8] = br#"{"replicas":3,"conits":1,
  "bounds":[[0,0,200,[0,100,100]],[1,0,200,[100,0,100]],[2,0,200,[100,100,0]]],
@@ -19,8 +19,7 @@ const WORKED: &[u8] = br#"{"replicas":3,"conits":1,
   [2,0,[["write",["put",9,4],[[0,2,1]]],["back",0,0,10],["read",9,[]]]]]}"#;
 
 // A client of replica 0 that asks 1,000 times for what waits until its replica hears of the other.
-fn reads(alloc: Global) -> Result<Bytes, Fail> {
-    let mut text = Bytes::new(alloc);
+fn append_reads(text: &mut Bytes) -> Result<(), NoMemory> {
     text.append(br#"{"replicas":2,"conits":1,"clients":[[0,0,["#)?;
     for read in 0..1_000 {
         if read > 0 {
@@ -28,54 +27,28 @@ fn reads(alloc: Global) -> Result<Bytes, Fail> {
         }
         text.append(br#"["read",1,[[0,0,0,0]]]"#)?;
     }
-    text.append(b"]]]}")?;
-    Ok(text)
+    text.append(b"]]]}")
 }
 
-// The line that is said of the record of a run.
-fn said<R: Threads + Wait + Sync + AllocGlobal>(rt: &R, record: &[u8]) -> Result<String, Fail> {
-    let (status, sink) = obeyed(rt, "tactcli check", record, &[], &[])?;
-    if status != Status::Done {
-        return Err("a record that is none of a run".into());
-    }
-    Ok(String::from_str(rt.alloc(), str::from_utf8(sink.bytes())?)?)
-}
+// Each command line, what is no workload, and the place and the kind of its first fault.
+#[rattlefmt::skip]
+static NO_WORKLOADS: [(&str, &[u8], u64, LoadKind); 3] = [
+    ("tactcli run", br#"{"replicas":3"#, 0, LoadKind::NotJson),
+    ("tactcli run --tries 100", br#"{"replicas":3}"#, 0, LoadKind::Shape),
+    ("tactcli run --tries=1", br#"{"replicas":2,"conits":1,"clients":[[0,0,[]],[1,8,[]]]}"#, 2, LoadKind::Range),
+];
 
 #[test]
 fn what_is_no_workload_has_its_place(rt: HostRuntime) -> Result<(), Fail> {
-    for (line, input, place, kind) in [
-        (
-            "tactcli run",
-            br#"{"replicas":3"#.as_slice(),
-            0,
-            LoadKind::NotJson,
-        ),
-        (
-            "tactcli run --tries 100",
-            br#"{"replicas":3}"#.as_slice(),
-            0,
-            LoadKind::Shape,
-        ),
-        (
-            "tactcli run --tries=1",
-            br#"{"replicas":2,"conits":1,"clients":[[0,0,[]],[1,8,[]]]}"#.as_slice(),
-            2,
-            LoadKind::Range,
-        ),
-    ] {
-        let (status, sink) = obeyed(&rt, line, input, &[], &[])?;
+    for &(line, input, place, kind) in &NO_WORKLOADS {
         let kind = InputKind::Load(kind);
-        assert_eq!(rt; status, Status::BadInput { place, kind }, "{line}");
-        assert_eq!(rt; sink.bytes().is_empty(), true, "{line}");
+        assert_obeys(&rt, line, input, Status::BadInput { place, kind }, b"")?;
     }
     Ok(())
 }
 
-#[test]
-fn the_worked_workload_runs_to_its_end(rt: HostRuntime) -> Result<(), Fail> {
-    let (status, sink) = obeyed(&rt, "tactcli run --tries 50", WORKED, &[], &[])?;
-    assert_eq!(rt; status, Status::Done);
-    let line = said(&rt, sink.bytes())?;
+// The line that is said of the record of the worked workload.
+fn assert_worked(rt: &impl Abort, line: &str) {
     assert!(rt;
         line.starts_with("run ") && line.ends_with(" lends 1 backs 1 restarts 0\n"),
         "{line}"
@@ -84,15 +57,47 @@ fn the_worked_workload_runs_to_its_end(rt: HostRuntime) -> Result<(), Fail> {
         !line.contains(" sends 0 ") && !line.contains(" takes 0 "),
         "{line}"
     );
-    let (status, sink) = obeyed(&rt, "tactcli run", WORKED, &[], &[0])?;
-    assert_eq!(rt; status, Status::WriteFault);
-    assert_eq!(rt; sink.bytes().is_empty(), true);
+}
+
+#[test]
+fn the_worked_workload_runs_to_its_end(rt: HostRuntime) -> Result<(), Fail> {
+    let record = done(&rt, "tactcli run --tries 50", WORKED)?;
+    let said = done(&rt, "tactcli check", record.bytes())?;
+    assert_worked(&rt, str::from_utf8(said.bytes())?);
+    Ok(())
+}
+
+#[test]
+fn a_run_that_is_not_written(rt: HostRuntime) -> Result<(), Fail> {
+    assert_fails(&rt, "tactcli run", WORKED, &[], &[0], Status::WriteFault)
+}
+
+// Each entry of the record is of replica 0, at the moment 7.
+fn assert_entries(rt: &impl Abort, record: &[u8]) -> Result<(), Fail> {
+    for line in str::from_utf8(record)?.lines() {
+        assert_eq!(rt;
+            !line.starts_with("e ") || line.starts_with("e 0 7 "),
+            true,
+            "{line}"
+        );
+    }
+    Ok(())
+}
+
+fn assert_full<R: Threads + Wait + Sync + AllocGlobal + Abort>(
+    rt: &R,
+    record: &[u8],
+) -> Result<(), Fail> {
+    assert_entries(rt, record)?;
+    let said = done(rt, "tactcli check", record)?;
+    assert_eq!(rt; said.bytes().starts_with(b"run 20000 calls "), true);
     Ok(())
 }
 
 #[test]
 fn the_run_of_a_full_replica_is_written(rt: HostRuntime) -> Result<(), Fail> {
-    let input = reads(rt.alloc())?;
+    let mut input = Bytes::new(rt.alloc());
+    append_reads(&mut input)?;
     let (status, sink) = obeyed(&rt, "tactcli run", input.items(), &[], &[])?;
     let wanted = Status::Full {
         replica: 0,
@@ -100,37 +105,41 @@ fn the_run_of_a_full_replica_is_written(rt: HostRuntime) -> Result<(), Fail> {
         clock: 0,
     };
     assert_eq!(rt; status, wanted);
-    for line in str::from_utf8(sink.bytes())?.lines() {
-        assert_eq!(rt;
-            !line.starts_with("e ") || line.starts_with("e 0 7 "),
-            true,
-            "{line}"
-        );
-    }
-    assert_eq!(rt;
-        said(&rt, sink.bytes())?.starts_with("run 20000 calls "),
-        true
-    );
+    assert_full(&rt, sink.bytes())
+}
+
+const ONCE: JournalFail = JournalFail {
+    call: 0,
+    kept: true,
+};
+
+const AGAIN: JournalFail = JournalFail {
+    call: 1,
+    kept: true,
+};
+
+// How a run of one write ends over journals of which these calls fail, and what is written.
+fn run_over<R: Threads + Wait + Sync + AllocGlobal>(
+    rt: &R,
+    fails: &[JournalFail],
+) -> Result<(Status, MemSink), Fail> {
+    let mut shelf = MemShelf::new(rt.alloc(), fails)?;
+    let input = br#"{"replicas":2,"conits":1,"clients":[[0,0,[["write",["put",1,7],[]]]]]}"#;
+    obeyed_over(rt, "tactcli run", input, &[], &[], &mut shelf)
+}
+
+#[test]
+fn a_run_whose_journal_fails_once_is_written(rt: HostRuntime) -> Result<(), Fail> {
+    let (status, sink) = run_over(&rt, &[ONCE])?;
+    assert_eq!(rt; status, Status::Done);
+    let said = done(&rt, "tactcli check", sink.bytes())?;
+    assert!(rt; said.bytes().ends_with(b" restarts 1\n"));
     Ok(())
 }
 
 #[test]
 fn a_run_whose_journal_fails_again_writes_nothing(rt: HostRuntime) -> Result<(), Fail> {
-    let input = br#"{"replicas":2,"conits":1,"clients":[[0,0,[["write",["put",1,7],[]]]]]}"#;
-    let once = JournalFail {
-        call: 0,
-        kept: true,
-    };
-    let again = JournalFail {
-        call: 1,
-        kept: true,
-    };
-    let mut shelf = MemShelf::new(rt.alloc(), &[once])?;
-    let (status, sink) = obeyed_over(&rt, "tactcli run", input, &[], &[], &mut shelf)?;
-    assert_eq!(rt; status, Status::Done);
-    assert!(rt; said(&rt, sink.bytes())?.ends_with(" restarts 1\n"));
-    let mut shelf = MemShelf::new(rt.alloc(), &[once, again])?;
-    let (status, sink) = obeyed_over(&rt, "tactcli run", input, &[], &[], &mut shelf)?;
+    let (status, sink) = run_over(&rt, &[ONCE, AGAIN])?;
     assert_eq!(rt; status, Status::JournalFault { replica: 0 });
     assert_eq!(rt; sink.bytes().is_empty(), true);
     Ok(())
