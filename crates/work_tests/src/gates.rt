@@ -1,13 +1,12 @@
 //! Workers side by side: a gate holds a call of the one until one of the other has come.
 ghost use Rattle.std.specs.Prelude.{◌<◌};
 
+use crate::running::run_surely;
 use run_model::{Act, Entry};
-use run_work::run_plan;
 use std::sync::atomic::{AtomicBool, AtomicU64, Ordering};
 use std::test::Fail;
 use std::thread;
-use tact_io::{Gate, StepClock, SureShelf};
-use work_load::parse_plan;
+use tact_io::Gate;
 
 const PLAN: &[u8] = br#"{"replicas":2,"conits":1,"clients":[
 [0,0,[["write",["add",1,1],[]],["write",["add",1,1],[]]]],
@@ -52,37 +51,35 @@ impl Gate for Crossing {
     }
 }
 
-// How many calls a replica made before it sent its first message, and how many in all.
-fn calls_before_sending(entries: &[Entry], replica: u32) -> (Option<u64>, u64) {
-    let mut calls: u64 = 0;
-    let mut before = None;
-    for entry in entries {
-        if entry.replica != replica {
-            continue;
-        }
-        match &entry.act {
-            Act::Call { .. } => calls = calls.saturating_add(1),
-            Act::Send { message } if message.number == 0 => before = Some(calls),
-            _ => {}
-        }
-    }
-    (before, calls)
+// What a replica does for the first time: it sends to any other, or takes from this one.
+#[derive(Clone, Copy)]
+enum First {
+    Send,
+    TakeFrom(u32),
 }
 
-// How many calls a replica made before it took the first message of another, and how many in all.
-fn calls_before_taking(entries: &[Entry], replica: u32, from: u32) -> (Option<u64>, u64) {
+fn is_first(act: &Act, first: First) -> bool {
+    match (first, act) {
+        (First::Send, Act::Send { message }) => message.number == 0,
+        (First::TakeFrom(other), Act::Take { message }) => {
+            message.from == other && message.number == 0
+        }
+        _ => false,
+    }
+}
+
+// How many calls a replica made before it first did that, and how many in all.
+fn calls_before(entries: &[Entry], replica: u32, first: First) -> (Option<u64>, u64) {
     let mut calls: u64 = 0;
     let mut before = None;
     for entry in entries {
         if entry.replica != replica {
             continue;
         }
-        match &entry.act {
-            Act::Call { .. } => calls = calls.saturating_add(1),
-            Act::Take { message } if message.from == from && message.number == 0 => {
-                before = Some(calls);
-            }
-            _ => {}
+        if matches!(&entry.act, Act::Call { .. }) {
+            calls = calls.saturating_add(1);
+        } else if is_first(&entry.act, first) {
+            before = Some(calls);
         }
     }
     (before, calls)
@@ -92,21 +89,19 @@ fn calls_before_taking(entries: &[Entry], replica: u32, from: u32) -> (Option<u6
 fn workers_run_side_by_side_and_send_and_take_between_their_items(
     rt: HostRuntime,
 ) -> Result<(), Fail> {
-    let plan = parse_plan(rt.alloc(), PLAN)?;
     let gate = Crossing {
         calls: [AtomicU64::new(0), AtomicU64::new(0)],
         given_up: AtomicBool::new(false),
     };
-    let mut shelf = SureShelf::new(rt.alloc())?;
-    let clock = StepClock::new(1, 1);
-    let Ok(run) = run_plan(&rt, rt.alloc(), &plan, 20, &clock, &gate, &mut shelf) else {
-        panic!(rt; "it runs to its end")
-    };
+    let run = run_surely(&rt, rt.alloc(), PLAN, 20, &gate)?;
     assert!(rt;
         !gate.given_up.load(Ordering::SeqCst),
         "no call was held for too long"
     );
-    assert_eq!(rt; calls_before_sending(run.entries(), 1), (Some(1), 2));
-    assert_eq!(rt; calls_before_taking(run.entries(), 0, 1), (Some(1), 2));
+    assert_eq!(rt; calls_before(run.entries(), 1, First::Send), (Some(1), 2));
+    assert_eq!(rt;
+        calls_before(run.entries(), 0, First::TakeFrom(1)),
+        (Some(1), 2)
+    );
     Ok(())
 }

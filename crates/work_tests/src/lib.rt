@@ -6,6 +6,8 @@ mod gates;
 #[cfg(test)]
 mod kinds;
 #[cfg(test)]
+mod running;
+#[cfg(test)]
 mod runs;
 #[cfg(test)]
 mod shelves;

@@ -1,12 +1,17 @@
 //! Runs to their end, and a run in which a replica becomes full.
 
 use crate::kinds::kinds_of;
-use run_model::Act;
+use crate::running::run_surely;
+use run_model::{Act, Entry};
 use run_work::{RunFault, run_plan};
+use std::alloc::Global;
+use std::process::Abort;
+use std::sync::Wait;
 use std::test::Fail;
-use tact_base::Bytes;
+use std::thread::Threads;
+use tact_base::{Bytes, NoMemory};
 use tact_io::{FreeGate, StepClock, SureShelf};
-use work_load::parse_plan;
+use work_load::{Plan, parse_plan};
 
 pub(crate) const WORKED: &[u8] = br#"{"replicas":3,"conits":1,
  "bounds":[[0,0,200,[0,100,100]],[1,0,200,[100,0,100]],[2,0,200,[100,100,0]]],
@@ -19,20 +24,7 @@ pub(crate) const WORKED: &[u8] = br#"{"replicas":3,"conits":1,
 
 #[test]
 fn the_worked_workload_runs_to_its_end(rt: HostRuntime) -> Result<(), Fail> {
-    let plan = parse_plan(rt.alloc(), WORKED)?;
-    let mut shelf = SureShelf::new(rt.alloc())?;
-    let clock = StepClock::new(1, 1);
-    let Ok(run) = run_plan(
-        &rt,
-        rt.alloc(),
-        &plan,
-        50,
-        &clock,
-        &FreeGate::new(),
-        &mut shelf,
-    ) else {
-        panic!(rt; "it runs to its end")
-    };
+    let run = run_surely(&rt, rt.alloc(), WORKED, 50, &FreeGate::new())?;
     let kinds = kinds_of(run.entries());
     assert!(rt; 0 < kinds.sends && 0 < kinds.takes);
     assert_eq!(rt;
@@ -43,7 +35,7 @@ fn the_worked_workload_runs_to_its_end(rt: HostRuntime) -> Result<(), Fail> {
 }
 
 // A client of replica 0 that asks 1,000 times for what waits until its replica hears of the other.
-fn reads(text: &mut Bytes) -> Result<(), Fail> {
+fn append_reads(text: &mut Bytes) -> Result<(), NoMemory> {
     text.append(br#"{"replicas":2,"conits":1,"clients":[[0,0,["#)?;
     for read in 0..1_000 {
         if read > 0 {
@@ -51,73 +43,81 @@ fn reads(text: &mut Bytes) -> Result<(), Fail> {
         }
         text.append(br#"["read",1,[[0,0,0,0]]]"#)?;
     }
-    text.append(b"]]]}")?;
-    Ok(())
+    text.append(b"]]]}")
+}
+
+fn plan_of_reads(alloc: Global) -> Result<Plan, Fail> {
+    let mut text = Bytes::new(alloc);
+    append_reads(&mut text)?;
+    Ok(parse_plan(alloc, text.items())?)
+}
+
+// Each entry is of the moment 7, and there are as many as a replica may have.
+fn assert_moments(rt: &impl Abort, entries: &[Entry]) {
+    for entry in entries {
+        assert_eq!(rt; entry.moment, 7);
+    }
+    assert_eq!(rt; entries.len(), 20_000);
+}
+
+fn assert_full<R: Threads + Wait + Sync + Abort>(
+    rt: &R,
+    alloc: Global,
+    plan: &Plan,
+    shelf: &mut SureShelf,
+) {
+    let clock = StepClock::new(7, 0);
+    let gate = FreeGate::new();
+    match run_plan(rt, alloc, plan, 20, &clock, &gate, shelf) {
+        Err(
+            RunFault::Full {
+                replica,
+                count,
+                clock,
+                run,
+            },
+        ) => {
+            assert_eq!(rt; (replica, count, clock), (0, 20_000, 0));
+            assert_moments(rt, run.entries());
+        }
+        _ => panic!(rt; "it becomes full"),
+    }
 }
 
 #[test]
 fn a_replica_becomes_full_at_the_moments_of_the_clock(rt: HostRuntime) -> Result<(), Fail> {
-    let mut text = Bytes::new(rt.alloc());
-    reads(&mut text)?;
-    let plan = parse_plan(rt.alloc(), text.items())?;
+    let plan = plan_of_reads(rt.alloc())?;
     let mut shelf = SureShelf::new(rt.alloc())?;
-    let clock = StepClock::new(7, 0);
-    let ended = run_plan(
-        &rt,
-        rt.alloc(),
-        &plan,
-        20,
-        &clock,
-        &FreeGate::new(),
-        &mut shelf,
-    );
-    let Err(
-        RunFault::Full {
-            replica,
-            count,
-            clock,
-            run,
-        },
-    ) = ended
-    else {
-        panic!(rt; "it becomes full")
-    };
-    assert_eq!(rt; (replica, count, clock), (0, 20_000, 0));
-    for entry in run.entries() {
-        assert_eq!(rt; entry.moment, 7);
-    }
-    assert_eq!(rt; run.entries().len(), 20_000);
+    assert_full(&rt, rt.alloc(), &plan, &mut shelf);
     Ok(())
+}
+
+// How many calls there are: each is the first of client 4 of replica 1.
+fn first_calls(rt: &impl Abort, entries: &[Entry]) -> u64 {
+    let mut calls: u64 = 0;
+    for entry in entries {
+        if let Act::Call { client, number, .. } = &entry.act {
+            assert_eq!(rt; (entry.replica, *client, *number), (1, 4, 0));
+            calls = calls.saturating_add(1);
+        }
+    }
+    calls
 }
 
 #[test]
 fn sessions_of_replicas_without_clients_settle_a_run(rt: HostRuntime) -> Result<(), Fail> {
     let text =
         br#"{"replicas":3,"conits":1,"settle":2,"clients":[[1,4,[["write",["put",1,7],[]],["restart"]]]]}"#;
-    let plan = parse_plan(rt.alloc(), text)?;
-    let mut shelf = SureShelf::new(rt.alloc())?;
-    let clock = StepClock::new(1, 1);
-    let Ok(run) = run_plan(
-        &rt,
-        rt.alloc(),
-        &plan,
-        1,
-        &clock,
-        &FreeGate::new(),
-        &mut shelf,
-    ) else {
-        panic!(rt; "it runs to its end")
-    };
-    let mut calls: u64 = 0;
-    for entry in run.entries() {
-        if let Act::Call { client, number, .. } = &entry.act {
-            assert_eq!(rt; (entry.replica, *client, *number), (1, 4, 0));
-            calls = calls.saturating_add(1);
-        }
-    }
+    let run = run_surely(&rt, rt.alloc(), text, 1, &FreeGate::new())?;
     let kinds = kinds_of(run.entries());
     assert_eq!(rt;
-        (calls, kinds.calls, kinds.sends, kinds.takes, kinds.restarts),
+        (
+            first_calls(&rt, run.entries()),
+            kinds.calls,
+            kinds.sends,
+            kinds.takes,
+            kinds.restarts
+        ),
         (1, 1, 16, 16, 1)
     );
     Ok(())

@@ -1,35 +1,36 @@
 //! Runs over journals that fail.
 
 use crate::kinds::{Kinds, kinds_of};
+use crate::running::run_over;
 use crate::runs::WORKED;
 use run_check::{Verdict, check_record, put_verdict};
+use run_model::{Config, Entry};
 use run_record::{parse_text, text_of};
-use run_work::run_plan;
 use std::alloc::Global;
 use std::process::Abort;
 use std::sync::Wait;
 use std::test::Fail;
 use std::thread::Threads;
 use tact_base::Bytes;
-use tact_io::{FreeGate, JournalFail, MemShelf, StepClock};
+use tact_io::{FreeGate, JournalFail, MemShelf};
 use work_load::parse_plan;
 
-// The record of a run of the worked workload over journals that each fail at one call, after which the piece was kept or
-// lost; and how many entries of each kind it has.
+// The text of the record of a run.
+fn record_of(alloc: Global, config: &Config, entries: &[Entry]) -> Result<Bytes, Fail> {
+    let mut text = Bytes::new(alloc);
+    text_of(config, entries, &mut text)?;
+    Ok(text)
+}
+
+// The record of a run of the worked workload over such journals, and how many entries of each kind it has.
 fn record_over<R: Threads + Wait + Sync + Abort>(
     rt: &R,
     alloc: Global,
-    fail: JournalFail,
+    shelf: &mut MemShelf,
 ) -> Result<(Bytes, Kinds), Fail> {
     let plan = parse_plan(alloc, WORKED)?;
-    let clock = StepClock::new(1, 1);
-    let mut shelf = MemShelf::new(alloc, &[fail])?;
-    let gate = FreeGate::new();
-    let Ok(run) = run_plan(rt, alloc, &plan, 50, &clock, &gate, &mut shelf) else {
-        panic!(rt; "it runs to its end")
-    };
-    let mut text = Bytes::new(alloc);
-    text_of(plan.config(), run.entries(), &mut text)?;
+    let run = run_over(rt, alloc, &plan, 50, &FreeGate::new(), shelf);
+    let text = record_of(alloc, plan.config(), run.entries())?;
     Ok((text, kinds_of(run.entries())))
 }
 
@@ -54,21 +55,40 @@ fn said_of(alloc: Global, text: &[u8]) -> Result<Bytes, Fail> {
     }
 }
 
+// Whether a journal failed in a run over journals that each fail at one call, after which the piece was kept or lost.
+// The run goes to its end all the same, and the checker says so of its record.
+fn fails<R: Threads + Wait + Sync + Abort>(
+    rt: &R,
+    alloc: Global,
+    fail: JournalFail,
+) -> Result<bool, Fail> {
+    let mut shelf = MemShelf::new(alloc, &[fail])?;
+    let (text, kinds) = record_over(rt, alloc, &mut shelf)?;
+    let said = said_of(alloc, text.items())?;
+    assert!(rt; said.items().starts_with(b"run "));
+    assert_eq!(rt; kinds.calls, 10);
+    Ok(kinds.restarts > 0)
+}
+
+// From the first call to the first that no journal comes to, each fails in turn.
+fn assert_fails<R: Threads + Wait + Sync + Abort>(
+    rt: &R,
+    alloc: Global,
+    kept: bool,
+) -> Result<(), Fail> {
+    let mut failed: u64 = 0;
+    for call in 0..1_000 {
+        if !fails(rt, alloc, JournalFail { call, kept })? {
+            break;
+        }
+        failed = failed.saturating_add(1);
+    }
+    assert!(rt; 10 < failed && failed < 1_000);
+    Ok(())
+}
+
 #[test]
 fn a_journal_that_fails_once_leaves_a_run(rt: HostRuntime) -> Result<(), Fail> {
-    for kept in [false, true] {
-        let mut failed: u64 = 0;
-        for call in 0..1_000 {
-            let (text, kinds) = record_over(&rt, rt.alloc(), JournalFail { call, kept })?;
-            let said = said_of(rt.alloc(), text.items())?;
-            assert!(rt; said.items().starts_with(b"run "));
-            assert_eq!(rt; kinds.calls, 10);
-            if kinds.restarts == 0 {
-                break;
-            }
-            failed = failed.saturating_add(1);
-        }
-        assert!(rt; 10 < failed && failed < 1_000);
-    }
-    Ok(())
+    assert_fails(&rt, rt.alloc(), false)?;
+    assert_fails(&rt, rt.alloc(), true)
 }
