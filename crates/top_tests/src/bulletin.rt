@@ -29,19 +29,24 @@ const VERDICT: &str =
 // Forty posts, at the replicas in turn, with a round after every sixth and after the last.
 fn script(alloc: Global) -> Result<String, Fail> {
     let mut script = String::from_str(alloc, "start 3 1 20 10\n")?;
+    push_posts(alloc, &mut script)?;
+    Ok(script)
+}
+
+fn push_posts(alloc: Global, script: &mut String) -> Result<(), Fail> {
     for key in 0..40_u64 {
-        push_post(alloc, key, &mut script)?;
+        push_post(alloc, key, script)?;
+        if key % 6 == 5 || key == 39 {
+            script.push_str(ROUND)?;
+        }
     }
     script.push_str(LAST_LINES)?;
-    Ok(script)
+    Ok(())
 }
 
 fn push_post(alloc: Global, key: u64, script: &mut String) -> Result<(), Fail> {
     let post = format!(in alloc; "write {} 0 put {key} 1 0:1:1\n", key % 3)?;
     script.push_str(&post)?;
-    if key % 6 == 5 || key == 39 {
-        script.push_str(ROUND)?;
-    }
     Ok(())
 }
 
@@ -54,12 +59,17 @@ fn played<R: Threads + Wait + Sync + AllocGlobal>(rt: &R) -> Result<MemSink, Fai
 // The lines of a text but its comments.
 fn without_comments(alloc: Global, text: &[u8]) -> Result<Vec<u8>, Fail> {
     let mut kept = Vec::new(alloc);
+    push_kept(text, &mut kept)?;
+    Ok(kept)
+}
+
+fn push_kept(text: &[u8], kept: &mut Vec<u8>) -> Result<(), Fail> {
     for line in text.split_inclusive(|byte| *byte == b'\n') {
         if !line.starts_with(b"#") {
             kept.extend_from_slice(line)?;
         }
     }
-    Ok(kept)
+    Ok(())
 }
 
 // The verdict on a record of the run.

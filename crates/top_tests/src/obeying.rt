@@ -12,14 +12,14 @@ use tact_top::tact;
 // The words of a line.
 fn words_of(alloc: Global, line: &str) -> Result<Vec<String>, Fail> {
     let mut words = Vec::new(alloc);
-    for word in line.split_whitespace() {
-        push_word(alloc, word, &mut words)?;
-    }
+    push_words(alloc, line, &mut words)?;
     Ok(words)
 }
 
-fn push_word(alloc: Global, word: &str, words: &mut Vec<String>) -> Result<(), Fail> {
-    words.push(String::from_str(alloc, word)?)?;
+fn push_words(alloc: Global, line: &str, words: &mut Vec<String>) -> Result<(), Fail> {
+    for word in line.split_whitespace() {
+        words.push(String::from_str(alloc, word)?)?;
+    }
     Ok(())
 }
 

@@ -48,7 +48,8 @@ fn what_is_no_workload_has_its_place(rt: HostRuntime) -> Result<(), Fail> {
 }
 
 // The line that is said of the record of the worked workload.
-fn assert_worked(rt: &impl Abort, line: &str) {
+fn assert_worked(rt: &impl Abort, said: &[u8]) -> Result<(), Fail> {
+    let line = str::from_utf8(said)?;
     assert!(rt;
         line.starts_with("run ") && line.ends_with(" lends 1 backs 1 restarts 0\n"),
         "{line}"
@@ -57,14 +58,14 @@ fn assert_worked(rt: &impl Abort, line: &str) {
         !line.contains(" sends 0 ") && !line.contains(" takes 0 "),
         "{line}"
     );
+    Ok(())
 }
 
 #[test]
 fn the_worked_workload_runs_to_its_end(rt: HostRuntime) -> Result<(), Fail> {
     let record = done(&rt, "tactcli run --tries 50", WORKED)?;
     let said = done(&rt, "tactcli check", record.bytes())?;
-    assert_worked(&rt, str::from_utf8(said.bytes())?);
-    Ok(())
+    assert_worked(&rt, said.bytes())
 }
 
 #[test]
@@ -128,13 +129,20 @@ fn run_over<R: Threads + Wait + Sync + AllocGlobal>(
     obeyed_over(rt, "tactcli run", input, &[], &[], &mut shelf)
 }
 
+fn assert_restarted<R: Threads + Wait + Sync + AllocGlobal + Abort>(
+    rt: &R,
+    record: &[u8],
+) -> Result<(), Fail> {
+    let said = done(rt, "tactcli check", record)?;
+    assert!(rt; said.bytes().ends_with(b" restarts 1\n"));
+    Ok(())
+}
+
 #[test]
 fn a_run_whose_journal_fails_once_is_written(rt: HostRuntime) -> Result<(), Fail> {
     let (status, sink) = run_over(&rt, &[ONCE])?;
     assert_eq!(rt; status, Status::Done);
-    let said = done(&rt, "tactcli check", sink.bytes())?;
-    assert!(rt; said.bytes().ends_with(b" restarts 1\n"));
-    Ok(())
+    assert_restarted(&rt, sink.bytes())
 }
 
 #[test]

@@ -1,11 +1,12 @@
 //! Runs over journals that fail.
 
-use crate::kinds::{Kinds, kinds_of};
+use crate::kinds::kinds_of;
 use crate::running::run_over;
 use crate::runs::WORKED;
 use run_check::{Verdict, check_record, put_verdict};
 use run_model::{Config, Entry};
 use run_record::{parse_text, text_of};
+use run_work::Run;
 use std::alloc::Global;
 use std::process::Abort;
 use std::sync::Wait;
@@ -13,25 +14,13 @@ use std::test::Fail;
 use std::thread::Threads;
 use tact_base::Bytes;
 use tact_io::{FreeGate, JournalFail, MemShelf};
-use work_load::parse_plan;
+use work_load::{Plan, parse_plan};
 
 // The text of the record of a run.
 fn record_of(alloc: Global, config: &Config, entries: &[Entry]) -> Result<Bytes, Fail> {
     let mut text = Bytes::new(alloc);
     text_of(config, entries, &mut text)?;
     Ok(text)
-}
-
-// The record of a run of the worked workload over such journals, and how many entries of each kind it has.
-fn record_over<R: Threads + Wait + Sync + Abort>(
-    rt: &R,
-    alloc: Global,
-    shelf: &mut MemShelf,
-) -> Result<(Bytes, Kinds), Fail> {
-    let plan = parse_plan(alloc, WORKED)?;
-    let run = run_over(rt, alloc, &plan, 50, &FreeGate::new(), shelf);
-    let text = record_of(alloc, plan.config(), run.entries())?;
-    Ok((text, kinds_of(run.entries())))
 }
 
 // What the checker finds of a record.
@@ -55,17 +44,40 @@ fn said_of(alloc: Global, text: &[u8]) -> Result<Bytes, Fail> {
     }
 }
 
-// Whether a journal failed in a run over journals that each fail at one call, after which the piece was kept or lost.
-// The run goes to its end all the same, and the checker says so of its record.
+// The checker says of a record that it is that of a run.
+fn assert_runs(
+    rt: &impl Abort,
+    alloc: Global,
+    config: &Config,
+    entries: &[Entry],
+) -> Result<(), Fail> {
+    let text = record_of(alloc, config, entries)?;
+    let said = said_of(alloc, text.items())?;
+    assert!(rt; said.items().starts_with(b"run "));
+    Ok(())
+}
+
+// The run of a plan to its end over journals that each fail at one call, after which the piece was kept or lost.
+fn run_failing<R: Threads + Wait + Sync + Abort>(
+    rt: &R,
+    alloc: Global,
+    plan: &Plan,
+    fail: JournalFail,
+) -> Result<Run, Fail> {
+    let mut shelf = MemShelf::new(alloc, &[fail])?;
+    Ok(run_over(rt, alloc, plan, 50, &FreeGate::new(), &mut shelf))
+}
+
+// Whether a journal failed in such a run of the worked workload.
 fn fails<R: Threads + Wait + Sync + Abort>(
     rt: &R,
     alloc: Global,
+    plan: &Plan,
     fail: JournalFail,
 ) -> Result<bool, Fail> {
-    let mut shelf = MemShelf::new(alloc, &[fail])?;
-    let (text, kinds) = record_over(rt, alloc, &mut shelf)?;
-    let said = said_of(alloc, text.items())?;
-    assert!(rt; said.items().starts_with(b"run "));
+    let run = run_failing(rt, alloc, plan, fail)?;
+    assert_runs(rt, alloc, plan.config(), run.entries())?;
+    let kinds = kinds_of(run.entries());
     assert_eq!(rt; kinds.calls, 10);
     Ok(kinds.restarts > 0)
 }
@@ -74,11 +86,12 @@ fn fails<R: Threads + Wait + Sync + Abort>(
 fn assert_fails<R: Threads + Wait + Sync + Abort>(
     rt: &R,
     alloc: Global,
+    plan: &Plan,
     kept: bool,
 ) -> Result<(), Fail> {
     let mut failed: u64 = 0;
     for call in 0..1_000 {
-        if !fails(rt, alloc, JournalFail { call, kept })? {
+        if !fails(rt, alloc, plan, JournalFail { call, kept })? {
             break;
         }
         failed = failed.saturating_add(1);
@@ -89,6 +102,7 @@ fn assert_fails<R: Threads + Wait + Sync + Abort>(
 
 #[test]
 fn a_journal_that_fails_once_leaves_a_run(rt: HostRuntime) -> Result<(), Fail> {
-    assert_fails(&rt, rt.alloc(), false)?;
-    assert_fails(&rt, rt.alloc(), true)
+    let plan = parse_plan(rt.alloc(), WORKED)?;
+    assert_fails(&rt, rt.alloc(), &plan, false)?;
+    assert_fails(&rt, rt.alloc(), &plan, true)
 }
