@@ -2,70 +2,19 @@
 
 use crate::asking::{Ask, Deed};
 use crate::member::Member;
-use run_model::{Config, Reply};
+use crate::saying::Said;
+use run_model::Config;
 use std::alloc::Global;
 use std::process::Abort;
 use std::test::Fail;
 
-// A write or a held write of an nweight, which adds 1 to key 7.
-fn write(nweight: i8) -> Ask {
-    Ask::Write(nweight, 1, Deed::Add(7, 1))
-}
-
-fn held(nweight: i8) -> Ask {
-    Ask::Held(nweight, 1, Deed::Add(7, 1))
-}
-
-fn done(index: u64, stamp: u64) -> Reply {
-    Reply::Done { index, stamp }
-}
-
-fn too_heavy(peer: u32, weight: u64, share: u64) -> Reply {
-    Reply::TooHeavy {
-        conit: 0,
-        peer,
-        weight,
-        share,
-    }
-}
-
-fn wait_held(peer: u32, reserved: u64, weight: u64, share: u64) -> Reply {
-    Reply::WaitHeld {
-        conit: 0,
-        peer,
-        reserved,
-        weight,
-        share,
-    }
-}
-
-fn wait_share(peer: u32, missing: u64, reserved: u64, weight: u64, share: u64) -> Reply {
-    Reply::WaitShare {
-        conit: 0,
-        peer,
-        missing,
-        reserved,
-        weight,
-        share,
-    }
-}
-
-fn not_held(held: u64, amount: u64) -> Reply {
-    Reply::NotHeld {
-        conit: 0,
-        held,
-        amount,
-    }
-}
+// What each write and each held write does.
+const ADD: Deed = Deed::Add(7, 1);
 
 // Client 2 asks for one after another, and each reply is compared.
-fn assert_replies(
-    rt: &impl Abort,
-    member: &mut Member,
-    table: &[(Ask, Reply)],
-) -> Result<(), Fail> {
+fn assert_replies(rt: &impl Abort, member: &mut Member, table: &[(Ask, Said)]) -> Result<(), Fail> {
     for (ask, said) in table {
-        assert_eq!(rt; &member.ask(rt, 3, 2, *ask)??, said);
+        assert_eq!(rt; member.ask(rt, 3, 2, *ask)??, said.reply());
     }
     Ok(())
 }
@@ -81,18 +30,20 @@ fn assert_counts(rt: &impl Abort, member: &Member, counts: (u64, u64, u64), miss
 }
 
 // A share of 5 is used up on either side.
+#[rattlefmt::skip]
+static USED_UP: [(Ask, Said); 8] = [
+    (Ask::Write(6, 1, ADD), Said::TooHeavy { weight: 6, share: 5 }),
+    (Ask::Write(5, 1, ADD), Said::Done { index: 0, stamp: 1 }),
+    (Ask::Write(1, 1, ADD), Said::WaitShare { missing: 5, reserved: 0, weight: 1, share: 5 }),
+    (Ask::Write(0, 1, ADD), Said::Done { index: 1, stamp: 2 }),
+    (Ask::Write(-6, 1, ADD), Said::TooHeavy { weight: 6, share: 5 }),
+    (Ask::Write(-5, 1, ADD), Said::Done { index: 2, stamp: 3 }),
+    (Ask::Write(1, 1, ADD), Said::WaitShare { missing: 5, reserved: 0, weight: 1, share: 5 }),
+    (Ask::Write(-1, 1, ADD), Said::WaitShare { missing: 5, reserved: 0, weight: 1, share: 5 }),
+];
+
 fn use_up_a_share(rt: &impl Abort, member: &mut Member) -> Result<(), Fail> {
-    let table = [
-        (write(6), too_heavy(1, 6, 5)),
-        (write(5), done(0, 1)),
-        (write(1), wait_share(1, 5, 0, 1, 5)),
-        (write(0), done(1, 2)),
-        (write(-6), too_heavy(1, 6, 5)),
-        (write(-5), done(2, 3)),
-        (write(1), wait_share(1, 5, 0, 1, 5)),
-        (write(-1), wait_share(1, 5, 0, 1, 5)),
-    ];
-    assert_replies(rt, member, &table)?;
+    assert_replies(rt, member, &USED_UP)?;
     assert_counts(rt, member, (8, 8, 3), (5, 5));
     assert_eq!(rt; member.replica.tentative().len(), 3);
     Ok(())
@@ -111,16 +62,18 @@ fn writes_wait_for_the_share(rt: HostRuntime) -> Result<(), Fail> {
 }
 
 // All of a share is reserved, and one write takes it.
+#[rattlefmt::skip]
+static SPENT: [(Ask, Said); 6] = [
+    (Ask::Reserve(10), Said::Granted),
+    (Ask::Write(1, 1, ADD), Said::WaitHeld { reserved: 10, weight: 1, share: 10 }),
+    (Ask::Held(10, 1, ADD), Said::Done { index: 0, stamp: 1 }),
+    (Ask::Write(1, 1, ADD), Said::WaitShare { missing: 10, reserved: 0, weight: 1, share: 10 }),
+    (Ask::Held(1, 1, ADD), Said::NotHeld { held: 0, amount: 1 }),
+    (Ask::Release(1), Said::NotHeld { held: 0, amount: 1 }),
+];
+
 fn spend_all(rt: &impl Abort, member: &mut Member) -> Result<(), Fail> {
-    let table = [
-        (Ask::Reserve(10), Reply::Granted),
-        (write(1), wait_held(1, 10, 1, 10)),
-        (held(10), done(0, 1)),
-        (write(1), wait_share(1, 10, 0, 1, 10)),
-        (held(1), not_held(0, 1)),
-        (Ask::Release(1), not_held(0, 1)),
-    ];
-    assert_replies(rt, member, &table)?;
+    assert_replies(rt, member, &SPENT)?;
     assert_counts(rt, member, (6, 6, 1), (10, 0));
     Ok(())
 }
@@ -131,22 +84,24 @@ fn held_writes_spend_what_is_reserved(rt: HostRuntime) -> Result<(), Fail> {
     spend_all(&rt, &mut member)
 }
 
-// A negative weight is missed: what is reserved beside it is of either sign. There is room for the first write, and
-// none for the second, with which room is made for 63 others.
+// A negative weight is missed: what is reserved beside it is of either sign.
+#[rattlefmt::skip]
+static RESERVED: [(Ask, Said); 9] = [
+    (Ask::Write(-7, 1, ADD), Said::Done { index: 0, stamp: 1 }),
+    (Ask::Reserve(11), Said::TooHeavy { weight: 11, share: 10 }),
+    (Ask::Reserve(4), Said::WaitShare { missing: 7, reserved: 0, weight: 4, share: 10 }),
+    (Ask::Reserve(3), Said::Granted),
+    (Ask::Reserve(8), Said::WaitHeld { reserved: 3, weight: 8, share: 10 }),
+    (Ask::Held(-2, 1, ADD), Said::Done { index: 1, stamp: 2 }),
+    (Ask::Release(2), Said::NotHeld { held: 1, amount: 2 }),
+    (Ask::Release(1), Said::Released),
+    (Ask::Reserve(1), Said::Granted),
+];
+
+// There is room for the first write, and none for the second, with which room is made for 63 others.
 fn reserve_beside_a_write(rt: &impl Abort, member: &mut Member) -> Result<(), Fail> {
     member.reserve(1)?;
-    let table = [
-        (write(-7), done(0, 1)),
-        (Ask::Reserve(11), too_heavy(1, 11, 10)),
-        (Ask::Reserve(4), wait_share(1, 7, 0, 4, 10)),
-        (Ask::Reserve(3), Reply::Granted),
-        (Ask::Reserve(8), wait_held(1, 3, 8, 10)),
-        (held(-2), done(1, 2)),
-        (Ask::Release(2), not_held(1, 2)),
-        (Ask::Release(1), Reply::Released),
-        (Ask::Reserve(1), Reply::Granted),
-    ];
-    assert_replies(rt, member, &table)?;
+    assert_replies(rt, member, &RESERVED)?;
     assert_counts(rt, member, (9, 9, 2), (0, 9));
     assert_eq!(rt; (member.reserved(), member.replica.spare()), (1, 63));
     Ok(())

@@ -6,7 +6,7 @@ use run_model::{Config, Message};
 use std::alloc::Global;
 use std::process::Abort;
 use std::test::Fail;
-use tact_base::{Cover, Covers, Numbers, Op, SharedWrites, Weights, Write, WriteList};
+use tact_base::{Cover, Covers, NoMemory, Numbers, Op, SharedWrites, Weights, Write, WriteList};
 
 // What a message is made of: the index and the stamp are those of its one write, which is replica 0's.
 #[derive(Clone, Copy)]
@@ -29,22 +29,6 @@ const GOOD: Parts<'static> = Parts {
     returned: &[0, 2],
 };
 
-fn of_haves(haves: &[u64]) -> Parts<'_> {
-    Parts { haves, ..GOOD }
-}
-
-fn of_returned(returned: &[u64]) -> Parts<'_> {
-    Parts { returned, ..GOOD }
-}
-
-fn of_write(index: u64, stamp: u64) -> Parts<'static> {
-    Parts {
-        index,
-        stamp,
-        ..GOOD
-    }
-}
-
 // The write of a message whose sender's cover stands at the stamp 12.
 fn told(parts: &Parts) -> Result<Write, Fail> {
     Ok(Write {
@@ -63,23 +47,36 @@ fn writes_of(alloc: Global, parts: &Parts) -> Result<WriteList, Fail> {
     Ok(writes)
 }
 
+const COVER: Cover = Cover {
+    count: 1,
+    stamp: 12,
+    moment: 30,
+};
+
+// Puts the lists into a message that has none.
+fn fill(message: &mut Message, parts: &Parts) -> Result<(), NoMemory> {
+    message.haves.append(parts.haves)?;
+    message.covers.append(&[COVER; 3])?;
+    message.firsts.append(&[parts.index, 2, 0])?;
+    message.lent.append(&[5, 0])?;
+    message.returned.append(parts.returned)
+}
+
 fn message_of(alloc: Global, parts: &Parts) -> Result<Message, Fail> {
-    let cover = Cover {
-        count: 1,
-        stamp: 12,
-        moment: 30,
-    };
-    Ok(Message {
+    let writes = SharedWrites::new(alloc, writes_of(alloc, parts)?)?;
+    let mut message = Message {
         from: parts.from,
         to: parts.to,
         number: 3,
-        haves: Numbers::from_slice(alloc, parts.haves)?,
-        covers: Covers::from_slice(alloc, &[cover; 3])?,
-        firsts: Numbers::from_slice(alloc, &[parts.index, 2, 0])?,
-        writes: SharedWrites::new(alloc, writes_of(alloc, parts)?)?,
-        lent: Numbers::from_slice(alloc, &[5, 0])?,
-        returned: Numbers::from_slice(alloc, parts.returned)?,
-    })
+        haves: Numbers::new(alloc),
+        covers: Covers::new(alloc),
+        firsts: Numbers::new(alloc),
+        writes,
+        lent: Numbers::new(alloc),
+        returned: Numbers::new(alloc),
+    };
+    fill(&mut message, parts)?;
+    Ok(message)
 }
 
 // Replica 1 of three, which lends 2 on the second of two conits to replica 0.
@@ -118,26 +115,24 @@ fn assert_each(
 }
 
 // Of a replica that made two writes.
-fn assert_fits(rt: &impl Abort, alloc: Global, member: &Member) -> Result<(), Fail> {
-    let cases = [
-        (GOOD, true, "a message that fits"),
-        (Parts { from: 3, ..GOOD }, false, "a sender past the count"),
-        (Parts { from: 1, ..GOOD }, false, "of itself"),
-        (Parts { to: 2, ..GOOD }, false, "addressed to another"),
-        (of_haves(&[6, 2]), false, "haves too short"),
-        (of_haves(&[6, 3, 1]), false, "more own writes than made"),
-        (of_returned(&[0, 1]), true, "less returned than lent"),
-        (of_returned(&[0, 3]), false, "more returned than lent"),
-        (of_returned(&[1, 2]), false, "returned where none was lent"),
-        (of_write(0, 13), false, "a stamp past the sender's"),
-        (of_write(1, 13), true, "a write that isn't next"),
-    ];
-    assert_each(rt, alloc, member, &cases)
-}
+#[rattlefmt::skip]
+static CASES: [Case; 11] = [
+    (GOOD, true, "a message that fits"),
+    (Parts { from: 3, ..GOOD }, false, "a sender past the count"),
+    (Parts { from: 1, ..GOOD }, false, "of itself"),
+    (Parts { to: 2, ..GOOD }, false, "addressed to another"),
+    (Parts { haves: &[6, 2], ..GOOD }, false, "haves too short"),
+    (Parts { haves: &[6, 3, 1], ..GOOD }, false, "more own writes than made"),
+    (Parts { returned: &[0, 1], ..GOOD }, true, "less returned than lent"),
+    (Parts { returned: &[0, 3], ..GOOD }, false, "more returned than lent"),
+    (Parts { returned: &[1, 2], ..GOOD }, false, "returned where none was lent"),
+    (Parts { index: 0, stamp: 13, ..GOOD }, false, "a stamp past the sender's"),
+    (Parts { index: 1, stamp: 13, ..GOOD }, true, "a write that isn't next"),
+];
 
 fn write_and_fit(rt: &impl Abort, alloc: Global, member: &mut Member) -> Result<(), Fail> {
     write_twice(rt, member)?;
-    assert_fits(rt, alloc, member)
+    assert_each(rt, alloc, member, &CASES)
 }
 
 #[test]

@@ -26,47 +26,44 @@ fn assert_told(
     Ok(())
 }
 
-// Refused: so much is at home on the conit, or so much is free.
-fn home(conit: u32, home: u64) -> Result<(), LoanFault> {
-    Err(LoanFault::Home { conit, home })
-}
-
-fn free(conit: u32, free: u64) -> Result<(), LoanFault> {
-    Err(LoanFault::Free { conit, free })
-}
-
 // It made so many entries, the last at the moment 5.
 fn assert_entries(rt: &impl Abort, member: &Member, count: u64) {
     assert_eq!(rt; (member.replica.count(), member.replica.last()), (count, 5));
 }
 
-// Lends some of what is at home, and more.
+// Some of what is at home, and more: a conit, an amount, and the answer.
+#[rattlefmt::skip]
+static LENT: [(u32, u8, Result<(), LoanFault>); 6] = [
+    (0, 3, Ok(())),
+    (0, 5, Err(LoanFault::Home { conit: 0, home: 4 })),
+    (0, 4, Ok(())),
+    (0, 1, Err(LoanFault::Home { conit: 0, home: 0 })),
+    (1, 7, Err(LoanFault::Home { conit: 1, home: 6 })),
+    (1, 6, Ok(())),
+];
+
 fn lend_and_more(rt: &impl Abort, member: &mut Member) {
-    for (conit, amount, given) in [
-        (0, 3, Ok(())),
-        (0, 5, home(0, 4)),
-        (0, 4, Ok(())),
-        (0, 1, home(0, 0)),
-        (1, 7, home(1, 6)),
-        (1, 6, Ok(())),
-    ] {
-        assert_eq!(rt; member.lend(rt, 5, 1, conit, amount), given);
+    for (conit, amount, given) in &LENT {
+        assert_eq!(rt; &member.lend(rt, 5, 1, *conit, *amount), given);
     }
     assert_entries(rt, member, 3);
 }
 
-// Gives back some of what is free, and more.
+// Some of what is free, and more.
+#[rattlefmt::skip]
+static GIVEN_BACK: [(u32, u8, Result<(), LoanFault>); 7] = [
+    (0, 5, Err(LoanFault::Free { conit: 0, free: 4 })),
+    (0, 1, Ok(())),
+    (0, 4, Err(LoanFault::Free { conit: 0, free: 3 })),
+    (0, 3, Ok(())),
+    (0, 0, Ok(())),
+    (1, 3, Err(LoanFault::Free { conit: 1, free: 2 })),
+    (1, 2, Ok(())),
+];
+
 fn give_back_and_more(rt: &impl Abort, member: &mut Member) {
-    for (conit, amount, given) in [
-        (0, 5, free(0, 4)),
-        (0, 1, Ok(())),
-        (0, 4, free(0, 3)),
-        (0, 3, Ok(())),
-        (0, 0, Ok(())),
-        (1, 3, free(1, 2)),
-        (1, 2, Ok(())),
-    ] {
-        assert_eq!(rt; member.give_back(rt, 5, 1, conit, amount), given);
+    for (conit, amount, given) in &GIVEN_BACK {
+        assert_eq!(rt; &member.give_back(rt, 5, 1, *conit, *amount), given);
     }
     assert_entries(rt, member, 4);
 }

@@ -18,4 +18,6 @@ mod readings;
 #[cfg(test)]
 mod replica;
 #[cfg(test)]
+mod saying;
+#[cfg(test)]
 mod taking;

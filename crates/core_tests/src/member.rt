@@ -159,6 +159,22 @@ impl Member {
     }
 }
 
+/// Two that make a group.
+#[derive(Drop)]
+pub(crate) struct Pair {
+    pub zero: Box<Member>,
+    pub one: Box<Member>,
+}
+
+impl Pair {
+    /// Each allows 10, and replica 0 and replica 1 lend the other so much.
+    pub(crate) fn new(rt: &impl Abort, alloc: Global, lent: [u64; 2]) -> Result<Pair, Fail> {
+        let zero = Member::of_two(rt, alloc, 0, lent)?;
+        let one = Member::of_two(rt, alloc, 1, lent)?;
+        Ok(Pair { zero, one })
+    }
+}
+
 /// One of two sends to the other, which takes the message at once, where it fits: whether it does.
 pub(crate) fn tell(
     rt: &impl Abort,

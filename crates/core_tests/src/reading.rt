@@ -1,9 +1,9 @@
 //! Reads of a replica: what they wait for, what they are told, and what can be read without a call.
 
 use crate::asking::{Ask, Deed};
-use crate::member::{Member, tell};
+use crate::member::{Member, Pair, tell};
+use crate::saying::Said;
 use replica_core::LastOne;
-use run_model::{Reply, Sums};
 use std::process::Abort;
 use std::test::Fail;
 
@@ -13,79 +13,66 @@ fn add(rt: &impl Abort, member: &mut Member, amount: i8, oweight: u8) -> Result<
     Ok(())
 }
 
-fn told(value: i64, sum: i64) -> Reply {
-    Reply::Value {
-        value,
-        sums: Sums::new(&[sum]),
-    }
-}
-
 // Client 0 reads key 1 at a moment.
 fn assert_read(
     rt: &impl Abort,
     member: &mut Member,
     moment: u8,
     ask: Ask,
-    said: &Reply,
+    said: Said,
 ) -> Result<(), Fail> {
-    assert_eq!(rt; &member.ask(rt, moment, 0, ask)??, said);
+    assert_eq!(rt; member.ask(rt, moment, 0, ask)??, said.reply());
     Ok(())
 }
 
+const LENT: Said = Said::WaitLent {
+    out: 10,
+    total: 10,
+    num: 9,
+};
+
 // A loan is out until it is given back: then the read is answered.
 fn read_what_is_lent(rt: &impl Abort, zero: &mut Member, one: &mut Member) -> Result<(), Fail> {
-    let lent = Reply::WaitLent {
-        conit: 0,
-        holder: 1,
-        out: 10,
-        total: 10,
-        num: 9,
-    };
-    assert_read(rt, zero, 0, Ask::Read(9, 0, 0), &lent)?;
+    assert_read(rt, zero, 0, Ask::Read(9, 0, 0), LENT)?;
     assert_eq!(rt; one.give_back(rt, 0, 0, 0, 1), Ok(()));
     tell(rt, 0, one, zero)?;
-    assert_read(rt, zero, 0, Ask::Read(9, 0, 0), &told(0, 0))
+    assert_read(
+        rt,
+        zero,
+        0,
+        Ask::Read(9, 0, 0),
+        Said::Value { value: 0, sum: 0 },
+    )
 }
 
 #[test]
 fn waits_for_what_is_lent(rt: HostRuntime) -> Result<(), Fail> {
-    let mut zero = Member::of_two(&rt, rt.alloc(), 0, [10; 2])?;
-    let mut one = Member::of_two(&rt, rt.alloc(), 1, [10; 2])?;
-    read_what_is_lent(&rt, &mut zero, &mut one)
+    let mut pair = Pair::new(&rt, rt.alloc(), [10; 2])?;
+    read_what_is_lent(&rt, &mut pair.zero, &mut pair.one)
 }
+
+#[rattlefmt::skip]
+static BOUNDS: [(Ask, Said); 4] = [
+    (Ask::Read(10, 4, 10), Said::Value { value: 1, sum: 1 }),
+    (Ask::Read(10, 3, 10), Said::WaitOrder { tentative: 4, order: 3 }),
+    (Ask::Read(10, 4, 9), Said::WaitStale { moment: 100, wanted: 101 }),
+    (Ask::Read(10, 4, 111), Said::Value { value: 1, sum: 1 }),
+];
 
 // An own write weighs 4 in the order, and the other was last heard of at the moment 100.
 fn read_at_the_bounds(rt: &impl Abort, zero: &mut Member, one: &mut Member) -> Result<(), Fail> {
-    let unordered = Reply::WaitOrder {
-        conit: 0,
-        replica: 1,
-        tentative: 4,
-        order: 3,
-    };
-    let late = Reply::WaitStale {
-        conit: 0,
-        replica: 1,
-        moment: 100,
-        wanted: 101,
-    };
     tell(rt, 100, one, zero)?;
     add(rt, zero, 1, 4)?;
-    for (ask, said) in &[
-        (Ask::Read(10, 4, 10), told(1, 1)),
-        (Ask::Read(10, 3, 10), unordered),
-        (Ask::Read(10, 4, 9), late),
-        (Ask::Read(10, 4, 111), told(1, 1)),
-    ] {
-        assert_read(rt, zero, 110, *ask, said)?;
+    for &(ask, said) in &BOUNDS {
+        assert_read(rt, zero, 110, ask, said)?;
     }
     Ok(())
 }
 
 #[test]
 fn waits_for_the_order_and_for_who_is_late(rt: HostRuntime) -> Result<(), Fail> {
-    let mut zero = Member::of_two(&rt, rt.alloc(), 0, [10; 2])?;
-    let mut one = Member::of_two(&rt, rt.alloc(), 1, [10; 2])?;
-    read_at_the_bounds(&rt, &mut zero, &mut one)
+    let mut pair = Pair::new(&rt, rt.alloc(), [10; 2])?;
+    read_at_the_bounds(&rt, &mut pair.zero, &mut pair.one)
 }
 
 // What can be read of a replica on one conit: the value of the conit, that of key 1, the weight of tentative
@@ -125,7 +112,6 @@ fn write_and_hear(rt: &impl Abort, zero: &mut Member, one: &mut Member) -> Resul
 
 #[test]
 fn keeps_what_is_read(rt: HostRuntime) -> Result<(), Fail> {
-    let mut zero = Member::of_two(&rt, rt.alloc(), 0, [10; 2])?;
-    let mut one = Member::of_two(&rt, rt.alloc(), 1, [10; 2])?;
-    write_and_hear(&rt, &mut zero, &mut one)
+    let mut pair = Pair::new(&rt, rt.alloc(), [10; 2])?;
+    write_and_hear(&rt, &mut pair.zero, &mut pair.one)
 }

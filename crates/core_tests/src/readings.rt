@@ -20,12 +20,18 @@ pub(crate) struct Readings {
     pub spare: u64,
 }
 
-fn read_all(rt: &impl Abort, member: &Member) -> Readings {
-    let replica = &member.replica;
+// How many calls each client made.
+fn calls_of(rt: &impl Abort, member: &Member) -> [u64; 8] {
     let mut calls = [0; 8];
     for client in 0..8 {
         calls[client as usize] = member.calls(rt, client);
     }
+    calls
+}
+
+fn read_all(rt: &impl Abort, member: &Member) -> Readings {
+    let calls = calls_of(rt, member);
+    let replica = &member.replica;
     Readings {
         haves: [replica.have(0), replica.have(1)],
         known: [

@@ -37,31 +37,32 @@ fn accept_two(rt: &impl Abort, member: &mut Member) -> Result<(), Fail> {
     assert_eq!(rt; member.replica.spare(), 2);
     assert_written(rt, member, 5, 0, 1)?;
     assert_written(rt, member, 4, 1, 2)?;
-    assert_readings(rt, member, &accepted_readings());
+    assert_readings(rt, member, &ACCEPTED);
     Ok(())
 }
 
 // What replica 1 of two reads, of which client 3 wrote twice, at the moment 5 first, where there was room for no more.
-fn accepted_readings() -> Readings {
-    let own = Cover {
-        count: 2,
-        stamp: 2,
-        moment: 5,
-    };
-    Readings {
-        haves: [0, 2],
-        known: [0; 4],
-        covers: [Cover::default(), own],
-        clock: 2,
-        point: 0,
-        committed: 0,
-        tentative: 2,
-        count: 2,
-        calls: [0, 0, 0, 2, 0, 0, 0, 0],
-        last: 5,
-        spare: 0,
-    }
-}
+#[rattlefmt::skip]
+static ACCEPTED: Readings = Readings {
+    haves: [0, 2],
+    known: [0; 4],
+    covers: [NOTHING, Cover { count: 2, stamp: 2, moment: 5 }],
+    clock: 2,
+    point: 0,
+    committed: 0,
+    tentative: 2,
+    count: 2,
+    calls: [0, 0, 0, 2, 0, 0, 0, 0],
+    last: 5,
+    spare: 0,
+};
+
+// The cover of one that was never heard of.
+const NOTHING: Cover = Cover {
+    count: 0,
+    stamp: 0,
+    moment: 0,
+};
 
 #[test]
 fn accepts_writes(rt: HostRuntime) -> Result<(), Fail> {
@@ -77,7 +78,7 @@ fn assert_message(rt: &impl Abort, message: &Message, first: u64, count: usize, 
         moment,
     };
     assert_eq!(rt; (message.from, message.to, message.number), (1, 0, 0));
-    assert!(rt; message.covers.items() == [Cover::default(), told].as_slice());
+    assert!(rt; message.covers.items() == [NOTHING, told].as_slice());
     assert!(rt; message.writes.len() == count);
     assert_lists(rt, message, first);
 }
@@ -101,23 +102,35 @@ fn send_two(
     member.send(rt, moment, 0, &[0, given])
 }
 
-// The same by a new replica, whose counts are right then.
-fn sent(rt: &impl Abort, alloc: Global, moment: u8, given: u64) -> Result<Box<Message>, Fail> {
-    let mut member = Member::of_two(rt, alloc, 1, [5, 6])?;
-    let message = send_two(rt, &mut member, moment, given)?;
+// The same, with counts that are right then.
+fn send_and_count(
+    rt: &impl Abort,
+    member: &mut Member,
+    moment: u8,
+    given: u64,
+) -> Result<Box<Message>, Fail> {
+    let message = send_two(rt, member, moment, given)?;
     let last = u64::from(moment).max(6);
     assert_eq!(rt; (member.replica.count(), member.replica.last()), (3, last));
     Ok(message)
 }
 
+// The same by a new replica.
+fn sent(rt: &impl Abort, alloc: Global, moment: u8, given: u64) -> Result<Box<Message>, Fail> {
+    let mut member = Member::of_two(rt, alloc, 1, [5, 6])?;
+    send_and_count(rt, &mut member, moment, given)
+}
+
+static SENT: [(u8, u64, u64, usize, u64); 4] = [
+    (7, 0, 0, 2, 7),
+    (3, 1, 1, 1, 6),
+    (6, 2, 2, 0, 6),
+    (8, 9, 2, 0, 8),
+];
+
 #[test]
 fn sends_what_another_lacks(rt: HostRuntime) -> Result<(), Fail> {
-    for (moment, given, first, count, last) in [
-        (7, 0, 0, 2, 7),
-        (3, 1, 1, 1, 6),
-        (6, 2, 2, 0, 6),
-        (8, 9, 2, 0, 8),
-    ] {
+    for &(moment, given, first, count, last) in &SENT {
         let message = sent(&rt, rt.alloc(), moment, given)?;
         assert_message(&rt, &message, first, count, last);
     }
@@ -132,32 +145,26 @@ fn fill(rt: &impl Abort, member: &mut Member) {
 }
 
 // What a full replica of two reads, which restarted at the moment 3 alone.
-fn full_readings() -> Readings {
-    let own = Cover {
-        count: 0,
-        stamp: 0,
-        moment: 3,
-    };
-    Readings {
-        haves: [0; 2],
-        known: [0; 4],
-        covers: [own, Cover::default()],
-        clock: 0,
-        point: 0,
-        committed: 0,
-        tentative: 0,
-        count: 20_000,
-        calls: [0; 8],
-        last: 3,
-        spare: 0,
-    }
-}
+#[rattlefmt::skip]
+static FULL: Readings = Readings {
+    haves: [0; 2],
+    known: [0; 4],
+    covers: [Cover { count: 0, stamp: 0, moment: 3 }, NOTHING],
+    clock: 0,
+    point: 0,
+    committed: 0,
+    tentative: 0,
+    count: 20_000,
+    calls: [0; 8],
+    last: 3,
+    spare: 0,
+};
 
 // Each entry is refused, and nothing changes.
 fn assert_full(rt: &impl Abort, member: &mut Member) -> Result<(), Fail> {
     assert_nothing_enters(rt, member)?;
     assert_no_loan_moves(rt, member);
-    assert_readings(rt, member, &full_readings());
+    assert_readings(rt, member, &FULL);
     Ok(())
 }
 
@@ -188,6 +195,6 @@ fn of_nothing(rt: &impl Abort, alloc: Global) -> Result<Box<Member>, Fail> {
 fn is_full_after_as_many_entries(rt: HostRuntime) -> Result<(), Fail> {
     let mut member = of_nothing(&rt, rt.alloc())?;
     fill(&rt, &mut member);
-    assert_readings(&rt, &member, &full_readings());
+    assert_readings(&rt, &member, &FULL);
     assert_full(&rt, &mut member)
 }

@@ -1,7 +1,7 @@
 //! Messages that a replica takes: what it has and knows then, and what it leaves alone.
 
 use crate::asking::{Ask, Deed};
-use crate::member::Member;
+use crate::member::{Member, Pair};
 use run_model::Message;
 use std::process::Abort;
 use std::test::Fail;
@@ -70,9 +70,8 @@ fn exchange(rt: &impl Abort, zero: &mut Member, one: &mut Member) -> Result<(), 
 
 #[test]
 fn takes_what_it_lacks(rt: HostRuntime) -> Result<(), Fail> {
-    let mut zero = Member::of_two(&rt, rt.alloc(), 0, [5, 6])?;
-    let mut one = Member::of_two(&rt, rt.alloc(), 1, [5, 6])?;
-    exchange(&rt, &mut zero, &mut one)
+    let mut pair = Pair::new(&rt, rt.alloc(), [5, 6])?;
+    exchange(&rt, &mut pair.zero, &mut pair.one)
 }
 
 // An old message, and a newer one, which tells no write that the old one tells but the last.
@@ -86,9 +85,13 @@ fn two_messages(rt: &impl Abort, zero: &mut Member) -> Result<Mail, Fail> {
     write(rt, zero, ADD)?;
     write(rt, zero, ADD)?;
     let old = sent(rt, zero, 1, 0)?;
-    write(rt, zero, ADD)?;
-    let newer = sent(rt, zero, 1, 1)?;
+    let newer = write_and_send(rt, zero)?;
     Ok(Mail { old, newer })
+}
+
+fn write_and_send(rt: &impl Abort, zero: &mut Member) -> Result<Box<Message>, Fail> {
+    write(rt, zero, ADD)?;
+    sent(rt, zero, 1, 1)
 }
 
 // Takes a message, and then has so many of replica 0's writes, knows that it has so many, and holds a value.
@@ -122,7 +125,6 @@ fn take_all(rt: &impl Abort, one: &mut Member, mail: &Mail) -> Result<(), Fail> 
 
 #[test]
 fn leaves_what_would_make_a_gap(rt: HostRuntime) -> Result<(), Fail> {
-    let mut zero = Member::of_two(&rt, rt.alloc(), 0, [5, 6])?;
-    let mut one = Member::of_two(&rt, rt.alloc(), 1, [5, 6])?;
-    take_out_of_order(&rt, &mut zero, &mut one)
+    let mut pair = Pair::new(&rt, rt.alloc(), [5, 6])?;
+    take_out_of_order(&rt, &mut pair.zero, &mut pair.one)
 }
