@@ -26,8 +26,8 @@ impl Tour {
         Ok(Box::new(alloc, tour)?)
     }
 
-    /// The client visits a replica, with this outcome.
-    fn visit(&mut self, rt: &impl Abort, replica: u32, ask: Ask, said: Visit) -> Result<(), Fail> {
+    /// The client visits a replica.
+    fn visit(&mut self, rt: &impl Abort, replica: u32, ask: Ask) -> Result<Outcome, Fail> {
         assert!(rt; replica < 2);
         assert!(rt; self.roam.steps().len() < 100);
         let step = Step::Visit {
@@ -35,8 +35,7 @@ impl Tour {
             replica,
             request: request(ask)?,
         };
-        assert_eq!(rt; self.roam.step(1, &step)?, Outcome::Visited(said));
-        Ok(())
+        Ok(self.roam.step(1, &step)?)
     }
 
     /// One sends to the other, which takes the message.
@@ -67,24 +66,28 @@ impl Tour {
     }
 }
 
+fn assert_visited(rt: &impl Abort, outcome: &Outcome, said: Visit) {
+    assert_eq!(rt; outcome, &Outcome::Visited(said));
+}
+
 // It reads its write at the other replica once that has it.
 fn follow_a_write(rt: &impl Abort, tour: &mut Tour) -> Result<(), Fail> {
-    tour.visit(rt, 0, Ask::Add, done(0, 1))?;
-    tour.visit(rt, 1, Ask::Read, lacks(0, 1))?;
+    assert_visited(rt, &tour.visit(rt, 0, Ask::Add)?, done(0, 1));
+    assert_visited(rt, &tour.visit(rt, 1, Ask::Read)?, lacks(0, 1));
     tour.tell(rt, 0, 1)?;
-    tour.visit(rt, 1, Ask::Read, told(1))?;
+    assert_visited(rt, &tour.visit(rt, 1, Ask::Read)?, told(1));
     tour.assert_pass(rt, [1, 0], [1, 0], &[0, 3]);
     Ok(())
 }
 
 // It writes there, and is kept away from the first one.
 fn write_there(rt: &impl Abort, tour: &mut Tour) -> Result<(), Fail> {
-    tour.visit(rt, 1, Ask::Add, done(0, 2))?;
+    assert_visited(rt, &tour.visit(rt, 1, Ask::Add)?, done(0, 2));
     tour.assert_pass(rt, [1, 0], [1, 1], &[0, 3, 4]);
-    tour.visit(rt, 0, Ask::Read, lacks(1, 1))?;
-    tour.visit(rt, 0, Ask::Add, lacks(1, 1))?;
+    assert_visited(rt, &tour.visit(rt, 0, Ask::Read)?, lacks(1, 1));
+    assert_visited(rt, &tour.visit(rt, 0, Ask::Add)?, lacks(1, 1));
     tour.tell(rt, 1, 0)?;
-    tour.visit(rt, 0, Ask::Read, told(2))?;
+    assert_visited(rt, &tour.visit(rt, 0, Ask::Read)?, told(2));
     tour.assert_pass(rt, [1, 1], [1, 1], &[0, 3, 4, 7]);
     Ok(())
 }
