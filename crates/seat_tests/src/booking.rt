@@ -24,30 +24,22 @@ impl Office {
         Ok(Box::new(alloc, office)?)
     }
 
-    fn sell(&mut self, rt: &impl Abort, replica: u32, amount: u64, said: Sale) -> Result<(), Fail> {
+    fn sell(&mut self, rt: &impl Abort, replica: u32, amount: u64) -> Result<Outcome, Fail> {
         assert!(rt; replica < 2);
         assert!(rt; 1 <= amount);
         assert!(rt; amount <= 10);
         assert!(rt; self.booking.trades().len() < 100);
         let trade = Trade::Sell { replica, amount };
-        assert_eq!(rt; self.booking.step(1, &trade)?, Outcome::Traded(said));
-        Ok(())
+        Ok(self.booking.step(1, &trade)?)
     }
 
-    fn cancel(
-        &mut self,
-        rt: &impl Abort,
-        replica: u32,
-        amount: u64,
-        said: Sale,
-    ) -> Result<(), Fail> {
+    fn cancel(&mut self, rt: &impl Abort, replica: u32, amount: u64) -> Result<Outcome, Fail> {
         assert!(rt; replica < 2);
         assert!(rt; 1 <= amount);
         assert!(rt; amount <= 10);
         assert!(rt; self.booking.trades().len() < 100);
         let trade = Trade::Cancel { replica, amount };
-        assert_eq!(rt; self.booking.step(1, &trade)?, Outcome::Traded(said));
-        Ok(())
+        Ok(self.booking.step(1, &trade)?)
     }
 
     /// One sends to the other, which takes the message.
@@ -96,8 +88,18 @@ fn sold_in(entries: &[Entry]) -> i64 {
     all
 }
 
-// Each sells what it may, without a word between them.
-fn sell_apart(rt: &impl Abort, office: &mut Office) -> Result<(), Fail> {
+fn assert_traded(rt: &impl Abort, outcome: &Outcome, said: Sale) {
+    assert_eq!(rt; outcome, &Outcome::Traded(said));
+}
+
+fn accepted(index: u64, stamp: u64) -> Sale {
+    Sale::Accepted { index, stamp }
+}
+
+// Replica 0 sells 3, and waits with 2 more.
+fn sell_and_wait(rt: &impl Abort, office: &mut Office) -> Result<(), Fail> {
+    assert_traded(rt, &office.sell(rt, 0, 3)?, accepted(0, 1));
+    let outcome = office.sell(rt, 0, 2)?;
     let waits = Reply::WaitShare {
         conit: 0,
         peer: 1,
@@ -106,22 +108,35 @@ fn sell_apart(rt: &impl Abort, office: &mut Office) -> Result<(), Fail> {
         weight: 2,
         share: 4,
     };
+    assert_traded(rt, &outcome, Sale::Waiting(waits));
+    Ok(())
+}
+
+// Replica 1 sells 4, and can neither sell 3 more nor cancel one.
+fn sell_and_stay(rt: &impl Abort, office: &mut Office) -> Result<(), Fail> {
+    assert_traded(rt, &office.sell(rt, 1, 4)?, accepted(0, 1));
+    let outcome = office.sell(rt, 1, 3)?;
     let over = Sale::Over {
         value: 4,
         out: 4,
         amount: 3,
         capacity: 10,
     };
+    assert_traded(rt, &outcome, over);
+    let outcome = office.cancel(rt, 1, 1)?;
     let under = Sale::Under {
         value: 4,
         out: 4,
         amount: 1,
     };
-    office.sell(rt, 0, 3, Sale::Accepted { index: 0, stamp: 1 })?;
-    office.sell(rt, 0, 2, Sale::Waiting(waits))?;
-    office.sell(rt, 1, 4, Sale::Accepted { index: 0, stamp: 1 })?;
-    office.sell(rt, 1, 3, over)?;
-    office.cancel(rt, 1, 1, under)?;
+    assert_traded(rt, &outcome, under);
+    Ok(())
+}
+
+// Each sells what it may, without a word between them.
+fn sell_apart(rt: &impl Abort, office: &mut Office) -> Result<(), Fail> {
+    sell_and_wait(rt, office)?;
+    sell_and_stay(rt, office)?;
     office.assert_sold(rt, [3, 4], 7);
     Ok(())
 }
@@ -131,7 +146,7 @@ fn cancel_together(rt: &impl Abort, office: &mut Office) -> Result<(), Fail> {
     office.tell(rt, 0, 1)?;
     office.tell(rt, 1, 0)?;
     office.assert_sold(rt, [7, 7], 7);
-    office.cancel(rt, 0, 3, Sale::Accepted { index: 1, stamp: 2 })?;
+    assert_traded(rt, &office.cancel(rt, 0, 3)?, accepted(1, 2));
     office.assert_sold(rt, [4, 7], 4);
     Ok(())
 }

@@ -25,20 +25,16 @@ impl Counter {
         Ok(Box::new(alloc, counter)?)
     }
 
-    fn sell(&mut self, rt: &impl Abort, amount: u64, said: Sale) -> Result<(), Fail> {
+    fn sell(&mut self, rt: &impl Abort, amount: u64) -> Result<Sale, Fail> {
         assert!(rt; 1 <= amount);
         assert!(rt; amount <= 10);
-        let sale = Seats::new(0, 10).sell(&mut self.replica, 5, 3, 7, amount)?;
-        assert_eq!(rt; sale, said);
-        Ok(())
+        Ok(Seats::new(0, 10).sell(&mut self.replica, 5, 3, 7, amount)?)
     }
 
-    fn cancel(&mut self, rt: &impl Abort, amount: u64, said: Sale) -> Result<(), Fail> {
+    fn cancel(&mut self, rt: &impl Abort, amount: u64) -> Result<Sale, Fail> {
         assert!(rt; 1 <= amount);
         assert!(rt; amount <= 10);
-        let sale = Seats::new(0, 10).cancel(&mut self.replica, 5, 3, 7, amount)?;
-        assert_eq!(rt; sale, said);
-        Ok(())
+        Ok(Seats::new(0, 10).cancel(&mut self.replica, 5, 3, 7, amount)?)
     }
 
     /// It answers that it is full, whatever is asked.
@@ -63,24 +59,46 @@ impl Counter {
     }
 }
 
-#[test]
-fn sells_up_to_the_capacity_and_cancels_down_to_none(rt: HostRuntime) -> Result<(), Fail> {
-    let mut counter = Counter::new(rt.alloc())?;
+fn assert_sale(rt: &impl Abort, sale: &Sale, said: Sale) {
+    assert_eq!(rt; sale, &said);
+}
+
+fn accepted(index: u64, stamp: u64) -> Sale {
+    Sale::Accepted { index, stamp }
+}
+
+// Sells no more than the capacity.
+fn sell_up(rt: &impl Abort, counter: &mut Counter) -> Result<(), Fail> {
+    let sale = counter.sell(rt, 7)?;
     let over = Sale::Over {
         value: 0,
         out: 4,
         amount: 7,
         capacity: 10,
     };
+    assert_sale(rt, &sale, over);
+    assert_sale(rt, &counter.sell(rt, 6)?, accepted(0, 1));
+    Ok(())
+}
+
+// Cancels no more than was sold.
+fn cancel_down(rt: &impl Abort, counter: &mut Counter) -> Result<(), Fail> {
+    let sale = counter.cancel(rt, 3)?;
     let under = Sale::Under {
         value: 6,
         out: 4,
         amount: 3,
     };
-    counter.sell(&rt, 7, over)?;
-    counter.sell(&rt, 6, Sale::Accepted { index: 0, stamp: 1 })?;
-    counter.cancel(&rt, 3, under)?;
-    counter.cancel(&rt, 2, Sale::Accepted { index: 1, stamp: 2 })?;
+    assert_sale(rt, &sale, under);
+    assert_sale(rt, &counter.cancel(rt, 2)?, accepted(1, 2));
+    Ok(())
+}
+
+#[test]
+fn sells_up_to_the_capacity_and_cancels_down_to_none(rt: HostRuntime) -> Result<(), Fail> {
+    let mut counter = Counter::new(rt.alloc())?;
+    sell_up(&rt, &mut counter)?;
+    cancel_down(&rt, &mut counter)?;
     assert_eq!(rt; counter.replica.get(7), 4);
     assert_eq!(rt; counter.replica.count(), 2);
     Ok(())
@@ -90,7 +108,7 @@ fn sells_up_to_the_capacity_and_cancels_down_to_none(rt: HostRuntime) -> Result<
 fn takes_no_memory_where_it_was_reserved(rt: HostRuntime) -> Result<(), Fail> {
     let mut counter = Counter::new(rt.alloc())?;
     counter.replica.reserve(1)?;
-    counter.sell(&rt, 1, Sale::Accepted { index: 0, stamp: 1 })?;
+    assert_sale(&rt, &counter.sell(&rt, 1)?, accepted(0, 1));
     assert_eq!(rt; counter.replica.spare(), 0);
     Ok(())
 }
