@@ -4,7 +4,7 @@ use crate::field_bytes::{ADD, LIGHT, changed};
 use run_model::Message;
 use std::alloc::Global;
 use std::test::Fail;
-use tact_base::{Bytes, Cover, Covers, Numbers, SharedWrites, Weights, Write, WriteList};
+use tact_base::{Bytes, Cover, Covers, NoMemory, Numbers, SharedWrites, Weights, Write, WriteList};
 use tact_msg::{MsgFault, decode, encode};
 
 // The first message of replica 0 to replica 1: it has accepted one write, and lent 10.
@@ -33,33 +33,38 @@ fn writes(alloc: Global) -> Result<SharedWrites, Fail> {
     Ok(SharedWrites::new(alloc, writes)?)
 }
 
-// What is known of the senders' covers.
-fn covers(alloc: Global) -> Result<Covers, Fail> {
-    let own = Cover {
-        count: 1,
-        stamp: 1,
-        moment: 0,
-    };
-    Ok(Covers::from_slice(alloc, &[own, Cover::default()])?)
-}
+// What is known of the own cover.
+const OWN: Cover = Cover {
+    count: 1,
+    stamp: 1,
+    moment: 0,
+};
 
-fn numbers(alloc: Global, items: &[u64]) -> Result<Numbers, Fail> {
-    Ok(Numbers::from_slice(alloc, items)?)
+// Puts the lists into a message that has none.
+fn fill(message: &mut Message) -> Result<(), NoMemory> {
+    message.haves.append(&[1, 0])?;
+    message.covers.append(&[OWN, Cover::default()])?;
+    message.firsts.append(&[0, 0])?;
+    message.lent.append(&[10])?;
+    message.returned.append(&[0])
 }
 
 // The same message.
 fn worked(alloc: Global) -> Result<Message, Fail> {
-    Ok(Message {
+    let writes = writes(alloc)?;
+    let mut message = Message {
         from: 0,
         to: 1,
         number: 0,
-        haves: numbers(alloc, &[1, 0])?,
-        covers: covers(alloc)?,
-        firsts: numbers(alloc, &[0, 0])?,
-        writes: writes(alloc)?,
-        lent: numbers(alloc, &[10])?,
-        returned: numbers(alloc, &[0])?,
-    })
+        haves: Numbers::new(alloc),
+        covers: Covers::new(alloc),
+        firsts: Numbers::new(alloc),
+        writes,
+        lent: Numbers::new(alloc),
+        returned: Numbers::new(alloc),
+    };
+    fill(&mut message)?;
+    Ok(message)
 }
 
 // How many bytes the message at the front of bytes has.
