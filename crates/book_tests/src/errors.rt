@@ -76,14 +76,20 @@ struct Group {
     zero: Replica,
 }
 
+fn fresh_zero(alloc: Global) -> Result<Replica, Fail>
+    ensures { IfOk result (λ zero. IsOfTwo zero.core 0) }
+{
+    let config = config_of_two(alloc)?;
+    Ok(Replica::new(alloc, &config, 0)?)
+}
+
 fn fresh_group(alloc: Global) -> Result<Group, Fail>
     ensures book { IfOk result (λ made. IsBookOfTwo made.book 0 0) }
     ensures zero { IfOk result (λ made. IsOfTwo made.zero.core 0) }
 {
-    let config = config_of_two(alloc)?;
     Ok(Group {
         book: fresh_book(alloc)?,
-        zero: Replica::new(alloc, &config, 0)?,
+        zero: fresh_zero(alloc)?,
     })
 }
 

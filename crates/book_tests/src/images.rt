@@ -14,9 +14,9 @@ fn assert_image(
     one: Op,
     held: (u64, i64),
 ) -> Result<(), Fail> {
-    let mut book = fresh_book(alloc)?;
     let late = write(1, 0, 1, 0, 1, one)?;
     let early = write(0, 0, 1, 0, 2, zero)?;
+    let mut book = fresh_book(alloc)?;
     accept_in_turn(rt, &mut book, &late, &early);
     assert_eq!(rt; book.image_value(held.0), Ok(held.1));
     assert_eq!(rt; book.value(0), 3);
