@@ -191,6 +191,19 @@ fn below(alloc: Global, count: u64) -> Result<Numbers, NoMemory> {
     Ok(list)
 }
 
+// Whether a list's copy is equal to it.
+fn is_cloned(list: &Numbers) -> Result<bool, Fail> {
+    Ok(list.clone()? == *list)
+}
+
+#[test]
+fn goes_on_past_its_place(rt: HostRuntime) -> Result<(), Fail> {
+    let nine = below(rt.alloc(), 9)?;
+    assert_numbers(&rt, nine.items(), &[0, 1, 2, 3, 4, 5, 6, 7, 8]);
+    assert!(rt; is_cloned(&nine)?);
+    Ok(())
+}
+
 // A copy of a list, and the list once more behind it.
 fn doubled(list: &Numbers) -> Result<Numbers, Fail> {
     let mut copy = list.copied()?;
@@ -198,12 +211,14 @@ fn doubled(list: &Numbers) -> Result<Numbers, Fail> {
     Ok(copy)
 }
 
+fn doubled_below(alloc: Global, count: u64) -> Result<Numbers, Fail> {
+    doubled(&below(alloc, count)?)
+}
+
 #[test]
-fn goes_on_past_its_place(rt: HostRuntime) -> Result<(), Fail> {
-    let nine = below(rt.alloc(), 9)?;
-    assert_numbers(&rt, nine.items(), &[0, 1, 2, 3, 4, 5, 6, 7, 8]);
-    assert!(rt; nine.clone()? == nine);
-    assert_numbers(&rt, doubled(&below(rt.alloc(), 2)?)?.items(), &[0, 1, 0, 1]);
+fn appends_to_a_copy(rt: HostRuntime) -> Result<(), Fail> {
+    let list = doubled_below(rt.alloc(), 2)?;
+    assert_numbers(&rt, list.items(), &[0, 1, 0, 1]);
     Ok(())
 }
 
