@@ -134,90 +134,29 @@ fn answers_writes_and_lesser_counts(rt: HostRuntime) -> Result<(), Fail> {
 }
 
 // A reply waits for this replica, if for one.
-fn assert_wish(rt: &impl Abort, reply: Reply, wished: Option<u32>) {
-    assert!(rt; wish(&reply) == wished, "of {reply:?}");
+fn assert_wish(rt: &impl Abort, reply: &Reply, wished: Option<u32>) {
+    assert!(rt; wish(reply) == wished, "of {reply:?}");
 }
+
+#[rattlefmt::skip]
+const WISHES: [(Reply, Option<u32>); 10] = [
+    (Reply::Done { index: 6, stamp: 7 }, None),
+    (Reply::Granted, None),
+    (Reply::Released, None),
+    (Reply::TooHeavy { conit: 9, peer: 1, weight: 50, share: 40 }, None),
+    (Reply::WaitHeld { conit: 9, peer: 1, reserved: 20, weight: 30, share: 40 }, None),
+    (Reply::WaitShare { conit: 9, peer: 1, missing: 15, reserved: 20, weight: 10, share: 40 }, Some(1)),
+    (Reply::WaitLent { conit: 9, holder: 3, out: 60, total: 70, num: 65 }, Some(3)),
+    (Reply::WaitOrder { conit: 9, replica: 2, tentative: 12, order: 11 }, Some(2)),
+    (Reply::WaitStale { conit: 9, replica: 2, moment: 100, wanted: 101 }, Some(2)),
+    (Reply::NotHeld { conit: 9, held: 13, amount: 14 }, None),
+];
 
 #[test]
 fn wishes_for_a_replica(rt: HostRuntime) {
-    let (conit, peer, replica, holder) = (9, 1, 2, 3);
-    let (weight, share, reserved) = (50, 40, 20);
-    assert_wish(&rt, Reply::Done { index: 6, stamp: 7 }, None);
-    assert_wish(&rt, Reply::Granted, None);
-    assert_wish(&rt, Reply::Released, None);
+    for (reply, wished) in &WISHES {
+        assert_wish(&rt, reply, *wished);
+    }
     let sums = Sums::new(&[7]);
-    assert_wish(&rt, Reply::Value { value: 6, sums }, None);
-    assert_wish(
-        &rt,
-        Reply::TooHeavy {
-            conit,
-            peer,
-            weight,
-            share,
-        },
-        None,
-    );
-    assert_wish(
-        &rt,
-        Reply::WaitHeld {
-            conit,
-            peer,
-            reserved,
-            weight: 30,
-            share,
-        },
-        None,
-    );
-    assert_wish(
-        &rt,
-        Reply::WaitShare {
-            conit,
-            peer,
-            missing: 15,
-            reserved,
-            weight: 10,
-            share,
-        },
-        Some(1),
-    );
-    assert_wish(
-        &rt,
-        Reply::WaitLent {
-            conit,
-            holder,
-            out: 60,
-            total: 70,
-            num: 65,
-        },
-        Some(3),
-    );
-    assert_wish(
-        &rt,
-        Reply::WaitOrder {
-            conit,
-            replica,
-            tentative: 12,
-            order: 11,
-        },
-        Some(2),
-    );
-    assert_wish(
-        &rt,
-        Reply::WaitStale {
-            conit,
-            replica,
-            moment: 100,
-            wanted: 101,
-        },
-        Some(2),
-    );
-    assert_wish(
-        &rt,
-        Reply::NotHeld {
-            conit,
-            held: 13,
-            amount: 14,
-        },
-        None,
-    );
+    assert_wish(&rt, &Reply::Value { value: 6, sums }, None);
 }

@@ -122,174 +122,98 @@ fn prints_reads(rt: HostRuntime) -> Result<(), Fail> {
     Ok(())
 }
 
+#[rattlefmt::skip]
+const HELD: [(Request, &str); 3] = [
+    (Request::Held { weight: ONE, op: ADD }, "e 0 3 call 0 2 held add 7 1 0:1:1 = done 0 1\n"),
+    (Request::Reserve { conit: 0, amount: 10 }, "e 0 3 call 0 2 reserve 0 10 = done 0 1\n"),
+    (Request::Release { conit: 0, amount: 1 }, "e 0 3 call 0 2 release 0 1 = done 0 1\n"),
+];
+
 #[test]
 fn prints_what_is_held(rt: HostRuntime) -> Result<(), Fail> {
-    let held = Request::Held {
-        weight: ONE,
-        op: ADD,
-    };
-    assert_request(&rt, held, "e 0 3 call 0 2 held add 7 1 0:1:1 = done 0 1\n")?;
-    let reserve = Request::Reserve {
-        conit: 0,
-        amount: 10,
-    };
-    assert_request(&rt, reserve, "e 0 3 call 0 2 reserve 0 10 = done 0 1\n")?;
-    let release = Request::Release {
-        conit: 0,
-        amount: 1,
-    };
-    assert_request(&rt, release, "e 0 3 call 0 2 release 0 1 = done 0 1\n")?;
+    for (request, due) in &HELD {
+        assert_request(&rt, request.clone()?, due)?;
+    }
     Ok(())
 }
 
 // A reply to client 0's first call waits or doesn't, and its line at the moment 0 is this.
 fn assert_reply(
     rt: &(impl Abort + AllocGlobal),
-    reply: Reply,
+    reply: &Reply,
     waits: bool,
     due: &str,
 ) -> Result<(), Fail> {
     assert!(rt; reply.is_waiting() == waits, "{due}");
-    let request = Request::Write {
-        weights: Weights::new(&[ONE])?,
-        op: ADD,
-    };
+    let weights = Weights::new(&[ONE])?;
+    let reply = reply.clone()?;
     let call = Act::Call {
         client: 0,
         number: 1,
-        request,
+        request: Request::Write { weights, op: ADD },
         reply,
     };
     assert_line(rt, 0, call, due)?;
     Ok(())
 }
 
-// A reply is final, and its line is this.
-fn assert_final(rt: &(impl Abort + AllocGlobal), reply: Reply, due: &str) -> Result<(), Fail> {
-    assert_reply(rt, reply, false, due)
+// The same of each reply of a table.
+fn assert_replies(
+    rt: &(impl Abort + AllocGlobal),
+    table: &[(Reply, &str)],
+    waits: bool,
+) -> Result<(), Fail> {
+    for (reply, due) in table {
+        assert_reply(rt, reply, waits, due)?;
+    }
+    Ok(())
 }
 
-// A reply waits, and its line is this.
-fn assert_waiting(rt: &(impl Abort + AllocGlobal), reply: Reply, due: &str) -> Result<(), Fail> {
-    assert_reply(rt, reply, true, due)
-}
-
-#[test]
-fn prints_what_is_done(rt: HostRuntime) -> Result<(), Fail> {
-    let done = Reply::Done { index: 1, stamp: 2 };
-    assert_final(&rt, done, "e 0 0 call 0 1 write add 7 1 0:1:1 = done 1 2\n")?;
-    assert_final(
-        &rt,
-        Reply::Granted,
-        "e 0 0 call 0 1 write add 7 1 0:1:1 = granted\n",
-    )?;
-    assert_final(
-        &rt,
-        Reply::Released,
-        "e 0 0 call 0 1 write add 7 1 0:1:1 = released\n",
-    )?;
-    let alone = Reply::Value {
-        value: 0,
-        sums: Sums::new(&[]),
-    };
-    assert_final(&rt, alone, "e 0 0 call 0 1 write add 7 1 0:1:1 = value 0\n")?;
-    let with_sums = Reply::Value {
-        value: -1,
-        sums: Sums::new(&[5, -6]),
-    };
-    assert_final(
-        &rt,
-        with_sums,
-        "e 0 0 call 0 1 write add 7 1 0:1:1 = value -1 5 -6\n",
-    )
-}
+#[rattlefmt::skip]
+const FINAL: [(Reply, &str); 5] = [
+    (Reply::Done { index: 1, stamp: 2 }, "e 0 0 call 0 1 write add 7 1 0:1:1 = done 1 2\n"),
+    (Reply::Granted, "e 0 0 call 0 1 write add 7 1 0:1:1 = granted\n"),
+    (Reply::Released, "e 0 0 call 0 1 write add 7 1 0:1:1 = released\n"),
+    (Reply::TooHeavy { conit: 0, peer: 1, weight: 6, share: 5 }, "e 0 0 call 0 1 write add 7 1 0:1:1 = too-heavy 0 1 6 5\n"),
+    (Reply::NotHeld { conit: 0, held: 0, amount: 1 }, "e 0 0 call 0 1 write add 7 1 0:1:1 = not-held 0 0 1\n"),
+];
 
 #[test]
-fn prints_refusals(rt: HostRuntime) -> Result<(), Fail> {
-    let too_heavy = Reply::TooHeavy {
-        conit: 0,
-        peer: 1,
-        weight: 6,
-        share: 5,
-    };
-    assert_final(
-        &rt,
-        too_heavy,
-        "e 0 0 call 0 1 write add 7 1 0:1:1 = too-heavy 0 1 6 5\n",
-    )?;
-    let not_held = Reply::NotHeld {
-        conit: 0,
-        held: 0,
-        amount: 1,
-    };
-    assert_final(
-        &rt,
-        not_held,
-        "e 0 0 call 0 1 write add 7 1 0:1:1 = not-held 0 0 1\n",
-    )
+fn prints_final_replies(rt: HostRuntime) -> Result<(), Fail> {
+    assert_replies(&rt, &FINAL, false)
 }
+
+#[rattlefmt::skip]
+const WAITING: [(Reply, &str); 5] = [
+    (Reply::WaitHeld { conit: 0, peer: 1, reserved: 10, weight: 1, share: 10 }, "e 0 0 call 0 1 write add 7 1 0:1:1 = wait-held 0 1 10 1 10\n"),
+    (Reply::WaitShare { conit: 0, peer: 2, missing: 5, reserved: 0, weight: 1, share: 5 }, "e 0 0 call 0 1 write add 7 1 0:1:1 = wait-share 0 2 5 0 1 5\n"),
+    (Reply::WaitLent { conit: 0, holder: 1, out: 5, total: 10, num: 9 }, "e 0 0 call 0 1 write add 7 1 0:1:1 = wait-lent 0 1 5 10 9\n"),
+    (Reply::WaitOrder { conit: 0, replica: 1, tentative: 4, order: 3 }, "e 0 0 call 0 1 write add 7 1 0:1:1 = wait-order 0 1 4 3\n"),
+    (Reply::WaitStale { conit: 0, replica: 1, moment: 100, wanted: 101 }, "e 0 0 call 0 1 write add 7 1 0:1:1 = wait-stale 0 1 100 101\n"),
+];
 
 #[test]
 fn prints_what_is_waited_for(rt: HostRuntime) -> Result<(), Fail> {
-    let held = Reply::WaitHeld {
-        conit: 0,
-        peer: 1,
-        reserved: 10,
-        weight: 1,
-        share: 10,
-    };
-    assert_waiting(
-        &rt,
-        held,
-        "e 0 0 call 0 1 write add 7 1 0:1:1 = wait-held 0 1 10 1 10\n",
-    )?;
-    let share = Reply::WaitShare {
-        conit: 0,
-        peer: 2,
-        missing: 5,
-        reserved: 0,
-        weight: 1,
-        share: 5,
-    };
-    assert_waiting(
-        &rt,
-        share,
-        "e 0 0 call 0 1 write add 7 1 0:1:1 = wait-share 0 2 5 0 1 5\n",
-    )?;
-    let lent = Reply::WaitLent {
-        conit: 0,
-        holder: 1,
-        out: 5,
-        total: 10,
-        num: 9,
-    };
-    assert_waiting(
-        &rt,
-        lent,
-        "e 0 0 call 0 1 write add 7 1 0:1:1 = wait-lent 0 1 5 10 9\n",
-    )?;
-    let order = Reply::WaitOrder {
-        conit: 0,
-        replica: 1,
-        tentative: 4,
-        order: 3,
-    };
-    assert_waiting(
-        &rt,
-        order,
-        "e 0 0 call 0 1 write add 7 1 0:1:1 = wait-order 0 1 4 3\n",
-    )?;
-    let stale = Reply::WaitStale {
-        conit: 0,
-        replica: 1,
-        moment: 100,
-        wanted: 101,
-    };
-    assert_waiting(
-        &rt,
-        stale,
-        "e 0 0 call 0 1 write add 7 1 0:1:1 = wait-stale 0 1 100 101\n",
-    )
+    assert_replies(&rt, &WAITING, true)
+}
+
+static VALUES: [(i64, &[i64], &str); 2] = [
+    (0, &[], "e 0 0 call 0 1 write add 7 1 0:1:1 = value 0\n"),
+    (
+        -1,
+        &[5, -6],
+        "e 0 0 call 0 1 write add 7 1 0:1:1 = value -1 5 -6\n",
+    ),
+];
+
+#[test]
+fn prints_values(rt: HostRuntime) -> Result<(), Fail> {
+    for &(value, sums, due) in &VALUES {
+        assert!(rt; sums.len() <= 4);
+        let sums = Sums::new(sums);
+        assert_reply(&rt, &Reply::Value { value, sums }, false, due)?;
+    }
+    Ok(())
 }
 
 // A message with no writes and no counts.
