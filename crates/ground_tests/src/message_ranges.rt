@@ -118,7 +118,7 @@ fn message_of(alloc: Global, parts: &Parts) -> Result<Message, Fail> {
 }
 
 // Replica 0 of 3 replicas and 2 conits tells replica 1 two of its own writes and one of replica 2.
-static GOOD: Parts<'static> = Parts {
+const GOOD: Parts<'static> = Parts {
     from: 0,
     to: 1,
     number: 3,
@@ -130,33 +130,8 @@ static GOOD: Parts<'static> = Parts {
     returned: &[0, 2],
 };
 
-// What of a message is another than in the good one.
-#[derive(Clone, Copy)]
-enum Change<'a> {
-    Nothing,
-    From(u32),
-    To(u32),
-    Number(u64),
-    Haves(&'a [u64]),
-    Covers(&'a [Cover]),
-    Firsts(&'a [u64]),
-    Lent(&'a [u64]),
-    Returned(&'a [u64]),
-}
-
-// The good message but for a change.
-fn changed(change: Change<'_>) -> Parts<'_> {
-    match change {
-        Change::Nothing => GOOD,
-        Change::From(from) => Parts { from, ..GOOD },
-        Change::To(to) => Parts { to, ..GOOD },
-        Change::Number(number) => Parts { number, ..GOOD },
-        Change::Haves(haves) => Parts { haves, ..GOOD },
-        Change::Covers(covers) => Parts { covers, ..GOOD },
-        Change::Firsts(firsts) => Parts { firsts, ..GOOD },
-        Change::Lent(lent) => Parts { lent, ..GOOD },
-        Change::Returned(returned) => Parts { returned, ..GOOD },
-    }
+fn of_covers(covers: &[Cover]) -> Parts<'_> {
+    Parts { covers, ..GOOD }
 }
 
 // The message with these writes, of a sender that has more of replicas 0 and 2.
@@ -178,32 +153,32 @@ fn is_good(alloc: Global, parts: &Parts) -> Result<bool, Fail> {
 }
 
 #[rattlefmt::skip]
-static ENDS_AND_LISTS: [(Change<'static>, bool, &str); 16] = [
-    (Change::Nothing, true, "in range"),
-    (Change::From(2), true, "the last sender"),
-    (Change::From(3), false, "a sender past the count"),
-    (Change::To(3), false, "a receiver past the count"),
-    (Change::From(1), false, "to itself"),
-    (Change::Number(19_999), true, "the last number"),
-    (Change::Number(20_000), false, "a number too many"),
-    (Change::Haves(&[6, 2]), false, "haves too short"),
-    (Change::Haves(&[6, 2, 1, 0]), false, "haves too long"),
-    (Change::Covers(&[COVER, COVER]), false, "covers too short"),
-    (Change::Firsts(&[4, 2]), false, "firsts too short"),
-    (Change::Lent(&[5]), false, "lent too short"),
-    (Change::Lent(&[5, 100_000_000_000_000_000]), true, "the most lent"),
-    (Change::Lent(&[5, 100_000_000_000_000_001]), false, "too much lent"),
-    (Change::Returned(&[0, 0, 2]), false, "returned too long"),
-    (Change::Returned(&[100_000_000_000_000_001, 0]), false, "too much returned"),
+static ENDS_AND_LISTS: [(Parts<'static>, bool, &str); 16] = [
+    (GOOD, true, "in range"),
+    (Parts { from: 2, ..GOOD }, true, "the last sender"),
+    (Parts { from: 3, ..GOOD }, false, "a sender past the count"),
+    (Parts { to: 3, ..GOOD }, false, "a receiver past the count"),
+    (Parts { from: 1, ..GOOD }, false, "to itself"),
+    (Parts { number: 19_999, ..GOOD }, true, "the last number"),
+    (Parts { number: 20_000, ..GOOD }, false, "a number too many"),
+    (Parts { haves: &[6, 2], ..GOOD }, false, "haves too short"),
+    (Parts { haves: &[6, 2, 1, 0], ..GOOD }, false, "haves too long"),
+    (Parts { covers: &[COVER, COVER], ..GOOD }, false, "covers too short"),
+    (Parts { firsts: &[4, 2], ..GOOD }, false, "firsts too short"),
+    (Parts { lent: &[5], ..GOOD }, false, "lent too short"),
+    (Parts { lent: &[5, 100_000_000_000_000_000], ..GOOD }, true, "the most lent"),
+    (Parts { lent: &[5, 100_000_000_000_000_001], ..GOOD }, false, "too much lent"),
+    (Parts { returned: &[0, 0, 2], ..GOOD }, false, "returned too long"),
+    (Parts { returned: &[100_000_000_000_000_001, 0], ..GOOD }, false, "too much returned"),
 ];
 
 // Each message of a table is in range where it is due.
 fn assert_good(
     rt: &(impl Abort + AllocGlobal),
-    cases: &[(Change<'static>, bool, &str)],
+    cases: &[(Parts<'static>, bool, &str)],
 ) -> Result<(), Fail> {
-    for (change, due, text) in cases {
-        assert!(rt; is_good(rt.alloc(), &changed(*change))? == *due, "{text}");
+    for (parts, due, text) in cases {
+        assert!(rt; is_good(rt.alloc(), parts)? == *due, "{text}");
     }
     Ok(())
 }
@@ -214,13 +189,13 @@ fn knows_the_ends_and_the_lists(rt: HostRuntime) -> Result<(), Fail> {
 }
 
 #[rattlefmt::skip]
-static ORIGINS: [(Change<'static>, bool, &str); 6] = [
-    (Change::Haves(&[6, 20_000, 1]), true, "the most writes"),
-    (Change::Haves(&[6, 20_001, 1]), false, "too many writes"),
-    (Change::Haves(&[5, 2, 1]), false, "more told than had"),
-    (Change::Firsts(&[4, 1, 0]), true, "a first within"),
-    (Change::Firsts(&[4, 3, 0]), false, "a first past all"),
-    (Change::Firsts(&[4, 2, 1]), false, "a first past the told"),
+static ORIGINS: [(Parts<'static>, bool, &str); 6] = [
+    (Parts { haves: &[6, 20_000, 1], ..GOOD }, true, "the most writes"),
+    (Parts { haves: &[6, 20_001, 1], ..GOOD }, false, "too many writes"),
+    (Parts { haves: &[5, 2, 1], ..GOOD }, false, "more told than had"),
+    (Parts { firsts: &[4, 1, 0], ..GOOD }, true, "a first within"),
+    (Parts { firsts: &[4, 3, 0], ..GOOD }, false, "a first past all"),
+    (Parts { firsts: &[4, 2, 1], ..GOOD }, false, "a first past the told"),
 ];
 
 #[test]
@@ -241,7 +216,7 @@ fn knows_what_a_cover_vouches_for(rt: HostRuntime) -> Result<(), Fail> {
     for (cover, due) in &COVERS {
         let covers = [COVER, *cover, COVER];
         assert!(rt;
-            is_good(rt.alloc(), &changed(Change::Covers(&covers)))? == *due,
+            is_good(rt.alloc(), &of_covers(&covers))? == *due,
             "{cover:?}"
         );
     }
