@@ -228,7 +228,7 @@ fn changes_a_short_list(rt: HostRuntime) -> Result<(), Fail> {
     list.truncate(3);
     list.set(1, 7);
     assert_numbers(&rt, list.items(), &[0, 7, 2]);
-    list.clear();
+    list.truncate(0);
     assert!(rt; list.is_empty());
     Ok(())
 }
