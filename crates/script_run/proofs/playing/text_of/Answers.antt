@@ -15,11 +15,13 @@ step_all-requires-clause-saw c = sym (ap (λ (p : Played). length p.history) c.i
 pub returns : goal.returns
 returns c =
     let script = c.args.script.now in
-    let head = c.in_ok-head_of.ensures.ok ∙ ap₂ (λ (front : List ℕ) (s : Setup). front ++ header_text s) (c.with-page.ensures ∙ c.ample.ensures) c.config.ensures in
+    let head = c.in_ok-head_of.ensures.ok ∙ ap₂ (λ (front : List ℕ) (s : Setup). front ++ header_text s) (c.page.view_is ∙ c.with-page.ensures ∙ c.ample.ensures) c.config.ensures in
     let middle = c.in_ok-step_all.ensures.text c.in_ok-stage.ensures.prints
     ∙ ap₂ (λ (front : List ℕ) (ls : List Line). front ++ lines_text (setup_of ls) not_played ls) head c.lines.ensures in
     let count : c.step_all.new.witness.entries ≡ length (history_of (setup_of script) script) =
     c.in_ok-step_all.ensures.saw
     ∙ ap (λ (p : Played). length p.history) c.in_ok-step_all.ensures.goes.played
     ∙ ap (λ (ls : List Line). length (history_of (setup_of ls) ls)) c.lines.ensures in
-    c.in_ok-end_of.ensures.ok ∙ ap₂ (λ (front : List ℕ) (count : ℕ). front ++ end_text count) middle count
+    c.into_text.ensures
+    ∙ c.in_ok-end_of.ensures.ok
+    ∙ ap₂ (λ (front : List ℕ) (count : ℕ). front ++ end_text count) (c.page-2.view_is ∙ middle) count

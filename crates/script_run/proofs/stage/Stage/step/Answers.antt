@@ -1,12 +1,12 @@
-use Rattle.std.proofs.Common.{refl, sym, ap, ap₂, subst}
+use Rattle.std.proofs.Common.{ℕ, List, ◌++◌, refl, sym, ap, ap₂, ◌∙◌, subst}
 use Rattle.std.proofs.lemmas.Result.{on_ok_weaker}
 use Rattle.tact_base.specs.Setup.{Setup}
 use Rattle.std.specs.Result.{OnOk}
-use Rattle.run_model.specs.ScriptRuns.{Played, passes}
+use Rattle.run_model.specs.ScriptRuns.{Played, line_comment, passes}
 use Rattle.run_model.specs.declared.call.Request.TheVariants as request
 use Rattle.run_model.specs.declared.script_line.Line.{Line}
 use Rattle.run_model.specs.declared.script_line.Line.TheVariants as line
-use Rattle.script_run.specs.Stages.{Enters, Steps, asked_by}
+use Rattle.script_run.specs.Stages.{Enters, Steps, asked_by, setup_in}
 use Rattle.script_run.proofs.Stepping.{enters_twice, steps_by_entries, steps_by_comment}
 use Rattle.script_run.proofs.stage.Stage.step.Goals as goal
 
@@ -29,7 +29,8 @@ returns-in-Show-clause-steps g c =
     subst (λ (l : Line). OnOk c.show.result (Steps old old l c.args.out.now c.show.new.out)) (sym c.in-Show.is)
     (on_ok_weaker c.show.result
     (λ told. steps_by_comment old old (line.Show c.in-Show.replica) c.args.out.now c.show.new.out refl
-    (record { keeps = c.requires.keeps; setup = refl; played = refl; prints = refl }) (λ prints. told))
+    (record { keeps = c.requires.keeps; setup = refl; played = refl; prints = refl })
+    (λ prints. told ∙ ap (λ (front : List ℕ). front ++ line_comment (setup_in old) old.history.items (line.Show c.in-Show.replica)) c.out.view_is))
     c.show.ensures.ok)
 
 pub returns-in-Ref-clause-steps : goal.returns-in-Ref-clause-steps
@@ -38,7 +39,8 @@ returns-in-Ref-clause-steps g c =
     subst (λ (l : Line). OnOk c.tell_reference.result (Steps old old l c.args.out.now c.tell_reference.new.out)) (sym c.in-Ref.is)
     (on_ok_weaker c.tell_reference.result
     (λ told. steps_by_comment old old (line.Ref c.in-Ref.conit) c.args.out.now c.tell_reference.new.out refl
-    (record { keeps = c.requires.keeps; setup = refl; played = refl; prints = refl }) told)
+    (record { keeps = c.requires.keeps; setup = refl; played = refl; prints = refl })
+    (λ prints. told prints ∙ ap (λ (front : List ℕ). front ++ line_comment (setup_in old) old.history.items (line.Ref c.in-Ref.conit)) c.out-in-Ref.view_is))
     c.tell_reference.ensures)
 
 pub call-requires-clause-asks : goal.call-requires-clause-asks
