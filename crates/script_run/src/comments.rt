@@ -10,6 +10,7 @@ ghost use Rattle.run_model.specs.declared.entry.Entry.{Entry};
 ghost use Rattle.replica_core.specs.Stands.{Stands};
 ghost use Rattle.script_run.specs.Comments.{TellsTruth, have_tokens, last_token, writes_tokens, state_tokens, shown_core, need_comment, reference_comment, refusal_comment};
 
+use crate::page::Page;
 use reference_book::{Book, Errors};
 use replica_core::{LastOne, Replica};
 use run_model::{Config, all_or_nothing, put_number, put_row, put_token};
@@ -77,19 +78,19 @@ pub(crate) fn reference(conit: u32, value: i64, out: &mut Bytes) -> Result<(), N
     all_or_nothing(done, start, out)
 }
 
-/// Appends the comment on a loan that is over what its owner has at home, with its line feed. `NoMemory` leaves `out`
-/// as it was.
+/// Appends the comment on a loan that is over what its owner has at home, with its line feed. `NoMemory` leaves the
+/// page as it was.
 pub(crate) fn lend_refused(
     owner: u32,
     holder: u32,
     conit: u32,
     amount: u64,
     home: u64,
-    out: &mut Bytes,
+    page: &mut Page,
 ) -> Result<(), NoMemory>
-    ensures ok { OnOk result (out.new
-        ≡ out.old ++ refusal_comment (codes "lend") (owner ∷ holder ∷ conit ∷ amount ∷ []) (codes "home") home) }
-    ensures err { OnErr result (out.new ≡ out.old) }
+    ensures ok { OnOk result (page.new
+        ≡ page.old ++ refusal_comment (codes "lend") (owner ∷ holder ∷ conit ∷ amount ∷ []) (codes "home") home) }
+    ensures err { OnErr result (page.new ≡ page.old) }
 {
     let numbers = [
         u64::from(owner),
@@ -97,22 +98,22 @@ pub(crate) fn lend_refused(
         u64::from(conit),
         amount,
     ];
-    refused(b"lend", &numbers, b"home", home, out)
+    refused(b"lend", &numbers, b"home", home, &mut page.text)
 }
 
-/// Appends the comment on a return that is over what its holder has free, with its line feed. `NoMemory` leaves `out`
-/// as it was.
+/// Appends the comment on a return that is over what its holder has free, with its line feed. `NoMemory` leaves the
+/// page as it was.
 pub(crate) fn back_refused(
     holder: u32,
     owner: u32,
     conit: u32,
     amount: u64,
     free: u64,
-    out: &mut Bytes,
+    page: &mut Page,
 ) -> Result<(), NoMemory>
-    ensures ok { OnOk result (out.new
-        ≡ out.old ++ refusal_comment (codes "back") (holder ∷ owner ∷ conit ∷ amount ∷ []) (codes "free") free) }
-    ensures err { OnErr result (out.new ≡ out.old) }
+    ensures ok { OnOk result (page.new
+        ≡ page.old ++ refusal_comment (codes "back") (holder ∷ owner ∷ conit ∷ amount ∷ []) (codes "free") free) }
+    ensures err { OnErr result (page.new ≡ page.old) }
 {
     let numbers = [
         u64::from(holder),
@@ -120,7 +121,7 @@ pub(crate) fn back_refused(
         u64::from(conit),
         amount,
     ];
-    refused(b"back", &numbers, b"free", free, out)
+    refused(b"back", &numbers, b"free", free, &mut page.text)
 }
 
 // Appends the comment on what is refused: its word, its numbers, and its limit.

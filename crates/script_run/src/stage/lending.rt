@@ -51,7 +51,7 @@ impl Stage {
                 out,
             ),
             Err(LoanFault::Home { conit: _, home }) => {
-                lend_refused(owner, holder, conit, amount, home, &mut out.text)
+                lend_refused(owner, holder, conit, amount, home, out)
             }
             Err(_) => Err(NoMemory),
         }
@@ -97,7 +97,7 @@ impl Stage {
                 out,
             ),
             Err(LoanFault::Free { conit: _, free }) => {
-                back_refused(holder, owner, conit, amount, free, &mut out.text)
+                back_refused(holder, owner, conit, amount, free, out)
             }
             Err(_) => Err(NoMemory),
         }

@@ -1,4 +1,4 @@
-use Rattle.std.proofs.Common.{◌≡◌, ℕ, ◌≤◌, List, [], ◌∷◌, ◌++◌, codes, refl, ap, ap₂, ◌∙◌, subst, arith}
+use Rattle.std.proofs.Common.{◌≡◌, ℕ, ◌≤◌, [], ◌∷◌, ◌++◌, codes, refl, ap, ap₂, ◌∙◌, subst, arith}
 use Rattle.std.proofs.lemmas.Result.{on_ok_weaker}
 use Rattle.run_model.specs.Histories.{part_of}
 use Rattle.run_model.specs.declared.entry.Act.TheVariants as act
@@ -57,8 +57,8 @@ returns-in-Err-Home-clause-steps g c =
     fault.3.1 part (keeps.stands.parts c.args.owner there.0 there.1)
     ∙ ap₂ (λ (s : Setup) (r : ℕ). home s r part c.args.conit) one.setup one.replica in
     on_ok_weaker c.lend_refused.result
-    (λ text. lends_not old _ c.args.owner c.args.holder c.args.conit c.args.amount c.args.out.now c.lend_refused.new.out
+    (λ text. lends_not old _ c.args.owner c.args.holder c.args.conit c.args.amount c.args.out.now c.lend_refused.new.page
     (omega (arith, fault.2, limit))
     (same_set old c.lend.new.self c.in-Err-Home.ensures.err keeps)
-    (text ∙ ap₂ (λ (front : List ℕ) (most : ℕ). front ++ refusal_comment (codes "lend") (c.args.owner ∷ c.args.holder ∷ c.args.conit ∷ c.args.amount ∷ []) (codes "home") most) c.out-in-Err-Home.view_is limit))
+    (text ∙ ap (λ (most : ℕ). c.args.out.now ++ refusal_comment (codes "lend") (c.args.owner ∷ c.args.holder ∷ c.args.conit ∷ c.args.amount ∷ []) (codes "home") most) limit))
     c.lend_refused.ensures.ok
