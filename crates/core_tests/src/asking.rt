@@ -1,11 +1,11 @@
 //! What clients ask for on conit 0: small numbers, which are in range whatever they are.
 
-ghost use Rattle.std.specs.Prelude.{◌≡◌, ◌<◌, IfOk};
+ghost use Rattle.std.specs.Prelude.{◌≡◌, ◌<◌};
 ghost use Rattle.tact_base.specs.Setup.{Setup};
 ghost use Rattle.run_model.specs.Ranges.{IsRequestInRange, IsOpInRange};
 
 use run_model::Request;
-use std::test::Fail;
+use std::process::Abort;
 use tact_base::{Need, Needs, Op, Weight, Weights};
 
 /// What a write does: adds an amount to a key, or moves one from a key to another.
@@ -46,16 +46,16 @@ impl Deed {
 }
 
 /// The request, which is in range wherever there is a conit.
-pub(crate) fn request(ask: Ask) -> Result<Request, Fail>
-    ensures { IfOk result (λ asked. (setup : Setup) → 0 < setup.conits → IsRequestInRange setup asked) }
+pub(crate) fn request(rt: &impl Abort, ask: Ask) -> Request
+    ensures { (setup : Setup) → 0 < setup.conits → IsRequestInRange setup result }
 {
-    Ok(match ask {
+    match ask {
         Ask::Plain(deed) => Request::Write {
-            weights: Weights::new(&[])?,
+            weights: Weights::new(&[]).expect(rt, "no weights"),
             op: deed.op(),
         },
         Ask::Write(nweight, oweight, deed) => Request::Write {
-            weights: Weights::new(&[weight(nweight, oweight)])?,
+            weights: Weights::new(&[weight(nweight, oweight)]).expect(rt, "a weight"),
             op: deed.op(),
         },
         Ask::Held(nweight, oweight, deed) => Request::Held {
@@ -72,9 +72,9 @@ pub(crate) fn request(ask: Ask) -> Result<Request, Fail>
         },
         Ask::Read(num, order, stale) => Request::Read {
             key: 1,
-            needs: Needs::new(&[need(num, order, stale)])?,
+            needs: Needs::new(&[need(num, order, stale)]).expect(rt, "a need"),
         },
-    })
+    }
 }
 
 // A weight on conit 0.

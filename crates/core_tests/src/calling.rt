@@ -6,17 +6,15 @@ use crate::saying::Said;
 use run_model::Config;
 use std::alloc::Global;
 use std::process::Abort;
-use std::test::Fail;
 
 // What each write and each held write does.
 const ADD: Deed = Deed::Add(7, 1);
 
 // Client 2 asks for one after another, and each reply is compared.
-fn assert_replies(rt: &impl Abort, member: &mut Member, table: &[(Ask, Said)]) -> Result<(), Fail> {
+fn assert_replies(rt: &impl Abort, member: &mut Member, table: &[(Ask, Said)]) {
     for (ask, said) in table {
-        assert_eq!(rt; member.ask(rt, 3, 2, *ask)??, said.reply());
+        assert_eq!(rt; member.answered(rt, 3, 2, *ask), said.reply());
     }
-    Ok(())
 }
 
 // How many calls client 2 made, how many entries there are, and how many own writes; and what replica 1 may miss.
@@ -42,23 +40,23 @@ static USED_UP: [(Ask, Said); 8] = [
     (Ask::Write(-1, 1, ADD), Said::WaitShare { missing: 5, reserved: 0, weight: 1, share: 5 }),
 ];
 
-fn use_up_a_share(rt: &impl Abort, member: &mut Member) -> Result<(), Fail> {
-    assert_replies(rt, member, &USED_UP)?;
+fn use_up_a_share(rt: &impl Abort, member: &mut Member) {
+    assert_replies(rt, member, &USED_UP);
     assert_counts(rt, member, (8, 8, 3), (5, 5));
     assert_eq!(rt; member.replica.tentative().len(), 3);
-    Ok(())
 }
 
 // Of three on one conit, each of which allows 10 and lends 5 of it to each other.
-fn of_three(rt: &impl Abort, alloc: Global) -> Result<Box<Member>, Fail> {
-    let config = Config::new(alloc, 3, 1, &[10; 3], &[0, 5, 5, 5, 0, 5, 5, 5, 0])?;
+fn of_three(rt: &impl Abort, alloc: Global) -> Box<Member> {
+    let loans = [0, 5, 5, 5, 0, 5, 5, 5, 0];
+    let config = Config::new(alloc, 3, 1, &[10; 3], &loans).expect(rt, "a setup");
     Member::new(rt, alloc, &config, 0)
 }
 
 #[test]
-fn writes_wait_for_the_share(rt: HostRuntime) -> Result<(), Fail> {
-    let mut member = of_three(&rt, rt.alloc())?;
-    use_up_a_share(&rt, &mut member)
+fn writes_wait_for_the_share(rt: HostRuntime) {
+    let mut member = of_three(&rt, rt.alloc());
+    use_up_a_share(&rt, &mut member);
 }
 
 // All of a share is reserved, and one write takes it.
@@ -72,16 +70,15 @@ static SPENT: [(Ask, Said); 6] = [
     (Ask::Release(1), Said::NotHeld { held: 0, amount: 1 }),
 ];
 
-fn spend_all(rt: &impl Abort, member: &mut Member) -> Result<(), Fail> {
-    assert_replies(rt, member, &SPENT)?;
+fn spend_all(rt: &impl Abort, member: &mut Member) {
+    assert_replies(rt, member, &SPENT);
     assert_counts(rt, member, (6, 6, 1), (10, 0));
-    Ok(())
 }
 
 #[test]
-fn held_writes_spend_what_is_reserved(rt: HostRuntime) -> Result<(), Fail> {
-    let mut member = Member::of_two(&rt, rt.alloc(), 0, [10; 2])?;
-    spend_all(&rt, &mut member)
+fn held_writes_spend_what_is_reserved(rt: HostRuntime) {
+    let mut member = Member::of_two(&rt, rt.alloc(), 0, [10; 2]);
+    spend_all(&rt, &mut member);
 }
 
 // A negative weight is missed: what is reserved beside it is of either sign.
@@ -99,16 +96,15 @@ static RESERVED: [(Ask, Said); 9] = [
 ];
 
 // There is room for the first write, and none for the second, with which room is made for 63 others.
-fn reserve_beside_a_write(rt: &impl Abort, member: &mut Member) -> Result<(), Fail> {
-    member.reserve(1)?;
-    assert_replies(rt, member, &RESERVED)?;
+fn reserve_beside_a_write(rt: &impl Abort, member: &mut Member) {
+    member.reserve(rt, 1);
+    assert_replies(rt, member, &RESERVED);
     assert_counts(rt, member, (9, 9, 2), (0, 9));
     assert_eq!(rt; (member.reserved(), member.replica.spare()), (1, 63));
-    Ok(())
 }
 
 #[test]
-fn reserves_count_either_sign(rt: HostRuntime) -> Result<(), Fail> {
-    let mut member = Member::of_two(&rt, rt.alloc(), 0, [10; 2])?;
-    reserve_beside_a_write(&rt, &mut member)
+fn reserves_count_either_sign(rt: HostRuntime) {
+    let mut member = Member::of_two(&rt, rt.alloc(), 0, [10; 2]);
+    reserve_beside_a_write(&rt, &mut member);
 }

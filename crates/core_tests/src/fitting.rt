@@ -5,8 +5,7 @@ use crate::member::Member;
 use run_model::{Config, Message};
 use std::alloc::Global;
 use std::process::Abort;
-use std::test::Fail;
-use tact_base::{Cover, Covers, NoMemory, Numbers, Op, SharedWrites, Weights, Write, WriteList};
+use tact_base::{Cover, Covers, Numbers, Op, SharedWrites, Weights, Write, WriteList};
 
 // What a message is made of: the index and the stamp are those of its one write, which is replica 0's.
 #[derive(Clone, Copy)]
@@ -30,21 +29,21 @@ const GOOD: Parts<'static> = Parts {
 };
 
 // The write of a message whose sender's cover stands at the stamp 12.
-fn told(parts: &Parts) -> Result<Write, Fail> {
-    Ok(Write {
+fn told(rt: &impl Abort, parts: &Parts) -> Write {
+    Write {
         origin: 0,
         index: parts.index,
         stamp: parts.stamp,
         moment: 20,
-        weights: Weights::new(&[])?,
+        weights: Weights::new(&[]).expect(rt, "no weights"),
         op: Op::Add { key: 7, delta: 1 },
-    })
+    }
 }
 
-fn writes_of(alloc: Global, parts: &Parts) -> Result<WriteList, Fail> {
+fn writes_of(rt: &impl Abort, alloc: Global, parts: &Parts) -> SharedWrites {
     let mut writes = WriteList::new(alloc);
-    writes.push(told(parts)?)?;
-    Ok(writes)
+    writes.push(told(rt, parts)).expect(rt, "room for a write");
+    SharedWrites::new(alloc, writes).expect(rt, "writes")
 }
 
 const COVER: Cover = Cover {
@@ -54,16 +53,22 @@ const COVER: Cover = Cover {
 };
 
 // Puts the lists into a message that has none.
-fn fill(message: &mut Message, parts: &Parts) -> Result<(), NoMemory> {
-    message.haves.append(parts.haves)?;
-    message.covers.append(&[COVER; 3])?;
-    message.firsts.append(&[parts.index, 2, 0])?;
-    message.lent.append(&[5, 0])?;
-    message.returned.append(parts.returned)
+fn fill(rt: &impl Abort, message: &mut Message, parts: &Parts) {
+    put(rt, &mut message.haves, parts.haves);
+    message
+        .covers
+        .append(&[COVER; 3])
+        .expect(rt, "room for covers");
+    put(rt, &mut message.firsts, &[parts.index, 2, 0]);
+    put(rt, &mut message.lent, &[5, 0]);
+    put(rt, &mut message.returned, parts.returned);
 }
 
-fn message_of(alloc: Global, parts: &Parts) -> Result<Message, Fail> {
-    let writes = SharedWrites::new(alloc, writes_of(alloc, parts)?)?;
+fn put(rt: &impl Abort, numbers: &mut Numbers, more: &[u64]) {
+    numbers.append(more).expect(rt, "room for numbers");
+}
+
+fn message_of(rt: &impl Abort, alloc: Global, parts: &Parts) -> Message {
     let mut message = Message {
         from: parts.from,
         to: parts.to,
@@ -71,47 +76,39 @@ fn message_of(alloc: Global, parts: &Parts) -> Result<Message, Fail> {
         haves: Numbers::new(alloc),
         covers: Covers::new(alloc),
         firsts: Numbers::new(alloc),
-        writes,
+        writes: writes_of(rt, alloc, parts),
         lent: Numbers::new(alloc),
         returned: Numbers::new(alloc),
     };
-    fill(&mut message, parts)?;
-    Ok(message)
+    fill(rt, &mut message, parts);
+    message
 }
 
 // Replica 1 of three, which lends 2 on the second of two conits to replica 0.
-fn one_of_three(rt: &impl Abort, alloc: Global) -> Result<Box<Member>, Fail> {
+fn one_of_three(rt: &impl Abort, alloc: Global) -> Box<Member> {
     let loans = [0, 0, 0, 0, 0, 0, 0, 0, 0, 2, 0, 0, 0, 0, 0, 0, 0, 0];
-    let config = Config::new(alloc, 3, 2, &[9; 6], &loans)?;
+    let config = Config::new(alloc, 3, 2, &[9; 6], &loans).expect(rt, "a setup");
     Member::new(rt, alloc, &config, 1)
 }
 
-fn write_twice(rt: &impl Abort, member: &mut Member) -> Result<(), Fail> {
+fn write_twice(rt: &impl Abort, member: &mut Member) {
     for moment in 5..7 {
-        member.ask(rt, moment, 3, Ask::Plain(Deed::Shift(7, 8, 1)))??;
+        member.answered(rt, moment, 3, Ask::Plain(Deed::Shift(7, 8, 1)));
     }
-    Ok(())
 }
 
 // Whether the replica can take the message.
-fn is_fit(alloc: Global, member: &Member, parts: &Parts) -> Result<bool, Fail> {
-    let message = message_of(alloc, parts)?;
-    Ok(member.replica.fits(&message))
+fn is_fit(rt: &impl Abort, alloc: Global, member: &Member, parts: &Parts) -> bool {
+    member.replica.fits(&message_of(rt, alloc, parts))
 }
 
 // A message's parts, whether it fits, and what it is.
 type Case = (Parts<'static>, bool, &'static str);
 
-fn assert_each(
-    rt: &impl Abort,
-    alloc: Global,
-    member: &Member,
-    cases: &[Case],
-) -> Result<(), Fail> {
+fn assert_each(rt: &impl Abort, alloc: Global, member: &Member, cases: &[Case]) {
     for (parts, due, text) in cases {
-        assert!(rt; is_fit(alloc, member, parts)? == *due, "{text}");
+        assert!(rt; is_fit(rt, alloc, member, parts) == *due, "{text}");
     }
-    Ok(())
 }
 
 // Of a replica that made two writes.
@@ -130,13 +127,9 @@ static CASES: [Case; 11] = [
     (Parts { index: 1, stamp: 13, ..GOOD }, true, "a write that isn't next"),
 ];
 
-fn write_and_fit(rt: &impl Abort, alloc: Global, member: &mut Member) -> Result<(), Fail> {
-    write_twice(rt, member)?;
-    assert_each(rt, alloc, member, &CASES)
-}
-
 #[test]
-fn knows_the_messages_that_fit(rt: HostRuntime) -> Result<(), Fail> {
-    let mut member = one_of_three(&rt, rt.alloc())?;
-    write_and_fit(&rt, rt.alloc(), &mut member)
+fn knows_the_messages_that_fit(rt: HostRuntime) {
+    let mut member = one_of_three(&rt, rt.alloc());
+    write_twice(&rt, &mut member);
+    assert_each(&rt, rt.alloc(), &member, &CASES);
 }

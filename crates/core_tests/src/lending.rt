@@ -5,25 +5,19 @@ use replica_core::LoanFault;
 use run_model::Config;
 use std::alloc::Global;
 use std::process::Abort;
-use std::test::Fail;
 
 // Replica 0 of two, on two conits: of its 10 and 7 the other has 3 and 1, and of the other's it has 4 and 2.
-fn one_of_two(rt: &impl Abort, alloc: Global) -> Result<Box<Member>, Fail> {
-    let config = Config::new(alloc, 2, 2, &[10, 7, 9, 8], &[0, 3, 0, 1, 4, 0, 2, 0])?;
+fn one_of_two(rt: &impl Abort, alloc: Global) -> Box<Member> {
+    let loans = [0, 3, 0, 1, 4, 0, 2, 0];
+    let config = Config::new(alloc, 2, 2, &[10, 7, 9, 8], &loans).expect(rt, "a setup");
     Member::new(rt, alloc, &config, 0)
 }
 
 // What it tells the other of loans and returns is this.
-fn assert_told(
-    rt: &impl Abort,
-    member: &mut Member,
-    lent: [u64; 2],
-    returned: [u64; 2],
-) -> Result<(), Fail> {
-    let message = member.send(rt, 6, 1, &[0; 2])?;
+fn assert_told(rt: &impl Abort, member: &mut Member, lent: [u64; 2], returned: [u64; 2]) {
+    let message = member.send(rt, 6, 1, &[0; 2]);
     assert!(rt; message.lent.items() == lent.as_slice());
     assert!(rt; message.returned.items() == returned.as_slice());
-    Ok(())
 }
 
 // It made so many entries, the last at the moment 5.
@@ -69,15 +63,15 @@ fn give_back_and_more(rt: &impl Abort, member: &mut Member) {
 }
 
 #[test]
-fn lends_what_is_at_home(rt: HostRuntime) -> Result<(), Fail> {
-    let mut member = one_of_two(&rt, rt.alloc())?;
+fn lends_what_is_at_home(rt: HostRuntime) {
+    let mut member = one_of_two(&rt, rt.alloc());
     lend_and_more(&rt, &mut member);
-    assert_told(&rt, &mut member, [10, 7], [0, 0])
+    assert_told(&rt, &mut member, [10, 7], [0, 0]);
 }
 
 #[test]
-fn gives_back_what_is_free(rt: HostRuntime) -> Result<(), Fail> {
-    let mut member = one_of_two(&rt, rt.alloc())?;
+fn gives_back_what_is_free(rt: HostRuntime) {
+    let mut member = one_of_two(&rt, rt.alloc());
     give_back_and_more(&rt, &mut member);
-    assert_told(&rt, &mut member, [3, 1], [4, 2])
+    assert_told(&rt, &mut member, [3, 1], [4, 2]);
 }

@@ -7,38 +7,27 @@ use replica_core::{CoreFault, LoanFault};
 use run_model::{Config, Message, Reply};
 use std::alloc::Global;
 use std::process::Abort;
-use std::test::Fail;
 use tact_base::Cover;
 
-// Has client 3 write without weights.
-fn write(
-    rt: &impl Abort,
-    member: &mut Member,
-    moment: u8,
-) -> Result<Result<Reply, CoreFault>, Fail> {
-    member.ask(rt, moment, 3, Ask::Plain(Deed::Shift(7, 8, 1)))
+// What client 3 asks for: a write without weights.
+const SHIFT: Ask = Ask::Plain(Deed::Shift(7, 8, 1));
+
+fn write(rt: &impl Abort, member: &mut Member, moment: u8) -> Reply {
+    member.answered(rt, moment, 3, SHIFT)
 }
 
 // Client 3 writes, and is told that it did.
-fn assert_written(
-    rt: &impl Abort,
-    member: &mut Member,
-    moment: u8,
-    index: u64,
-    stamp: u64,
-) -> Result<(), Fail> {
-    assert_eq!(rt; write(rt, member, moment)??, Reply::Done { index, stamp });
-    Ok(())
+fn assert_written(rt: &impl Abort, member: &mut Member, moment: u8, index: u64, stamp: u64) {
+    assert_eq!(rt; write(rt, member, moment), Reply::Done { index, stamp });
 }
 
 // Makes room for two writes, which it then accepts.
-fn accept_two(rt: &impl Abort, member: &mut Member) -> Result<(), Fail> {
-    member.reserve(2)?;
+fn accept_two(rt: &impl Abort, member: &mut Member) {
+    member.reserve(rt, 2);
     assert_eq!(rt; member.replica.spare(), 2);
-    assert_written(rt, member, 5, 0, 1)?;
-    assert_written(rt, member, 4, 1, 2)?;
+    assert_written(rt, member, 5, 0, 1);
+    assert_written(rt, member, 4, 1, 2);
     assert_readings(rt, member, &ACCEPTED);
-    Ok(())
 }
 
 // What replica 1 of two reads, of which client 3 wrote twice, at the moment 5 first, where there was room for no more.
@@ -65,9 +54,9 @@ const NOTHING: Cover = Cover {
 };
 
 #[test]
-fn accepts_writes(rt: HostRuntime) -> Result<(), Fail> {
-    let mut member = Member::of_two(&rt, rt.alloc(), 1, [5, 6])?;
-    accept_two(&rt, &mut member)
+fn accepts_writes(rt: HostRuntime) {
+    let mut member = Member::of_two(&rt, rt.alloc(), 1, [5, 6]);
+    accept_two(&rt, &mut member);
 }
 
 // A message of replica 1 to replica 0, which tells of two writes, its first and how many, with a cover of this moment.
@@ -91,34 +80,19 @@ fn assert_lists(rt: &impl Abort, message: &Message, first: u64) {
 }
 
 // Writes twice, and sends where the first of its own writes is given.
-fn send_two(
-    rt: &impl Abort,
-    member: &mut Member,
-    moment: u8,
-    given: u64,
-) -> Result<Box<Message>, Fail> {
-    write(rt, member, 5)??;
-    write(rt, member, 6)??;
+fn send_two(rt: &impl Abort, member: &mut Member, moment: u8, given: u64) -> Box<Message> {
+    write(rt, member, 5);
+    write(rt, member, 6);
     member.send(rt, moment, 0, &[0, given])
 }
 
-// The same, with counts that are right then.
-fn send_and_count(
-    rt: &impl Abort,
-    member: &mut Member,
-    moment: u8,
-    given: u64,
-) -> Result<Box<Message>, Fail> {
-    let message = send_two(rt, member, moment, given)?;
+// The same by a new replica, whose counts are right then.
+fn sent(rt: &impl Abort, alloc: Global, moment: u8, given: u64) -> Box<Message> {
+    let mut member = Member::of_two(rt, alloc, 1, [5, 6]);
+    let message = send_two(rt, &mut member, moment, given);
     let last = u64::from(moment).max(6);
     assert_eq!(rt; (member.replica.count(), member.replica.last()), (3, last));
-    Ok(message)
-}
-
-// The same by a new replica.
-fn sent(rt: &impl Abort, alloc: Global, moment: u8, given: u64) -> Result<Box<Message>, Fail> {
-    let mut member = Member::of_two(rt, alloc, 1, [5, 6])?;
-    send_and_count(rt, &mut member, moment, given)
+    message
 }
 
 static SENT: [(u8, u64, u64, usize, u64); 4] = [
@@ -129,12 +103,11 @@ static SENT: [(u8, u64, u64, usize, u64); 4] = [
 ];
 
 #[test]
-fn sends_what_another_lacks(rt: HostRuntime) -> Result<(), Fail> {
+fn sends_what_another_lacks(rt: HostRuntime) {
     for &(moment, given, first, count, last) in &SENT {
-        let message = sent(&rt, rt.alloc(), moment, given)?;
+        let message = sent(&rt, rt.alloc(), moment, given);
         assert_message(&rt, &message, first, count, last);
     }
-    Ok(())
 }
 
 // As many entries as there can be.
@@ -161,21 +134,17 @@ static FULL: Readings = Readings {
 };
 
 // Each entry is refused, and nothing changes.
-fn assert_full(rt: &impl Abort, member: &mut Member) -> Result<(), Fail> {
-    assert_nothing_enters(rt, member)?;
+fn assert_full(rt: &impl Abort, member: &mut Member) {
+    assert_nothing_enters(rt, member);
     assert_no_loan_moves(rt, member);
     assert_readings(rt, member, &FULL);
-    Ok(())
 }
 
-fn assert_nothing_enters(rt: &impl Abort, member: &mut Member) -> Result<(), Fail> {
+fn assert_nothing_enters(rt: &impl Abort, member: &mut Member) {
     let (count, clock) = (20_000, 0);
-    assert_eq!(rt; member.restart(4), Err(CoreFault::Full { count, clock }));
-    assert_eq!(rt;
-        write(rt, member, 4)?,
-        Err(CoreFault::Full { count, clock })
-    );
-    Ok(())
+    let full = CoreFault::Full { count, clock };
+    assert_eq!(rt; member.restart(4), Err(full));
+    assert_eq!(rt; member.ask(rt, 4, 3, SHIFT), Err(full));
 }
 
 fn assert_no_loan_moves(rt: &impl Abort, member: &mut Member) {
@@ -186,15 +155,15 @@ fn assert_no_loan_moves(rt: &impl Abort, member: &mut Member) {
 }
 
 // Replica 0 of two that allow nothing.
-fn of_nothing(rt: &impl Abort, alloc: Global) -> Result<Box<Member>, Fail> {
-    let config = Config::new(alloc, 2, 1, &[0; 2], &[0; 4])?;
+fn of_nothing(rt: &impl Abort, alloc: Global) -> Box<Member> {
+    let config = Config::new(alloc, 2, 1, &[0; 2], &[0; 4]).expect(rt, "a setup");
     Member::new(rt, alloc, &config, 0)
 }
 
 #[test]
-fn is_full_after_as_many_entries(rt: HostRuntime) -> Result<(), Fail> {
-    let mut member = of_nothing(&rt, rt.alloc())?;
+fn is_full_after_as_many_entries(rt: HostRuntime) {
+    let mut member = of_nothing(&rt, rt.alloc());
     fill(&rt, &mut member);
     assert_readings(&rt, &member, &FULL);
-    assert_full(&rt, &mut member)
+    assert_full(&rt, &mut member);
 }

@@ -4,7 +4,6 @@ use crate::asking::{Ask, Deed};
 use crate::member::{Member, Pair};
 use run_model::Message;
 use std::process::Abort;
-use std::test::Fail;
 
 // 5 more at the key 1; or the 5 there, if they are, to the key 2.
 const ADD: Deed = Deed::Add(1, 5);
@@ -12,13 +11,12 @@ const ADD: Deed = Deed::Add(1, 5);
 const SHIFT: Deed = Deed::Shift(1, 2, 5);
 
 // Has a client write without weights.
-fn write(rt: &impl Abort, member: &mut Member, deed: Deed) -> Result<(), Fail> {
-    member.ask(rt, 3, 0, Ask::Plain(deed))??;
-    Ok(())
+fn write(rt: &impl Abort, member: &mut Member, deed: Deed) {
+    member.answered(rt, 3, 0, Ask::Plain(deed));
 }
 
 // What one sends the other, where the first of each origin's writes is given.
-fn sent(rt: &impl Abort, member: &mut Member, to: u32, given: u64) -> Result<Box<Message>, Fail> {
+fn sent(rt: &impl Abort, member: &mut Member, to: u32, given: u64) -> Box<Message> {
     member.send(rt, 4, to, &[given; 2])
 }
 
@@ -39,39 +37,29 @@ fn assert_both(rt: &impl Abort, one: &Member) {
 }
 
 // Both write, and replica 1 takes what the other sends, twice.
-fn take_twice(rt: &impl Abort, zero: &mut Member, one: &mut Member) -> Result<(), Fail> {
-    write(rt, zero, ADD)?;
-    write(rt, one, SHIFT)?;
+fn take_twice(rt: &impl Abort, zero: &mut Member, one: &mut Member) {
+    write(rt, zero, ADD);
+    write(rt, one, SHIFT);
     assert_eq!(rt; held(one), (0, 0));
-    let message = sent(rt, zero, 1, 0)?;
-    hear_twice(rt, one, &message)
-}
-
-fn hear_twice(rt: &impl Abort, one: &mut Member, message: &Message) -> Result<(), Fail> {
-    assert!(rt; one.take(5, message)?);
-    assert!(rt; one.take(5, message)?);
+    let message = sent(rt, zero, 1, 0);
+    assert!(rt; one.take(rt, 5, &message));
+    assert!(rt; one.take(rt, 5, &message));
     assert_both(rt, one);
-    Ok(())
 }
 
 // Then replica 0 takes what replica 1 sends.
-fn answer(rt: &impl Abort, zero: &mut Member, one: &mut Member) -> Result<(), Fail> {
-    let message = sent(rt, one, 0, 0)?;
-    assert!(rt; zero.take(5, &message)?);
+fn answer(rt: &impl Abort, zero: &mut Member, one: &mut Member) {
+    let message = sent(rt, one, 0, 0);
+    assert!(rt; zero.take(rt, 5, &message));
     assert_eq!(rt; held(zero), (0, 5));
     assert_eq!(rt; (zero.replica.count(), zero.replica.clock()), (3, 1));
-    Ok(())
-}
-
-fn exchange(rt: &impl Abort, zero: &mut Member, one: &mut Member) -> Result<(), Fail> {
-    take_twice(rt, zero, one)?;
-    answer(rt, zero, one)
 }
 
 #[test]
-fn takes_what_it_lacks(rt: HostRuntime) -> Result<(), Fail> {
-    let mut pair = Pair::new(&rt, rt.alloc(), [5, 6])?;
-    exchange(&rt, &mut pair.zero, &mut pair.one)
+fn takes_what_it_lacks(rt: HostRuntime) {
+    let mut pair = Pair::new(&rt, rt.alloc(), [5, 6]);
+    take_twice(&rt, &mut pair.zero, &mut pair.one);
+    answer(&rt, &mut pair.zero, &mut pair.one);
 }
 
 // An old message, and a newer one, which tells no write that the old one tells but the last.
@@ -81,50 +69,36 @@ struct Mail {
     newer: Box<Message>,
 }
 
-fn two_messages(rt: &impl Abort, zero: &mut Member) -> Result<Mail, Fail> {
-    write(rt, zero, ADD)?;
-    write(rt, zero, ADD)?;
-    let old = sent(rt, zero, 1, 0)?;
-    let newer = write_and_send(rt, zero)?;
-    Ok(Mail { old, newer })
-}
-
-fn write_and_send(rt: &impl Abort, zero: &mut Member) -> Result<Box<Message>, Fail> {
-    write(rt, zero, ADD)?;
-    sent(rt, zero, 1, 1)
+fn two_messages(rt: &impl Abort, zero: &mut Member) -> Mail {
+    write(rt, zero, ADD);
+    write(rt, zero, ADD);
+    let old = sent(rt, zero, 1, 0);
+    write(rt, zero, ADD);
+    let newer = sent(rt, zero, 1, 1);
+    Mail { old, newer }
 }
 
 // Takes a message, and then has so many of replica 0's writes, knows that it has so many, and holds a value.
-fn assert_taken(
-    rt: &impl Abort,
-    one: &mut Member,
-    message: &Message,
-    after: (u64, u64, i64),
-) -> Result<(), Fail> {
-    assert!(rt; one.take(5, message)?);
+fn assert_taken(rt: &impl Abort, one: &mut Member, message: &Message, after: (u64, u64, i64)) {
+    assert!(rt; one.take(rt, 5, message));
     let replica = &one.replica;
     assert_eq!(rt;
         (replica.have(0), replica.known(0, 0), replica.get(1)),
         after
     );
     assert_eq!(rt; replica.clock(), 3);
-    Ok(())
 }
 
 // The newer message comes first, and leaves a gap; then the old one; then the newer one again.
-fn take_out_of_order(rt: &impl Abort, zero: &mut Member, one: &mut Member) -> Result<(), Fail> {
-    let mail = two_messages(rt, zero)?;
-    take_all(rt, one, &mail)
-}
-
-fn take_all(rt: &impl Abort, one: &mut Member, mail: &Mail) -> Result<(), Fail> {
-    assert_taken(rt, one, &mail.newer, (0, 3, 0))?;
-    assert_taken(rt, one, &mail.old, (2, 3, 10))?;
-    assert_taken(rt, one, &mail.newer, (3, 3, 15))
+fn take_out_of_order(rt: &impl Abort, zero: &mut Member, one: &mut Member) {
+    let mail = two_messages(rt, zero);
+    assert_taken(rt, one, &mail.newer, (0, 3, 0));
+    assert_taken(rt, one, &mail.old, (2, 3, 10));
+    assert_taken(rt, one, &mail.newer, (3, 3, 15));
 }
 
 #[test]
-fn leaves_what_would_make_a_gap(rt: HostRuntime) -> Result<(), Fail> {
-    let mut pair = Pair::new(&rt, rt.alloc(), [5, 6])?;
-    take_out_of_order(&rt, &mut pair.zero, &mut pair.one)
+fn leaves_what_would_make_a_gap(rt: HostRuntime) {
+    let mut pair = Pair::new(&rt, rt.alloc(), [5, 6]);
+    take_out_of_order(&rt, &mut pair.zero, &mut pair.one);
 }
