@@ -1,11 +1,11 @@
 //! What clients ask for: small numbers, which are in range whatever they are.
 
-ghost use Rattle.std.specs.Prelude.{◌≡◌, ◌<◌, IfOk};
+ghost use Rattle.std.specs.Prelude.{◌≡◌, ◌<◌};
 ghost use Rattle.tact_base.specs.Setup.{Setup};
 ghost use Rattle.run_model.specs.Ranges.{IsRequestInRange, IsOpInRange};
 
 use run_model::Request;
-use std::test::Fail;
+use std::process::Abort;
 use tact_base::{Need, Needs, Op, Weight, Weights};
 
 /// What a write does: to keys, with an amount.
@@ -72,12 +72,12 @@ impl Light {
 }
 
 /// The request, which is in range wherever there are two conits.
-pub(crate) fn request(ask: Ask) -> Result<Request, Fail>
-    ensures { IfOk result (λ asked. (setup : Setup) → setup.conits ≡ 2 → IsRequestInRange setup asked) }
+pub(crate) fn request(rt: &impl Abort, ask: Ask) -> Request
+    ensures { (setup : Setup) → setup.conits ≡ 2 → IsRequestInRange setup result }
 {
-    Ok(match ask {
+    match ask {
         Ask::Write(light, deed) => Request::Write {
-            weights: Weights::new(&[light.weight()])?,
+            weights: Weights::new(&[light.weight()]).expect(rt, "a weight"),
             op: deed.op(),
         },
         Ask::Held(light, deed) => Request::Held {
@@ -94,9 +94,9 @@ pub(crate) fn request(ask: Ask) -> Result<Request, Fail>
         },
         Ask::Read(key, order) => Request::Read {
             key: u64::from(key),
-            needs: Needs::new(&[need(order)])?,
+            needs: Needs::new(&[need(order)]).expect(rt, "a need"),
         },
-    })
+    }
 }
 
 fn need(order: u8) -> Need

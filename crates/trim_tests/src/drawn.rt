@@ -6,7 +6,6 @@ use crate::plain::{assert_keys, assert_order, assert_sums, committed_count, drop
 use run_model::{Message, Reply};
 use std::alloc::Global;
 use std::process::Abort;
-use std::test::Fail;
 use tact_base::{Weights, Write};
 use test_draws::{below, next};
 
@@ -43,22 +42,22 @@ fn write(
     writes: &mut Vec<Write>,
     moment: u16,
     number: u64,
-) -> Result<(), Fail> {
+) {
     let origin = u32::from(below(number, 50, 3));
     assert!(rt; (origin as usize) < members.len());
     let (light, deed) = (light_of(number), deed_of(number));
-    let reply = members[origin as usize].ask(moment, Ask::Write(light, deed))?;
-    if let Reply::Done { index, stamp } = reply.ok_or("no memory")? {
-        writes.push(Write {
+    let reply = members[origin as usize].answered(rt, moment, Ask::Write(light, deed));
+    if let Reply::Done { index, stamp } = reply {
+        let write = Write {
             origin,
             index,
             stamp,
             moment: u64::from(moment),
-            weights: Weights::new(&[light.weight()])?,
+            weights: Weights::new(&[light.weight()]).expect(rt, "a weight"),
             op: deed.op(),
-        })?;
+        };
+        writes.push(write).expect(rt, "room for a write");
     }
-    Ok(())
 }
 
 // A member sends to another. The message is on its way.
@@ -69,13 +68,12 @@ fn send(
     mail: &mut Vec<Message>,
     moment: u16,
     number: u64,
-) -> Result<(), Fail> {
+) {
     let from = u32::from(below(number, 50, 3));
     let to = (from + 1 + u32::from(below(number, 53, 2))) % 3;
     assert!(rt; (from as usize) < members.len());
-    let member = &mut members[from as usize];
-    mail.push(member.sent(rt, alloc, moment, to)?)?;
-    Ok(())
+    let message = members[from as usize].sent(rt, alloc, moment, to);
+    mail.push(message).expect(rt, "room for a message");
 }
 
 // A message that is on its way comes, out of turn, and sometimes it comes again.
@@ -85,21 +83,19 @@ fn take(
     mail: &mut Vec<Message>,
     moment: u16,
     number: u64,
-) -> Result<(), Fail> {
+) {
     if mail.is_empty() {
-        return Ok(());
+        return;
     }
     let place = (number >> 45) as usize % mail.len();
     let to = mail[place].to as usize;
     assert!(rt; to < members.len());
-    members[to]
-        .take(rt, moment, &mail[place])?
-        .ok_or("no memory")?;
+    let taken = members[to].take(rt, moment, &mail[place]);
+    taken.expect(rt, "a message that is taken");
     assert_given_up(rt, &members[to]);
     if below(number, 54, 4) > 0 {
         mail.swap_remove(place);
     }
-    Ok(())
 }
 
 // A member that took a message holds no committed write at the front that each is known to have.
@@ -109,13 +105,7 @@ fn assert_given_up(rt: &impl Abort, member: &Member) {
 }
 
 // One step by a number.
-fn step(
-    rt: &impl Abort,
-    alloc: Global,
-    course: &mut Course,
-    moment: u16,
-    number: u64,
-) -> Result<(), Fail> {
+fn step(rt: &impl Abort, alloc: Global, course: &mut Course, moment: u16, number: u64) {
     let members = &mut course.members;
     match below(number, 56, 8) {
         0..=1 => write(rt, members, &mut course.writes, moment, number),
@@ -125,44 +115,37 @@ fn step(
 }
 
 // What each member tells is what the plain functions say.
-fn assert_all(rt: &impl Abort, alloc: Global, course: &Course) -> Result<(), Fail> {
+fn assert_all(rt: &impl Abort, alloc: Global, course: &Course) {
     for member in &course.members {
-        assert_member(rt, alloc, member, &course.writes)?;
+        assert_member(rt, alloc, member, &course.writes);
     }
-    Ok(())
 }
 
-fn assert_member(
-    rt: &impl Abort,
-    alloc: Global,
-    member: &Member,
-    writes: &[Write],
-) -> Result<(), Fail> {
-    let seen = seen(alloc, member, writes)?;
+fn assert_member(rt: &impl Abort, alloc: Global, member: &Member, writes: &[Write]) {
+    let seen = seen(rt, alloc, member, writes);
     let count = committed_count(member, &seen);
     assert_order(rt, member, &seen, count);
     assert!(rt; count <= seen.len());
     assert!(rt; member.replica.dropped() <= dropped(member, &seen[..count]));
     assert_sums(rt, member, &seen, &seen[count..]);
-    assert_keys(rt, alloc, member, &seen)
+    assert_keys(rt, alloc, member, &seen);
 }
 
 // With this beginning 17 writes are accepted, messages come out of turn, and each member gives up some writes.
 #[test]
-fn tells_what_the_plain_functions_say(rt: HostRuntime) -> Result<(), Fail> {
+fn tells_what_the_plain_functions_say(rt: HostRuntime) {
     let mut course = Course {
-        members: three(rt.alloc())?,
+        members: three(&rt, rt.alloc()),
         writes: Vec::new(rt.alloc()),
         mail: Vec::new(rt.alloc()),
     };
     let mut number = 25;
     for moment in 0..60 {
         number = next(number);
-        step(&rt, rt.alloc(), &mut course, moment, number)?;
-        assert_all(&rt, rt.alloc(), &course)?;
+        step(&rt, rt.alloc(), &mut course, moment, number);
+        assert_all(&rt, rt.alloc(), &course);
     }
     for member in &course.members {
         assert!(rt; member.replica.dropped() > 0);
     }
-    Ok(())
 }

@@ -4,13 +4,12 @@
 
 use crate::asking::{Ask, Deed, Light};
 use crate::member::Member;
-use crate::readings::{Counts, Known, Settled, Values, cover};
+use crate::readings::{Counts, Known, NOTHING, Settled, Values};
 use replica_core::LastOne;
 use run_model::{Message, Reply};
 use std::alloc::Global;
 use std::process::Abort;
-use std::test::Fail;
-use tact_base::Numbers;
+use tact_base::{Cover, Numbers};
 
 // What is done next: a client asks; room is made for so many own writes; the replica sends what the other lacks, or
 // takes a message of the other, which is given; it lends the other an amount of conit 0, or gives one back to it; or it
@@ -63,17 +62,11 @@ const LIGHT: Light = Light {
 };
 
 // The message of one that wrote twice.
-fn told_by(rt: &impl Abort, alloc: Global, other: &mut Member) -> Result<Message, Fail> {
-    write_one(other)?;
-    write_one(other)?;
+fn told_by(rt: &impl Abort, alloc: Global, other: &mut Member) -> Message {
+    for _ in 0..2 {
+        other.answered(rt, 7, Ask::Write(LIGHT, Deed::Add(1, 1)));
+    }
     other.sent(rt, alloc, 7, 0)
-}
-
-fn write_one(other: &mut Member) -> Result<(), Fail> {
-    other
-        .ask(7, Ask::Write(LIGHT, Deed::Add(1, 1)))?
-        .ok_or("no memory")?;
-    Ok(())
 }
 
 fn read(member: &Member) -> Readings {
@@ -91,15 +84,15 @@ fn take_once(
     member: &mut Member,
     given: &Given<'_>,
     turn: Turn,
-) -> Result<Option<Answer>, Fail> {
+) -> Option<Answer> {
     match turn {
-        Turn::Ask(ask) => ask_once(member, ask),
+        Turn::Ask(ask) => ask_once(rt, member, ask),
         Turn::Send => send_once(rt, member, given),
-        Turn::Take => Ok(made(member.take(rt, 9, given.message)?)),
-        Turn::Room(count) => Ok(made(member.reserve(count))),
+        Turn::Take => made(member.take(rt, 9, given.message)),
+        Turn::Room(count) => made(member.reserve(count)),
         _ => {
             take_freely(rt, member, turn);
-            Ok(Some(Answer::Made))
+            Some(Answer::Made)
         }
     }
 }
@@ -111,10 +104,10 @@ fn made(done: Option<()>) -> Option<Answer> {
     }
 }
 
-fn ask_once(member: &mut Member, ask: Ask) -> Result<Option<Answer>, Fail> {
-    match member.ask(8, ask)? {
-        Some(reply) => Ok(Some(said(&reply))),
-        None => Ok(None),
+fn ask_once(rt: &impl Abort, member: &mut Member, ask: Ask) -> Option<Answer> {
+    match member.ask(rt, 8, ask) {
+        Some(reply) => Some(said(&reply)),
+        None => None,
     }
 }
 
@@ -144,14 +137,10 @@ fn take_freely(rt: &impl Abort, member: &mut Member, turn: Turn) {
     }
 }
 
-fn send_once(
-    rt: &impl Abort,
-    member: &mut Member,
-    given: &Given<'_>,
-) -> Result<Option<Answer>, Fail> {
-    match member.send(rt, 9, 1, given.firsts)? {
-        Some(message) => Ok(Some(sent(&message))),
-        None => Ok(None),
+fn send_once(rt: &impl Abort, member: &mut Member, given: &Given<'_>) -> Option<Answer> {
+    match member.send(rt, 9, 1, given.firsts) {
+        Some(message) => Some(sent(&message)),
+        None => None,
     }
 }
 
@@ -163,15 +152,10 @@ fn sent(message: &Message) -> Answer {
 }
 
 // Takes a turn, and where memory was refused takes it again: nothing that can be read changed in between.
-fn take_surely(
-    rt: &impl Abort,
-    member: &mut Member,
-    given: &Given<'_>,
-    turn: Turn,
-) -> Result<Answer, Fail> {
+fn take_surely(rt: &impl Abort, member: &mut Member, given: &Given<'_>, turn: Turn) -> Answer {
     let before = read(member);
-    match take_once(rt, member, given, turn)? {
-        Some(answer) => Ok(answer),
+    match take_once(rt, member, given, turn) {
+        Some(answer) => answer,
         None => take_again(rt, member, given, turn, &before),
     }
 }
@@ -182,21 +166,15 @@ fn take_again(
     given: &Given<'_>,
     turn: Turn,
     before: &Readings,
-) -> Result<Answer, Fail> {
+) -> Answer {
     assert_eq!(rt; &read(member), before);
-    Ok(take_once(rt, member, given, turn)?.ok_or("refused twice")?)
+    take_once(rt, member, given, turn).expect(rt, "an answer at the second time")
 }
 
-fn take_all(
-    rt: &impl Abort,
-    member: &mut Member,
-    given: &Given<'_>,
-    table: &[(Turn, Answer)],
-) -> Result<(), Fail> {
+fn take_all(rt: &impl Abort, member: &mut Member, given: &Given<'_>, table: &[(Turn, Answer)]) {
     for (turn, answer) in table {
-        assert_eq!(rt; take_surely(rt, member, given, *turn)?, *answer);
+        assert_eq!(rt; take_surely(rt, member, given, *turn), *answer);
     }
-    Ok(())
 }
 
 // All that writes or reads.
@@ -223,77 +201,50 @@ static EXCHANGES: [(Turn, Answer); 6] = [
 ];
 
 // What can be read then: the other's two writes are seen, of the own ones the last is tentative.
-fn assert_read(rt: &impl Abort, member: &Member) {
-    assert_eq!(rt; member.known(), known_then());
-    assert_eq!(rt; member.settled(), settled_then());
-    assert_eq!(rt; member.values(), VALUES_THEN);
-    assert_eq!(rt; member.counts(), COUNTS_THEN);
-}
-
-fn known_then() -> Known {
-    Known {
+#[rattlefmt::skip]
+static READ: Readings = Readings {
+    known: Known {
         haves: [3, 2, 0],
         known: [[0; 3], [0, 2, 0], [0; 3]],
-        covers: [cover(3, 3, 10), cover(2, 2, 7), cover(0, 0, 0)],
+        covers: [Cover { count: 3, stamp: 3, moment: 10 }, Cover { count: 2, stamp: 2, moment: 7 }, NOTHING],
         clock: 3,
-    }
-}
-
-fn settled_then() -> Settled {
-    Settled {
+    },
+    settled: Settled {
         point: 2,
         count: 4,
-        last: Some(LastOne {
-            origin: 1,
-            index: 1,
-        }),
+        last: Some(LastOne { origin: 1, index: 1 }),
         dropped: 0,
         held: 4,
         tentative: 1,
-    }
-}
-
-const VALUES_THEN: Values = Values {
-    conits: [5, 0],
-    weights: [2, 0],
-    keys: [4, 12],
+    },
+    values: Values { conits: [5, 0], weights: [2, 0], keys: [4, 12] },
+    counts: Counts {
+        entries: 12,
+        calls: 7,
+        last: 10,
+        spare: 100,
+        reserved: 5,
+        missing: (3, 4),
+        home: 0,
+        free: 0,
+    },
 };
 
-const COUNTS_THEN: Counts = Counts {
-    entries: 12,
-    calls: 7,
-    last: 10,
-    spare: 100,
-    reserved: 5,
-    missing: (3, 4),
-    home: 0,
-    free: 0,
-};
-
-fn run_all(rt: &impl Abort, member: &mut Member, given: &Given<'_>) -> Result<(), Fail> {
-    take_all(rt, member, given, &WRITES_AND_READS)?;
-    take_all(rt, member, given, &EXCHANGES)?;
-    assert_read(rt, member);
-    Ok(())
+fn run_all(rt: &impl Abort, member: &mut Member, given: &Given<'_>) {
+    take_all(rt, member, given, &WRITES_AND_READS);
+    take_all(rt, member, given, &EXCHANGES);
+    assert_eq!(rt; &read(member), &READ);
 }
 
-fn run_beside(rt: &impl Abort, alloc: Global, other: &mut Member) -> Result<(), Fail> {
-    let message = told_by(rt, alloc, other)?;
-    let firsts = other.no_firsts(alloc)?;
+#[test]
+fn goes_on_where_memory_was_refused(rt: HostRuntime) {
+    let mut other = Member::of_two(&rt, rt.alloc(), 1);
+    let message = told_by(&rt, rt.alloc(), &mut other);
+    let firsts = other.no_firsts(&rt, rt.alloc());
     let given = Given {
         firsts: &firsts,
         message: &message,
     };
-    run_one(rt, alloc, &given)
-}
-
-fn run_one(rt: &impl Abort, alloc: Global, given: &Given<'_>) -> Result<(), Fail> {
-    let mut member = Member::of_two(alloc, 0)?;
-    run_all(rt, &mut member, given)
-}
-
-#[test]
-fn goes_on_where_memory_was_refused(rt: HostRuntime) -> Result<(), Fail> {
-    let mut other = Member::of_two(rt.alloc(), 1)?;
-    run_beside(&rt, rt.alloc(), &mut other)
+    let mut member = Member::of_two(&rt, rt.alloc(), 0);
+    run_all(&rt, &mut member, &given);
 }

@@ -3,36 +3,16 @@
 use crate::asking::{Ask, Deed, Light};
 use crate::member::Member;
 use run_model::Message;
-use std::alloc::Global;
 use std::process::Abort;
-use std::test::Fail;
 
-fn write_and_peek(rt: &impl Abort, alloc: Global, one: &mut Member) -> Result<(), Fail> {
+// A write that weighs on conit 1.
+fn write(rt: &impl Abort, one: &mut Member) {
     let light = Light {
         conit: 1,
         nweight: 4,
         oweight: 1,
     };
-    one.ask(3, Ask::Write(light, Deed::Put(1, 4)))?
-        .ok_or("no memory")?;
-    let peeked = peek_at(rt, alloc, one)?;
-    send_the_same(rt, alloc, one, &peeked)
-}
-
-fn peek_at(rt: &impl Abort, alloc: Global, one: &Member) -> Result<Message, Fail> {
-    let firsts = one.no_firsts(alloc)?;
-    Ok(one.peek(rt, 5, 0, &firsts)?)
-}
-
-fn send_the_same(
-    rt: &impl Abort,
-    alloc: Global,
-    one: &mut Member,
-    peeked: &Message,
-) -> Result<(), Fail> {
-    let sent = one.sent(rt, alloc, 5, 0)?;
-    assert_same(rt, peeked, &sent);
-    Ok(())
+    one.answered(rt, 3, Ask::Write(light, Deed::Put(1, 4)));
 }
 
 fn assert_same(rt: &impl Abort, peeked: &Message, sent: &Message) {
@@ -41,7 +21,10 @@ fn assert_same(rt: &impl Abort, peeked: &Message, sent: &Message) {
 }
 
 #[test]
-fn tells_what_it_would_send(rt: HostRuntime) -> Result<(), Fail> {
-    let mut one = Member::of_two(rt.alloc(), 1)?;
-    write_and_peek(&rt, rt.alloc(), &mut one)
+fn tells_what_it_would_send(rt: HostRuntime) {
+    let mut one = Member::of_two(&rt, rt.alloc(), 1);
+    write(&rt, &mut one);
+    let peeked = one.peek(&rt, rt.alloc(), 5, 0);
+    let sent = one.sent(&rt, rt.alloc(), 5, 0);
+    assert_same(&rt, &peeked, &sent);
 }

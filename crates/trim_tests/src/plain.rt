@@ -6,19 +6,22 @@ use order_bound::tentative;
 use rollback_apply::value_after;
 use std::alloc::Global;
 use std::process::Abort;
-use std::test::Fail;
-use tact_base::Write;
+use tact_base::{Op, Write};
 
 /// The writes that it has, in order.
-pub(crate) fn seen(alloc: Global, member: &Member, all: &[Write]) -> Result<Vec<Write>, Fail> {
+pub(crate) fn seen(rt: &impl Abort, alloc: Global, member: &Member, all: &[Write]) -> Vec<Write> {
     let mut seen = Vec::new(alloc);
     for write in all {
         if has(member, write) {
-            seen.push(write.clone()?)?;
+            seen.push(copy_of(rt, write)).expect(rt, "room for a write");
         }
     }
     seen.sort_unstable_by_key(|write| write.place());
-    Ok(seen)
+    seen
+}
+
+fn copy_of(rt: &impl Abort, write: &Write) -> Write {
+    write.clone().expect(rt, "a copy")
 }
 
 fn has(member: &Member, write: &Write) -> bool {
@@ -95,18 +98,18 @@ pub(crate) fn assert_sums(rt: &impl Abort, member: &Member, seen: &[Write], late
 }
 
 /// What it tells of keys.
-pub(crate) fn assert_keys(
-    rt: &impl Abort,
-    alloc: Global,
-    member: &Member,
-    seen: &[Write],
-) -> Result<(), Fail> {
+pub(crate) fn assert_keys(rt: &impl Abort, alloc: Global, member: &Member, seen: &[Write]) {
+    let ops = ops_of(rt, alloc, seen);
+    for key in 0..4 {
+        let value = value_after(alloc, &ops, key).expect(rt, "a value");
+        assert_eq!(rt; member.replica.get(key), value);
+    }
+}
+
+fn ops_of(rt: &impl Abort, alloc: Global, seen: &[Write]) -> Vec<Op> {
     let mut ops = Vec::new(alloc);
     for write in seen {
-        ops.push(write.op)?;
+        ops.push(write.op).expect(rt, "room for an op");
     }
-    for key in 0..4 {
-        assert_eq!(rt; member.replica.get(key), value_after(alloc, &ops, key)?);
-    }
-    Ok(())
+    ops
 }

@@ -48,19 +48,17 @@ pub(crate) struct Counts {
     pub free: u64,
 }
 
-/// A cover.
-pub(crate) fn cover(count: u64, stamp: u64, moment: u64) -> Cover {
-    Cover {
-        count,
-        stamp,
-        moment,
-    }
-}
+/// The cover of one that was never heard of, or of none.
+pub(crate) const NOTHING: Cover = Cover {
+    count: 0,
+    stamp: 0,
+    moment: 0,
+};
 
 impl Member {
     pub(crate) fn known(&self) -> Known {
         let mut haves = [0; 3];
-        let mut covers = [Cover::default(); 3];
+        let mut covers = [NOTHING; 3];
         for origin in 0..self.count {
             haves[origin as usize] = self.replica.have(origin);
             covers[origin as usize] = self.replica.cover(origin);
