@@ -1,13 +1,12 @@
 //! What a client asks for: to add 1 to the key 7, without weights, or to read it, without needs.
 
-ghost use Rattle.std.specs.Prelude.{IfOk};
 ghost use Rattle.tact_base.specs.Setup.{Setup};
 ghost use Rattle.run_model.specs.Ranges.{IsRequestInRange};
 ghost use Rattle.session_guard.specs.Visits.{IsWriteOrRead};
 
 use run_model::{Reply, Request, Sums};
 use session_guard::Visit;
-use std::test::Fail;
+use std::process::Abort;
 use tact_base::{Needs, Op, Weights};
 
 #[derive(Clone, Copy)]
@@ -17,20 +16,20 @@ pub(crate) enum Ask {
 }
 
 /// The request, which is in range of every setup.
-pub(crate) fn request(ask: Ask) -> Result<Request, Fail>
-    ensures in_range { IfOk result (λ asked. (setup : Setup) → IsRequestInRange setup asked) }
-    ensures kind { IfOk result IsWriteOrRead }
+pub(crate) fn request(rt: &impl Abort, ask: Ask) -> Request
+    ensures in_range { (setup : Setup) → IsRequestInRange setup result }
+    ensures kind { IsWriteOrRead result }
 {
-    Ok(match ask {
+    match ask {
         Ask::Add => Request::Write {
-            weights: Weights::new(&[])?,
+            weights: Weights::new(&[]).expect(rt, "no weights"),
             op: Op::Add { key: 7, delta: 1 },
         },
         Ask::Read => Request::Read {
             key: 7,
-            needs: Needs::new(&[])?,
+            needs: Needs::new(&[]).expect(rt, "no needs"),
         },
-    })
+    }
 }
 
 /// The write was accepted.

@@ -7,7 +7,6 @@ use run_model::Config;
 use session_guard::{Outcome, Roam, Step, Visit};
 use std::alloc::Global;
 use std::process::Abort;
-use std::test::Fail;
 
 /// Two replicas with one conit, and one pass.
 #[derive(Drop)]
@@ -18,43 +17,41 @@ struct Tour {
 }
 
 impl Tour {
-    fn new(alloc: Global) -> Result<Box<Tour>, Fail> {
-        let config = Config::new(alloc, 2, 1, &[10; 2], &[0, 10, 10, 0])?;
+    fn new(rt: &impl Abort, alloc: Global) -> Box<Tour> {
+        let config = Config::new(alloc, 2, 1, &[10; 2], &[0, 10, 10, 0]).expect(rt, "a setup");
         let tour = Tour {
-            roam: Roam::new(alloc, &config, 1)?,
+            roam: Roam::new(alloc, &config, 1).expect(rt, "replicas"),
         };
-        Ok(Box::new(alloc, tour)?)
+        Box::new(alloc, tour).expect(rt, "a tour")
     }
 
     /// The client visits a replica.
-    fn visit(&mut self, rt: &impl Abort, replica: u32, ask: Ask) -> Result<Outcome, Fail> {
+    fn visit(&mut self, rt: &impl Abort, replica: u32, ask: Ask) -> Outcome {
         assert!(rt; replica < 2);
         assert!(rt; self.roam.steps().len() < 100);
         let step = Step::Visit {
             pass: 0,
             replica,
-            request: request(ask)?,
+            request: request(rt, ask),
         };
-        Ok(self.roam.step(1, &step)?)
+        self.roam.step(1, &step).expect(rt, "an outcome")
     }
 
     /// One sends to the other, which takes the message.
-    fn tell(&mut self, rt: &impl Abort, from: u32, to: u32) -> Result<(), Fail> {
+    fn tell(&mut self, rt: &impl Abort, from: u32, to: u32) {
         assert!(rt; from < 2 && to < 2 && from != to);
         assert!(rt; self.roam.steps().len() < 100);
         let message = self.roam.sent();
-        assert_eq!(rt;
-            self.roam.step(2, &Step::Send { from, to })?,
-            Outcome::Moved
-        );
-        self.take(rt, message)
+        let sent = self.roam.step(2, &Step::Send { from, to });
+        assert_eq!(rt; sent.expect(rt, "an outcome"), Outcome::Moved);
+        self.take(rt, message);
     }
 
-    fn take(&mut self, rt: &impl Abort, message: u64) -> Result<(), Fail> {
+    fn take(&mut self, rt: &impl Abort, message: u64) {
         assert!(rt; message < self.roam.sent());
         assert!(rt; self.roam.steps().len() < 100);
-        assert_eq!(rt; self.roam.step(3, &Step::Take { message })?, Outcome::Moved);
-        Ok(())
+        let taken = self.roam.step(3, &Step::Take { message });
+        assert_eq!(rt; taken.expect(rt, "an outcome"), Outcome::Moved);
     }
 
     /// What the pass has, and where the trip stopped.
@@ -71,33 +68,30 @@ fn assert_visited(rt: &impl Abort, outcome: &Outcome, said: Visit) {
 }
 
 // It reads its write at the other replica once that has it.
-fn follow_a_write(rt: &impl Abort, tour: &mut Tour) -> Result<(), Fail> {
-    assert_visited(rt, &tour.visit(rt, 0, Ask::Add)?, done(0, 1));
-    assert_visited(rt, &tour.visit(rt, 1, Ask::Read)?, lacks(0, 1));
-    tour.tell(rt, 0, 1)?;
-    assert_visited(rt, &tour.visit(rt, 1, Ask::Read)?, told(1));
+fn follow_a_write(rt: &impl Abort, tour: &mut Tour) {
+    assert_visited(rt, &tour.visit(rt, 0, Ask::Add), done(0, 1));
+    assert_visited(rt, &tour.visit(rt, 1, Ask::Read), lacks(0, 1));
+    tour.tell(rt, 0, 1);
+    assert_visited(rt, &tour.visit(rt, 1, Ask::Read), told(1));
     tour.assert_pass(rt, [1, 0], [1, 0], &[0, 3]);
-    Ok(())
 }
 
 // It writes there, and is kept away from the first one.
-fn write_there(rt: &impl Abort, tour: &mut Tour) -> Result<(), Fail> {
-    assert_visited(rt, &tour.visit(rt, 1, Ask::Add)?, done(0, 2));
+fn write_there(rt: &impl Abort, tour: &mut Tour) {
+    assert_visited(rt, &tour.visit(rt, 1, Ask::Add), done(0, 2));
     tour.assert_pass(rt, [1, 0], [1, 1], &[0, 3, 4]);
-    assert_visited(rt, &tour.visit(rt, 0, Ask::Read)?, lacks(1, 1));
-    assert_visited(rt, &tour.visit(rt, 0, Ask::Add)?, lacks(1, 1));
-    tour.tell(rt, 1, 0)?;
-    assert_visited(rt, &tour.visit(rt, 0, Ask::Read)?, told(2));
+    assert_visited(rt, &tour.visit(rt, 0, Ask::Read), lacks(1, 1));
+    assert_visited(rt, &tour.visit(rt, 0, Ask::Add), lacks(1, 1));
+    tour.tell(rt, 1, 0);
+    assert_visited(rt, &tour.visit(rt, 0, Ask::Read), told(2));
     tour.assert_pass(rt, [1, 1], [1, 1], &[0, 3, 4, 7]);
-    Ok(())
 }
 
 #[test]
-fn keeps_what_it_wrote_and_read(rt: HostRuntime) -> Result<(), Fail> {
-    let mut tour = Tour::new(rt.alloc())?;
-    follow_a_write(&rt, &mut tour)?;
-    write_there(&rt, &mut tour)?;
+fn keeps_what_it_wrote_and_read(rt: HostRuntime) {
+    let mut tour = Tour::new(&rt, rt.alloc());
+    follow_a_write(&rt, &mut tour);
+    write_there(&rt, &mut tour);
     assert_eq!(rt; tour.roam.entries().len(), 8);
     assert_eq!(rt; tour.roam.steps().len(), 11);
-    Ok(())
 }

@@ -8,7 +8,6 @@ use run_model::Config;
 use session_guard::{Pass, Visit, visit};
 use std::alloc::Global;
 use std::process::Abort;
-use std::test::Fail;
 
 /// Replica 0 of two, and a pass.
 #[derive(Drop)]
@@ -20,51 +19,47 @@ struct Stop {
 }
 
 impl Stop {
-    fn new(alloc: Global) -> Result<Box<Stop>, Fail> {
-        let config = Config::new(alloc, 2, 1, &[10; 2], &[0, 10, 10, 0])?;
+    fn new(rt: &impl Abort, alloc: Global) -> Box<Stop> {
+        let config = Config::new(alloc, 2, 1, &[10; 2], &[0, 10, 10, 0]).expect(rt, "a setup");
         let stop = Stop {
-            replica: Replica::new(alloc, &config, 0)?,
-            pass: Pass::new(alloc, 2)?,
+            replica: Replica::new(alloc, &config, 0).expect(rt, "a replica"),
+            pass: Pass::new(alloc, 2).expect(rt, "a pass"),
         };
-        Ok(Box::new(alloc, stop)?)
+        Box::new(alloc, stop).expect(rt, "a stop")
     }
 
-    fn ask(&mut self, ask: Ask) -> Result<Result<Visit, CoreFault>, Fail> {
-        let request = request(ask)?;
-        Ok(visit(&mut self.replica, &mut self.pass, 5, 3, &request))
+    fn ask(&mut self, rt: &impl Abort, ask: Ask) -> Result<Visit, CoreFault> {
+        visit(&mut self.replica, &mut self.pass, 5, 3, &request(rt, ask))
     }
 
     /// It begins anew, as often as it may.
-    fn fill(&mut self) -> Result<(), Fail> {
+    fn fill(&mut self, rt: &impl Abort) {
         for _ in 0..20_000 {
-            self.replica.restart(0)?;
+            self.replica.restart(0).expect(rt, "a restart");
         }
-        Ok(())
     }
 
     /// It answers that it is full.
-    fn assert_full(&mut self, rt: &impl Abort) -> Result<(), Fail> {
+    fn assert_full(&mut self, rt: &impl Abort) {
         let full = CoreFault::Full {
             count: 20_000,
             clock: 0,
         };
-        assert_eq!(rt; self.ask(Ask::Read)?, Err(full));
-        Ok(())
+        assert_eq!(rt; self.ask(rt, Ask::Read), Err(full));
     }
 }
 
 #[test]
-fn takes_no_memory_where_it_was_reserved(rt: HostRuntime) -> Result<(), Fail> {
-    let mut stop = Stop::new(rt.alloc())?;
-    stop.replica.reserve(1)?;
-    assert_eq!(rt; stop.ask(Ask::Add)?, Ok(done(0, 1)));
+fn takes_no_memory_where_it_was_reserved(rt: HostRuntime) {
+    let mut stop = Stop::new(&rt, rt.alloc());
+    stop.replica.reserve(1).expect(&rt, "room");
+    assert_eq!(rt; stop.ask(&rt, Ask::Add), Ok(done(0, 1)));
     assert_eq!(rt; stop.replica.spare(), 0);
-    Ok(())
 }
 
 #[test]
-fn is_full_after_20_000_entries(rt: HostRuntime) -> Result<(), Fail> {
-    let mut stop = Stop::new(rt.alloc())?;
-    stop.fill()?;
-    stop.assert_full(&rt)
+fn is_full_after_20_000_entries(rt: HostRuntime) {
+    let mut stop = Stop::new(&rt, rt.alloc());
+    stop.fill(&rt);
+    stop.assert_full(&rt);
 }

@@ -6,4 +6,4 @@ step-requires-clause-may g c =
     let tour = c.args.self.now in
     let pass : 0 < tour.roam.passes = omega arith in
     let replica : c.args.replica < tour.roam.setup.replicas = omega arith in
-    (pass, replica, c.in_ok-request.ensures.in_range tour.roam.setup, c.in_ok-request.ensures.kind)
+    (pass, replica, c.request.ensures.in_range tour.roam.setup, c.request.ensures.kind)
