@@ -6,7 +6,6 @@ use run_model::{Act, Config, Entry, Reply, Request};
 use seat_app::{Booking, Outcome, Sale, Seats, Trade};
 use std::alloc::Global;
 use std::process::Abort;
-use std::test::Fail;
 
 /// Two replicas with one conit, on which each allows the other 4.
 #[derive(Drop)]
@@ -16,50 +15,51 @@ struct Office {
 }
 
 impl Office {
-    fn new(alloc: Global) -> Result<Box<Office>, Fail> {
-        let config = Config::new(alloc, 2, 1, &[4; 2], &[0, 4, 4, 0])?;
+    fn new(rt: &impl Abort, alloc: Global) -> Box<Office> {
+        let config = Config::new(alloc, 2, 1, &[4; 2], &[0, 4, 4, 0]).expect(rt, "a setup");
         let office = Office {
-            booking: Booking::new(alloc, &config, Seats::new(0, 10))?,
+            booking: Booking::new(alloc, &config, Seats::new(0, 10)).expect(rt, "a booking"),
         };
-        Ok(Box::new(alloc, office)?)
+        Box::new(alloc, office).expect(rt, "an office")
     }
 
-    fn sell(&mut self, rt: &impl Abort, replica: u32, amount: u64) -> Result<Outcome, Fail> {
+    fn sell(&mut self, rt: &impl Abort, replica: u32, amount: u64) -> Outcome {
         assert!(rt; replica < 2);
         assert!(rt; 1 <= amount);
         assert!(rt; amount <= 10);
         assert!(rt; self.booking.trades().len() < 100);
         let trade = Trade::Sell { replica, amount };
-        Ok(self.booking.step(1, &trade)?)
+        self.booking.step(1, &trade).expect(rt, "an outcome")
     }
 
-    fn cancel(&mut self, rt: &impl Abort, replica: u32, amount: u64) -> Result<Outcome, Fail> {
+    fn cancel(&mut self, rt: &impl Abort, replica: u32, amount: u64) -> Outcome {
         assert!(rt; replica < 2);
         assert!(rt; 1 <= amount);
         assert!(rt; amount <= 10);
         assert!(rt; self.booking.trades().len() < 100);
         let trade = Trade::Cancel { replica, amount };
-        Ok(self.booking.step(1, &trade)?)
+        self.booking.step(1, &trade).expect(rt, "an outcome")
     }
 
     /// One sends to the other, which takes the message.
-    fn tell(&mut self, rt: &impl Abort, from: u32, to: u32) -> Result<(), Fail> {
+    fn tell(&mut self, rt: &impl Abort, from: u32, to: u32) {
         assert!(rt; from < 2);
         assert!(rt; to < 2);
         assert!(rt; from != to);
         assert!(rt; self.booking.trades().len() < 100);
         let message = self.booking.sent();
         let trade = Trade::Send { from, to };
-        assert_eq!(rt; self.booking.step(2, &trade)?, Outcome::Moved);
-        self.take(rt, message)
+        let sent = self.booking.step(2, &trade).expect(rt, "an outcome");
+        assert_eq!(rt; sent, Outcome::Moved);
+        self.take(rt, message);
     }
 
-    fn take(&mut self, rt: &impl Abort, message: u64) -> Result<(), Fail> {
+    fn take(&mut self, rt: &impl Abort, message: u64) {
         assert!(rt; message < self.booking.sent());
         assert!(rt; self.booking.trades().len() < 100);
         let trade = Trade::Take { message };
-        assert_eq!(rt; self.booking.step(3, &trade)?, Outcome::Moved);
-        Ok(())
+        let taken = self.booking.step(3, &trade).expect(rt, "an outcome");
+        assert_eq!(rt; taken, Outcome::Moved);
     }
 
     /// What each replica sees, and what is sold in all.
@@ -97,9 +97,8 @@ fn accepted(index: u64, stamp: u64) -> Sale {
 }
 
 // Replica 0 sells 3, and waits with 2 more.
-fn sell_and_wait(rt: &impl Abort, office: &mut Office) -> Result<(), Fail> {
-    assert_traded(rt, &office.sell(rt, 0, 3)?, accepted(0, 1));
-    let outcome = office.sell(rt, 0, 2)?;
+fn sell_and_wait(rt: &impl Abort, office: &mut Office) {
+    assert_traded(rt, &office.sell(rt, 0, 3), accepted(0, 1));
     let waits = Reply::WaitShare {
         conit: 0,
         peer: 1,
@@ -108,55 +107,48 @@ fn sell_and_wait(rt: &impl Abort, office: &mut Office) -> Result<(), Fail> {
         weight: 2,
         share: 4,
     };
-    assert_traded(rt, &outcome, Sale::Waiting(waits));
-    Ok(())
+    assert_traded(rt, &office.sell(rt, 0, 2), Sale::Waiting(waits));
 }
 
 // Replica 1 sells 4, and can neither sell 3 more nor cancel one.
-fn sell_and_stay(rt: &impl Abort, office: &mut Office) -> Result<(), Fail> {
-    assert_traded(rt, &office.sell(rt, 1, 4)?, accepted(0, 1));
-    let outcome = office.sell(rt, 1, 3)?;
+fn sell_and_stay(rt: &impl Abort, office: &mut Office) {
+    assert_traded(rt, &office.sell(rt, 1, 4), accepted(0, 1));
     let over = Sale::Over {
         value: 4,
         out: 4,
         amount: 3,
         capacity: 10,
     };
-    assert_traded(rt, &outcome, over);
-    let outcome = office.cancel(rt, 1, 1)?;
+    assert_traded(rt, &office.sell(rt, 1, 3), over);
     let under = Sale::Under {
         value: 4,
         out: 4,
         amount: 1,
     };
-    assert_traded(rt, &outcome, under);
-    Ok(())
+    assert_traded(rt, &office.cancel(rt, 1, 1), under);
 }
 
 // Each sells what it may, without a word between them.
-fn sell_apart(rt: &impl Abort, office: &mut Office) -> Result<(), Fail> {
-    sell_and_wait(rt, office)?;
-    sell_and_stay(rt, office)?;
+fn sell_apart(rt: &impl Abort, office: &mut Office) {
+    sell_and_wait(rt, office);
+    sell_and_stay(rt, office);
     office.assert_sold(rt, [3, 4], 7);
-    Ok(())
 }
 
 // They tell each other, and one cancels what it sold.
-fn cancel_together(rt: &impl Abort, office: &mut Office) -> Result<(), Fail> {
-    office.tell(rt, 0, 1)?;
-    office.tell(rt, 1, 0)?;
+fn cancel_together(rt: &impl Abort, office: &mut Office) {
+    office.tell(rt, 0, 1);
+    office.tell(rt, 1, 0);
     office.assert_sold(rt, [7, 7], 7);
-    assert_traded(rt, &office.cancel(rt, 0, 3)?, accepted(1, 2));
+    assert_traded(rt, &office.cancel(rt, 0, 3), accepted(1, 2));
     office.assert_sold(rt, [4, 7], 4);
-    Ok(())
 }
 
 #[test]
-fn sells_at_both_and_never_too_many(rt: HostRuntime) -> Result<(), Fail> {
-    let mut office = Office::new(rt.alloc())?;
-    sell_apart(&rt, &mut office)?;
-    cancel_together(&rt, &mut office)?;
+fn sells_at_both_and_never_too_many(rt: HostRuntime) {
+    let mut office = Office::new(&rt, rt.alloc());
+    sell_apart(&rt, &mut office);
+    cancel_together(&rt, &mut office);
     assert_eq!(rt; office.booking.entries().len(), 8);
     assert_eq!(rt; office.booking.trades().len(), 10);
-    Ok(())
 }
