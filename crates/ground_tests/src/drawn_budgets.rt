@@ -3,7 +3,6 @@
 use crate::opened::Opened;
 use split_budget::Fit;
 use std::process::Abort;
-use std::test::Fail;
 use tact_base::Weight;
 use test_draws::{below, next};
 
@@ -18,24 +17,19 @@ fn weight_of(number: u64) -> Weight {
 
 // One step by a number: a write where it fits, or the same with an amount that is held, spent or freed. Whether a write
 // was added.
-fn take_step(
-    rt: &impl Abort,
-    opened: &mut Opened,
-    number: u64,
-    weight: Weight,
-) -> Result<bool, Fail> {
+fn take_step(rt: &impl Abort, opened: &mut Opened, number: u64, weight: Weight) -> bool {
     let size = weight.nweight.unsigned_abs();
     match below(number, 33, 5) {
         0 => {
             opened.hold(rt, weight.conit, size);
-            Ok(false)
+            false
         }
         1 => {
             opened.free_held(rt, weight.conit, size);
-            Ok(false)
+            false
         }
         2 => opened.spend(rt, weight),
-        _ => Ok(opened.accept(rt, weight)? == Fit::Fits),
+        _ => opened.accept(rt, weight) == Fit::Fits,
     }
 }
 
@@ -70,10 +64,10 @@ fn turn(
     log: &mut Vec<Weight>,
     known: &mut [u64; 3],
     number: u64,
-) -> Result<(), Fail> {
+) {
     let weight = weight_of(number);
-    if take_step(rt, opened, number, weight)? {
-        log.push(weight)?;
+    if take_step(rt, opened, number, weight) {
+        log.push(weight).expect(rt, "room for a weight");
     }
     let peer = 1 + below(number, 60, 2);
     if below(number, 62, 4) == 0 {
@@ -82,7 +76,6 @@ fn turn(
         known[peer as usize] = known[peer as usize].max(count);
     }
     assert_sums(rt, opened, log, u32::from(peer), known[peer as usize]);
-    Ok(())
 }
 
 static LOANS: [u64; 18] = [
@@ -90,14 +83,13 @@ static LOANS: [u64; 18] = [
 ];
 
 #[test]
-fn kept_sums_are_those_from_scratch(rt: HostRuntime) -> Result<(), Fail> {
-    let mut opened = Opened::new(rt.alloc(), 3, 2, &[90; 6], &LOANS)?;
+fn kept_sums_are_those_from_scratch(rt: HostRuntime) {
+    let mut opened = Opened::new(&rt, rt.alloc(), 3, 2, &[90; 6], &LOANS);
     let mut log = Vec::new(rt.alloc());
     let mut known = [0; 3];
     let mut number = 1;
     for _ in 0..1000 {
         number = next(number);
-        turn(&rt, &mut opened, &mut log, &mut known, number)?;
+        turn(&rt, &mut opened, &mut log, &mut known, number);
     }
-    Ok(())
 }

@@ -1,30 +1,30 @@
 //! Images: what keys hold after operations, late ones and commits among them, against their fold from scratch.
 
-ghost use Rattle.std.specs.Prelude.{◌≡◌, ◌+◌, ◌<◌, ◌≤◌, ◌^◌, [], ◌∷◌, ◌++◌, vec_len, take, IfOk, OnOk};
+ghost use Rattle.std.specs.Prelude.{◌≡◌, ◌+◌, ◌<◌, ◌≤◌, ◌^◌, [], ◌∷◌, ◌++◌, vec_len, take};
 ghost use Rattle.tact_base.specs.Images.{ops_of};
 
 use rollback_apply::{Image, value_after};
 use std::alloc::Global;
 use std::process::Abort;
-use std::test::Fail;
-use tact_base::{NoMemory, Op, Weights, Write, drop_front};
+use tact_base::{Op, Weights, Write, drop_front};
 use test_draws::next;
 
 const MOST: i64 = 1_000_000_000_000_000;
 
 // The image of operations, each put in at the end.
-fn folded(alloc: Global, ops: &[Op]) -> Result<Image, Fail> {
+fn folded(rt: &impl Abort, alloc: Global, ops: &[Op]) -> Image {
     let mut image = Image::new(alloc);
     for (place, op) in ops.iter().enumerate() {
-        image.reserve(1)?;
+        image.reserve(1).expect(rt, "room for one");
         image.insert_at(place as u64, *op);
     }
-    Ok(image)
+    image
 }
 
 // What a key holds after operations, each put in at the end; and by their fold from scratch.
-fn held(alloc: Global, ops: &[Op], key: u64) -> Result<[i64; 2], Fail> {
-    Ok([folded(alloc, ops)?.get(key), value_after(alloc, ops, key)?])
+fn held(rt: &impl Abort, alloc: Global, ops: &[Op], key: u64) -> [i64; 2] {
+    let value = value_after(alloc, ops, key).expect(rt, "a value");
+    [folded(rt, alloc, ops).get(key), value]
 }
 
 #[rattlefmt::skip]
@@ -63,11 +63,10 @@ static FOLDED: [(&[Op], u64, i64); 25] = [
 ];
 
 #[test]
-fn folds_operations(rt: HostRuntime) -> Result<(), Fail> {
+fn folds_operations(rt: HostRuntime) {
     for &(ops, key, value) in &FOLDED {
-        assert_eq!(rt; held(rt.alloc(), ops, key)?, [value; 2], "of {ops:?}");
+        assert_eq!(rt; held(&rt, rt.alloc(), ops, key), [value; 2], "of {ops:?}");
     }
-    Ok(())
 }
 
 // What keys 1 and 2 hold.
@@ -90,9 +89,9 @@ fn befores(image: &Image) -> [Option<i64>; 6] {
 
 // A shift, an addition before it that makes it act, and the commit of the addition, before which both are applied: what
 // keys 1 and 2 hold after each, and what keys held before operations after each of the last two.
-fn acting(alloc: Global) -> Result<([[i64; 2]; 3], [[Option<i64>; 6]; 2]), NoMemory> {
+fn acting(rt: &impl Abort, alloc: Global) -> ([[i64; 2]; 3], [[Option<i64>; 6]; 2]) {
     let mut image = Image::new(alloc);
-    image.reserve(2)?;
+    image.reserve(2).expect(rt, "room for two");
     image.insert_at(
         0,
         Op::Shift {
@@ -107,17 +106,16 @@ fn acting(alloc: Global) -> Result<([[i64; 2]; 3], [[Option<i64>; 6]; 2]), NoMem
     let tentative = befores(&image);
     image.catch_up();
     image.commit(1);
-    Ok(([shifted, added, both(&image)], [tentative, befores(&image)]))
+    ([shifted, added, both(&image)], [tentative, befores(&image)])
 }
 
 #[test]
-fn a_late_operation_makes_a_shift_act(rt: HostRuntime) -> Result<(), Fail> {
-    let (values, befores) = acting(rt.alloc())?;
+fn a_late_operation_makes_a_shift_act(rt: HostRuntime) {
+    let (values, befores) = acting(&rt, rt.alloc());
     assert_eq!(rt; values, [[0, 0], [0, 5], [0, 5]]);
     let tentative = [Some(0), None, Some(5), Some(0), None, None];
     let committed = [None, None, Some(5), Some(0), None, None];
     assert_eq!(rt; befores, [tentative, committed]);
-    Ok(())
 }
 
 // A key below 256, mostly below 4, so that keys get places all the time.
@@ -158,150 +156,147 @@ fn place_in(number: u64, count: usize) -> usize
     (number >> 33) as usize % (count + 1)
 }
 
-fn write(op: Op) -> Result<Write, Fail>
-    ensures { IfOk result (λ write. write.op ≡ op) }
+fn write(rt: &impl Abort, op: Op) -> Write
+    ensures { result.op ≡ op }
 {
-    Ok(Write {
+    Write {
         origin: 0,
         index: 0,
         stamp: 0,
         moment: 0,
-        weights: Weights::new(&[])?,
+        weights: Weights::new(&[]).expect(rt, "no weights"),
         op,
-    })
+    }
 }
 
 // Writes of operations, with one before them and one behind.
-fn with_two(alloc: Global, ops: &[Op], first: Write, last: Write) -> Result<Vec<Write>, Fail>
-    ensures { IfOk result (λ writes. ops_of writes.items ≡ first.op ∷ ops.now ++ last.op ∷ []) }
+fn with_two(rt: &impl Abort, alloc: Global, ops: &[Op], first: Write, last: Write) -> Vec<Write>
+    ensures { ops_of result.items ≡ first.op ∷ ops.now ++ last.op ∷ [] }
 {
     let mut writes = Vec::new(alloc);
-    writes.push(first)?;
+    writes.push(first).expect(rt, "room for the first");
     for op in ops {
-        writes.push(write(*op)?)?;
+        writes.push(write(rt, *op)).expect(rt, "room for a write");
     }
-    writes.push(last)?;
-    Ok(writes)
+    writes.push(last).expect(rt, "room for the last");
+    writes
 }
 
 // Puts the operations of writes in place of those from a place on.
-fn replace(ops: &mut Vec<Op>, place: usize, writes: &[Write]) -> Result<(), Fail>
+fn replace(rt: &impl Abort, ops: &mut Vec<Op>, place: usize, writes: &[Write])
     requires { place ≤ vec_len ops.old }
-    ensures { OnOk result (ops.new.items ≡ take place ops.old.items ++ ops_of writes.now) }
+    ensures { ops.new.items ≡ take place ops.old.items ++ ops_of writes.now }
 {
     ops.truncate(place);
     for write in writes {
-        ops.push(write.op)?;
+        ops.push(write.op).expect(rt, "room for an operation");
     }
-    Ok(())
 }
 
 // Puts an operation among tentative ones, before that at a place of these.
 fn put_one(
+    rt: &impl Abort,
     image: &mut Image,
     late: &mut Vec<Op>,
     committed: u64,
     place: usize,
     op: Op,
-) -> Result<(), Fail>
+)
     requires same { image.old.ops ≡ late.old.items }
     requires committed { committed ≡ image.old.committed }
     requires small { committed < 2 ^ 63 }
     requires within { place ≤ vec_len late.old }
     requires room { 0 < image.old.room }
-    ensures same { OnOk result (image.new.ops ≡ late.new.items) }
+    ensures same { image.new.ops ≡ late.new.items }
     ensures committed { image.new.committed ≡ image.old.committed }
     ensures room { image.old.room ≡ image.new.room + 1 }
 {
     image.insert_at(committed + place as u64, op);
-    late.insert(place, op)?;
-    Ok(())
+    late.insert(place, op).expect(rt, "room for one");
 }
 
 // Commits the first `going` of the tentative operations.
 fn commit_some(
+    rt: &impl Abort,
     image: &mut Image,
     early: &mut Vec<Op>,
     late: &mut Vec<Op>,
     going: usize,
-) -> Result<(), Fail>
+)
     requires same { image.old.ops ≡ late.old.items }
     requires committed { image.old.committed ≡ vec_len early.old }
     requires within { going ≤ vec_len late.old }
-    ensures same { OnOk result (image.new.ops ≡ late.new.items) }
-    ensures committed { OnOk result (image.new.committed ≡ vec_len early.new) }
+    ensures same { image.new.ops ≡ late.new.items }
+    ensures committed { image.new.committed ≡ vec_len early.new }
 {
     image.commit(early.len() as u64 + going as u64);
-    early.extend_from_slice(&late[..going])?;
+    early
+        .extend_from_slice(&late[..going])
+        .expect(rt, "room for them");
     drop_front(late, going);
-    Ok(())
 }
 
 // Puts two operations among tentative ones: one before that at a place of these, one at their end.
 fn put_two(
-    alloc: Global,
+    rt: &(impl Abort + AllocGlobal),
     image: &mut Image,
     late: &mut Vec<Op>,
     committed: u64,
     place: usize,
     first: Write,
     last: Write,
-) -> Result<(), Fail>
+)
     requires same { image.old.ops ≡ late.old.items }
     requires committed { committed ≡ image.old.committed }
     requires small { committed < 2 ^ 63 }
     requires within { place ≤ vec_len late.old }
     requires room { 2 ≤ image.old.room }
-    ensures same { OnOk result (image.new.ops ≡ late.new.items) }
+    ensures same { image.new.ops ≡ late.new.items }
     ensures committed { image.new.committed ≡ image.old.committed }
 {
     let new = [first, last];
-    let rest = with_two(alloc, &late[place..], new[0], new[1])?;
+    let rest = with_two(rt, rt.alloc(), &late[place..], new[0], new[1]);
     image.insert_all(committed + place as u64, &new, &rest);
-    replace(late, place, &rest)
+    replace(rt, late, place, &rest);
 }
 
 // The same of two operations and a place that come from a number.
 fn put_drawn(
-    alloc: Global,
+    rt: &(impl Abort + AllocGlobal),
     image: &mut Image,
     late: &mut Vec<Op>,
     committed: u64,
     number: u64,
-) -> Result<(), Fail>
+)
     requires same { image.old.ops ≡ late.old.items }
     requires committed { committed ≡ image.old.committed }
     requires small { committed < 2 ^ 63 }
     requires room { 2 ≤ image.old.room }
-    ensures same { OnOk result (image.new.ops ≡ late.new.items) }
+    ensures same { image.new.ops ≡ late.new.items }
     ensures committed { image.new.committed ≡ image.old.committed }
 {
     let place = place_in(number, late.len());
-    let (first, last) = (write(op_of(number))?, write(op_of(next(number)))?);
-    put_two(alloc, image, late, committed, place, first, last)
+    let first = write(rt, op_of(number));
+    let last = write(rt, op_of(next(number)));
+    put_two(rt, image, late, committed, place, first, last);
 }
 
 // What keys 0 to 3 hold after committed operations and then tentative ones, from scratch.
-fn from_scratch(alloc: Global, early: &[Op], late: &[Op]) -> Result<[i64; 4], NoMemory> {
-    let mut all = Vec::from_slice(alloc, early)?;
-    all.extend_from_slice(late)?;
+fn from_scratch(rt: &impl Abort, alloc: Global, early: &[Op], late: &[Op]) -> [i64; 4] {
+    let mut all = Vec::from_slice(alloc, early).expect(rt, "a copy");
+    all.extend_from_slice(late)
+        .expect(rt, "room for the tentative");
     let mut values = [0; 4];
     for key in 0..4 {
-        values[key] = value_after(alloc, &all, key as u64)?;
+        values[key] = value_after(alloc, &all, key as u64).expect(rt, "a value");
     }
-    Ok(values)
+    values
 }
 
 // Keys 0 to 3 hold what they do from scratch.
-fn assert_same(
-    rt: &(impl Abort + AllocGlobal),
-    image: &Image,
-    early: &[Op],
-    late: &[Op],
-) -> Result<(), NoMemory> {
+fn assert_same(rt: &(impl Abort + AllocGlobal), image: &Image, early: &[Op], late: &[Op]) {
     let values = [image.get(0), image.get(1), image.get(2), image.get(3)];
-    assert_eq!(rt; values, from_scratch(rt.alloc(), early, late)?);
-    Ok(())
+    assert_eq!(rt; values, from_scratch(rt, rt.alloc(), early, late));
 }
 
 // Puts in one operation and goes over the values, has all applied, puts in two, commits a quarter of the tentative ones
@@ -312,34 +307,32 @@ fn turn(
     early: &mut Vec<Op>,
     late: &mut Vec<Op>,
     number: u64,
-) -> Result<(), Fail>
+)
     requires same { image.old.ops ≡ late.old.items }
     requires committed { image.old.committed ≡ vec_len early.old }
-    ensures same { OnOk result (image.new.ops ≡ late.new.items) }
-    ensures committed { OnOk result (image.new.committed ≡ vec_len early.new) }
+    ensures same { image.new.ops ≡ late.new.items }
+    ensures committed { image.new.committed ≡ vec_len early.new }
 {
     let committed = early.len() as u64;
     let place = place_in(number, late.len());
-    image.reserve(3)?;
-    put_one(image, late, committed, place, op_of(number))?;
-    assert_same(rt, image, early, late)?;
+    image.reserve(3).expect(rt, "room for three");
+    put_one(rt, image, late, committed, place, op_of(number));
+    assert_same(rt, image, early, late);
     image.catch_up();
-    put_drawn(rt.alloc(), image, late, committed, next(number))?;
+    put_drawn(rt, image, late, committed, next(number));
     let going = late.len() / 4;
-    commit_some(image, early, late, going)?;
-    assert_same(rt, image, early, late)?;
-    Ok(())
+    commit_some(rt, image, early, late, going);
+    assert_same(rt, image, early, late);
 }
 
 #[test]
-fn late_operations_and_batches_fold_as_in_order(rt: HostRuntime) -> Result<(), Fail> {
+fn late_operations_and_batches_fold_as_in_order(rt: HostRuntime) {
     let mut image = Image::new(rt.alloc());
     let mut early: Vec<Op> = Vec::new(rt.alloc());
     let mut late: Vec<Op> = Vec::new(rt.alloc());
     let mut number = 1;
     for _ in 0..300 {
         number = next(number);
-        turn(&rt, &mut image, &mut early, &mut late, number)?;
+        turn(&rt, &mut image, &mut early, &mut late, number);
     }
-    Ok(())
 }

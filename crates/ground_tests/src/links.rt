@@ -7,7 +7,6 @@ use link_faults::{
 };
 use std::alloc::Global;
 use std::process::Abort;
-use std::test::Fail;
 use tact_base::NoMemory;
 
 #[derive(Debug, Drop)]
@@ -55,24 +54,24 @@ fn counts([puts, copies, taken, lost, waiting]: [u64; 5]) -> Counts {
 }
 
 // An inbox of this plan, into which the items 1 up to `last` were put.
-fn filled(alloc: Global, plan: LinkPlan, last: u64) -> Result<Inbox<Parcel>, Fail> {
-    let mut inbox = Inbox::new(alloc, plan)?;
+fn filled(rt: &impl Abort, alloc: Global, plan: LinkPlan, last: u64) -> Inbox<Parcel> {
+    let mut inbox = Inbox::new(alloc, plan).expect(rt, "an inbox");
     for number in 0..last {
-        inbox.put(&true, parcel_of(number + 1))?;
+        inbox.put(&true, parcel_of(number + 1)).expect(rt, "a put");
     }
-    Ok(inbox)
+    inbox
 }
 
 // The numbers of the items that come out, up to the first time that none does.
-fn taken(alloc: Global, inbox: &mut Inbox<Parcel>) -> Result<Vec<u64>, Fail> {
+fn taken(rt: &impl Abort, alloc: Global, inbox: &mut Inbox<Parcel>) -> Vec<u64> {
     let mut numbers = Vec::new(alloc);
     for _ in 0..INBOX_MAX {
         let Some(parcel) = inbox.next() else {
             break;
         };
-        numbers.push(parcel.number)?;
+        numbers.push(parcel.number).expect(rt, "room for a number");
     }
-    Ok(numbers)
+    numbers
 }
 
 // What an inbox of this plan counts is this.
@@ -86,45 +85,32 @@ fn assert_taken(
     inbox: &mut Inbox<Parcel>,
     plan: LinkPlan,
     order: &[u64],
-) -> Result<(), Fail> {
-    let numbers = taken(rt.alloc(), inbox)?;
+) {
+    let numbers = taken(rt, rt.alloc(), inbox);
     assert_eq!(rt; numbers.as_slice(), order, "{plan:?}");
-    Ok(())
 }
 
 // The fate of an item that is put into an inbox, with memory for a twin or without.
-fn assert_put(
-    rt: &impl Abort,
-    inbox: &mut Inbox<Parcel>,
-    with: bool,
-    item: Parcel,
-    fate: Fate,
-) -> Result<(), Fail> {
+fn assert_put(rt: &impl Abort, inbox: &mut Inbox<Parcel>, with: bool, item: Parcel, fate: Fate) {
     let number = item.number;
-    assert_eq!(rt; inbox.put(&with, item)?, fate, "put {number}");
-    Ok(())
+    let put = inbox.put(&with, item).expect(rt, "a put");
+    assert_eq!(rt; put, fate, "put {number}");
 }
 
 // What comes out of an inbox of this plan into which so many items were put as are counted, and what is counted before,
 // after the items, and once more.
-fn assert_plan(
-    rt: &(impl Abort + AllocGlobal),
-    plan: LinkPlan,
-    total: Counts,
-    order: &[u64],
-) -> Result<(), Fail> {
-    let mut inbox = filled(rt.alloc(), plan, total.puts)?;
+fn assert_plan(rt: &(impl Abort + AllocGlobal), plan: LinkPlan, total: Counts, order: &[u64]) {
+    let mut inbox = filled(rt, rt.alloc(), plan, total.puts);
     assert_counts(rt, &inbox, plan, total);
-    assert_taken(rt, &mut inbox, plan, order)?;
+    assert_taken(rt, &mut inbox, plan, order);
     let after = Counts {
         taken: total.waiting,
         waiting: 0,
         ..total
     };
     assert_counts(rt, &inbox, plan, after);
-    assert_taken(rt, &mut inbox, plan, &[])?;
+    assert_taken(rt, &mut inbox, plan, &[]);
     assert_counts(rt, &inbox, plan, after);
-    Ok(())
 }
 
 static PLANS: [([u64; 3], [u64; 5], &[u64]); 8] = [
@@ -139,11 +125,10 @@ static PLANS: [([u64; 3], [u64; 5], &[u64]); 8] = [
 ];
 
 #[test]
-fn loses_doubles_and_turns(rt: HostRuntime) -> Result<(), Fail> {
+fn loses_doubles_and_turns(rt: HostRuntime) {
     for &(periods, total, order) in &PLANS {
-        assert_plan(&rt, plan(periods), counts(total), order)?;
+        assert_plan(&rt, plan(periods), counts(total), order);
     }
-    Ok(())
 }
 
 static FATES: [Fate; 7] = [
@@ -157,19 +142,19 @@ static FATES: [Fate; 7] = [
 ];
 
 #[test]
-fn answers_each_fate(rt: HostRuntime) -> Result<(), Fail> {
-    let mut inbox = Inbox::new(rt.alloc(), plan([5, 7, 0]))?;
+fn answers_each_fate(rt: HostRuntime) {
+    let mut inbox = Inbox::new(rt.alloc(), plan([5, 7, 0])).expect(&rt, "an inbox");
     for (before, fate) in FATES.iter().enumerate() {
-        assert_put(&rt, &mut inbox, true, parcel_of(before as u64 + 1), *fate)?;
+        assert_put(&rt, &mut inbox, true, parcel_of(before as u64 + 1), *fate);
     }
-    Ok(())
 }
 
 // The fate of the put that comes after so many, and how many items wait then.
-fn next_put(alloc: Global, plan: LinkPlan, before: u64) -> Result<(Fate, u64), Fail> {
-    let mut inbox = filled(alloc, plan, before)?;
-    let fate = inbox.put(&true, parcel_of(before.saturating_add(1)))?;
-    Ok((fate, inbox.counts().waiting))
+fn next_put(rt: &impl Abort, alloc: Global, plan: LinkPlan, before: u64) -> (Fate, u64) {
+    let mut inbox = filled(rt, alloc, plan, before);
+    let item = parcel_of(before.saturating_add(1));
+    let fate = inbox.put(&true, item).expect(rt, "a put");
+    (fate, inbox.counts().waiting)
 }
 
 static FULL: [([u64; 3], u64, Fate, u64); 8] = [
@@ -184,32 +169,30 @@ static FULL: [([u64; 3], u64, Fate, u64); 8] = [
 ];
 
 #[test]
-fn holds_no_more_than_1024(rt: HostRuntime) -> Result<(), Fail> {
+fn holds_no_more_than_1024(rt: HostRuntime) {
     for &(periods, before, fate, waiting) in &FULL {
-        let next = next_put(rt.alloc(), plan(periods), before)?;
+        let next = next_put(&rt, rt.alloc(), plan(periods), before);
         assert_eq!(rt; next, (fate, waiting), "{periods:?} after {before}");
     }
-    Ok(())
 }
 
 // The item that is handed back where it can't be doubled.
-fn handed_back(inbox: &mut Inbox<Parcel>, item: Parcel) -> Result<Parcel, Fail> {
-    let fault = inbox.put(&false, item).err().ok_or("no fault")?;
-    Ok(fault.item)
+fn handed_back(rt: &impl Abort, inbox: &mut Inbox<Parcel>, item: Parcel) -> Parcel {
+    inbox.put(&false, item).err().expect(rt, "a fault").item
 }
 
 #[test]
-fn hands_back_what_cannot_be_doubled(rt: HostRuntime) -> Result<(), Fail> {
+fn hands_back_what_cannot_be_doubled(rt: HostRuntime) {
     let plan = plan([3, 2, 0]);
-    let mut inbox = Inbox::new(rt.alloc(), plan)?;
-    assert_put(&rt, &mut inbox, false, parcel_of(1), Fate::Queued)?;
-    let item = handed_back(&mut inbox, parcel_of(2))?;
+    let mut inbox = Inbox::new(rt.alloc(), plan).expect(&rt, "an inbox");
+    assert_put(&rt, &mut inbox, false, parcel_of(1), Fate::Queued);
+    let item = handed_back(&rt, &mut inbox, parcel_of(2));
     assert_eq!(rt; item.number, 2);
     assert_counts(&rt, &inbox, plan, counts([1, 0, 0, 0, 1]));
-    assert_put(&rt, &mut inbox, true, item, Fate::Doubled)?;
-    assert_put(&rt, &mut inbox, false, parcel_of(3), Fate::Lost)?;
+    assert_put(&rt, &mut inbox, true, item, Fate::Doubled);
+    assert_put(&rt, &mut inbox, false, parcel_of(3), Fate::Lost);
     assert_counts(&rt, &inbox, plan, counts([3, 1, 0, 1, 3]));
-    assert_taken(&rt, &mut inbox, plan, &[1, 2, 2])
+    assert_taken(&rt, &mut inbox, plan, &[1, 2, 2]);
 }
 
 #[test]

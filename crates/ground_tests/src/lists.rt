@@ -4,10 +4,9 @@ use crate::checks::assert_numbers;
 use std::alloc::Global;
 use std::process::Abort;
 use std::slice;
-use std::test::Fail;
 use tact_base::{
-    ConitList, Cover, ListFault, Need, Needs, NoMemory, Numbers, OnConit, Op, Place, Row, Weight,
-    Weights, Write, WriteList, first_index,
+    ConitList, Cover, ListFault, Need, Needs, Numbers, OnConit, Op, Place, Row, Weight, Weights,
+    Write, WriteList, first_index,
 };
 
 const GOOD_WEIGHT: Weight = Weight {
@@ -105,139 +104,132 @@ fn refusal<T: OnConit + PartialEq>(
 static EIGHT: [u64; 8] = [1, 2, 3, 4, 5, 6, 7, u64::MAX];
 
 // Whether a row's copy is equal to it.
-fn is_copied(row: &Row) -> Result<bool, Fail> {
-    Ok(row.clone()? == *row)
+fn is_copied(rt: &impl Abort, row: &Row) -> bool {
+    row.clone().expect(rt, "a copy") == *row
 }
 
 #[test]
-fn holds_few_items(rt: HostRuntime) -> Result<(), Fail> {
+fn holds_few_items(rt: HostRuntime) {
     let row = Row::new(&EIGHT);
     assert_numbers(&rt, row.items(), &EIGHT);
-    assert!(rt; is_copied(&row)?);
+    assert!(rt; is_copied(&rt, &row));
     assert!(rt; Row::new(&[1, 2]) != row);
     assert_numbers(&rt, Row::new(&[]).items(), &[]);
-    Ok(())
 }
 
-fn grown(alloc: Global) -> Result<Numbers, NoMemory> {
+fn grown(rt: &impl Abort, alloc: Global) -> Numbers {
     let mut list = Numbers::new(alloc);
-    list.push(7)?;
-    list.append(&[8, 9])?;
-    Ok(list)
+    list.push(7).expect(rt, "room for one");
+    list.append(&[8, 9]).expect(rt, "room for two");
+    list
 }
 
 // Whether a list is equal to one of these numbers.
-fn is_of(list: &Numbers, alloc: Global, numbers: &[u64]) -> Result<bool, NoMemory> {
-    Ok(Numbers::from_slice(alloc, numbers)? == *list)
+fn is_of(rt: &impl Abort, list: &Numbers, alloc: Global, numbers: &[u64]) -> bool {
+    Numbers::from_slice(alloc, numbers).expect(rt, "numbers") == *list
 }
 
 #[test]
-fn grows_a_list(rt: HostRuntime) -> Result<(), Fail> {
+fn grows_a_list(rt: HostRuntime) {
     assert!(rt; Numbers::new(rt.alloc()).is_empty());
-    let list = grown(rt.alloc())?;
+    let list = grown(&rt, rt.alloc());
     assert_eq!(rt; list.len(), 3);
     assert!(rt; !list.is_empty());
     assert_numbers(&rt, list.items(), &[7, 8, 9]);
-    assert!(rt; is_of(&list, rt.alloc(), &[7, 8, 9])?);
-    assert!(rt; !is_of(&list, rt.alloc(), &[7, 8])?);
-    Ok(())
+    assert!(rt; is_of(&rt, &list, rt.alloc(), &[7, 8, 9]));
+    assert!(rt; !is_of(&rt, &list, rt.alloc(), &[7, 8]));
 }
 
-fn shifting() -> Result<Write, ListFault> {
+fn shifting(rt: &impl Abort) -> Write {
     let weight = Weight {
         conit: 5,
         nweight: -6,
         oweight: 7,
     };
-    Ok(Write {
+    Write {
         origin: 1,
         index: 2,
         stamp: 3,
         moment: 4,
-        weights: Weights::new(&[weight])?,
+        weights: Weights::new(&[weight]).expect(rt, "a weight"),
         op: Op::Shift {
             from: 8,
             to: 9,
             amount: 10,
         },
-    })
+    }
 }
 
 // A copy of a write, with another operation.
-fn changed(rt: &impl Abort, write: &Write) -> Result<Write, Fail> {
-    let mut copy = write.clone()?;
+fn changed(rt: &impl Abort, write: &Write) -> Write {
+    let mut copy = write.clone().expect(rt, "a copy");
     assert_eq!(rt; copy, *write);
     copy.op = Op::Put { key: 8, value: -9 };
-    Ok(copy)
+    copy
 }
 
 #[test]
-fn copies_writes(rt: HostRuntime) -> Result<(), Fail> {
-    let first = shifting()?;
-    let second = changed(&rt, &first)?;
+fn copies_writes(rt: HostRuntime) {
+    let first = shifting(&rt);
+    let second = changed(&rt, &first);
     let both = [first, second];
-    let mut list = WriteList::from_slice(rt.alloc(), slice::from_ref(&both[0]))?;
-    list.append(slice::from_ref(&both[1]))?;
+    let mut list = WriteList::from_slice(rt.alloc(), slice::from_ref(&both[0])).expect(
+        &rt, "a list",
+    );
+    list.append(slice::from_ref(&both[1]))
+        .expect(&rt, "room for a write");
     assert!(rt; list.items() == both.as_slice());
-    Ok(())
 }
 
 // The numbers below a count.
-fn below(alloc: Global, count: u64) -> Result<Numbers, NoMemory> {
+fn below(rt: &impl Abort, alloc: Global, count: u64) -> Numbers {
     let mut list = Numbers::new(alloc);
     for number in 0..count {
-        list.push(number)?;
+        list.push(number).expect(rt, "room for a number");
     }
-    Ok(list)
+    list
 }
 
 // Whether a list's copy is equal to it.
-fn is_cloned(list: &Numbers) -> Result<bool, Fail> {
-    Ok(list.clone()? == *list)
+fn is_cloned(rt: &impl Abort, list: &Numbers) -> bool {
+    list.clone().expect(rt, "a copy") == *list
 }
 
 #[test]
-fn goes_on_past_its_place(rt: HostRuntime) -> Result<(), Fail> {
-    let nine = below(rt.alloc(), 9)?;
+fn goes_on_past_its_place(rt: HostRuntime) {
+    let nine = below(&rt, rt.alloc(), 9);
     assert_numbers(&rt, nine.items(), &[0, 1, 2, 3, 4, 5, 6, 7, 8]);
-    assert!(rt; is_cloned(&nine)?);
-    Ok(())
+    assert!(rt; is_cloned(&rt, &nine));
 }
 
 // A copy of a list, and the list once more behind it.
-fn doubled(list: &Numbers) -> Result<Numbers, Fail> {
-    let mut copy = list.copied()?;
-    copy.append(list.items())?;
-    Ok(copy)
-}
-
-fn doubled_below(alloc: Global, count: u64) -> Result<Numbers, Fail> {
-    doubled(&below(alloc, count)?)
+fn doubled(rt: &impl Abort, list: &Numbers) -> Numbers {
+    let mut copy = list.copied().expect(rt, "a copy");
+    copy.append(list.items()).expect(rt, "room for as many");
+    copy
 }
 
 #[test]
-fn appends_to_a_copy(rt: HostRuntime) -> Result<(), Fail> {
-    let list = doubled_below(rt.alloc(), 2)?;
+fn appends_to_a_copy(rt: HostRuntime) {
+    let list = doubled(&rt, &below(&rt, rt.alloc(), 2));
     assert_numbers(&rt, list.items(), &[0, 1, 0, 1]);
-    Ok(())
 }
 
 #[test]
-fn changes_a_short_list(rt: HostRuntime) -> Result<(), Fail> {
-    let mut list = Numbers::from_slice(rt.alloc(), &[0, 1, 2, 3, 4, 5, 6, 7, 8])?;
+fn changes_a_short_list(rt: HostRuntime) {
+    let nine = [0, 1, 2, 3, 4, 5, 6, 7, 8];
+    let mut list = Numbers::from_slice(rt.alloc(), &nine).expect(&rt, "a list");
     list.truncate(3);
     list.set(1, 7);
     assert_numbers(&rt, list.items(), &[0, 7, 2]);
     list.truncate(0);
     assert!(rt; list.is_empty());
-    Ok(())
 }
 
 #[test]
-fn makes_lists_of_a_length(rt: HostRuntime) -> Result<(), Fail> {
-    let nines = Numbers::filled(rt.alloc(), 9, 3)?;
+fn makes_lists_of_a_length(rt: HostRuntime) {
+    let nines = Numbers::filled(rt.alloc(), 9, 3).expect(&rt, "nines");
     assert_numbers(&rt, nines.items(), &[9, 9, 9]);
-    Ok(())
 }
 
 #[rattlefmt::skip]

@@ -3,9 +3,8 @@
 use run_model::{Config, Message, is_message_in_range};
 use std::alloc::Global;
 use std::process::Abort;
-use std::test::Fail;
 use tact_base::{
-    Cover, Covers, Items, NoMemory, Numbers, Op, SharedWrites, Weight, Weights, Write, WriteList,
+    Cover, Covers, Items, Numbers, Op, SharedWrites, Weight, Weights, Write, WriteList,
 };
 
 const ADD: Op = Op::Add { key: 7, delta: 1 };
@@ -68,40 +67,45 @@ struct Parts<'a> {
     returned: &'a [u64],
 }
 
-fn write_of(told: &Told) -> Result<Write, Fail> {
+fn write_of(rt: &impl Abort, told: &Told) -> Write {
     let weight = Weight {
         conit: told.conit,
         nweight: 1,
         oweight: 1,
     };
-    Ok(Write {
+    Write {
         origin: told.origin,
         index: told.index,
         stamp: told.stamp,
         moment: told.moment,
-        weights: Weights::new(&[weight])?,
+        weights: Weights::new(&[weight]).expect(rt, "a weight"),
         op: told.op,
-    })
+    }
 }
 
-fn writes_of(alloc: Global, told: &[Told]) -> Result<SharedWrites, Fail> {
+fn writes_of(rt: &impl Abort, alloc: Global, told: &[Told]) -> SharedWrites {
     let mut writes = WriteList::new(alloc);
     for told in told {
-        writes.push(write_of(told)?)?;
+        writes
+            .push(write_of(rt, told))
+            .expect(rt, "room for a write");
     }
-    Ok(SharedWrites::new(alloc, writes)?)
+    SharedWrites::new(alloc, writes).expect(rt, "writes")
 }
 
 // Puts the lists into a message that has none.
-fn fill(message: &mut Message, parts: &Parts) -> Result<(), NoMemory> {
-    message.haves.append(parts.haves)?;
-    message.covers.append(parts.covers)?;
-    message.firsts.append(parts.firsts)?;
-    message.lent.append(parts.lent)?;
-    message.returned.append(parts.returned)
+fn fill(rt: &impl Abort, message: &mut Message, parts: &Parts) {
+    message.haves.append(parts.haves).expect(rt, "haves");
+    message.covers.append(parts.covers).expect(rt, "covers");
+    message.firsts.append(parts.firsts).expect(rt, "firsts");
+    message.lent.append(parts.lent).expect(rt, "what is lent");
+    message
+        .returned
+        .append(parts.returned)
+        .expect(rt, "what is returned");
 }
 
-fn message_of(alloc: Global, parts: &Parts) -> Result<Message, Fail> {
+fn message_of(rt: &impl Abort, alloc: Global, parts: &Parts) -> Message {
     let mut message = Message {
         from: parts.from,
         to: parts.to,
@@ -109,12 +113,12 @@ fn message_of(alloc: Global, parts: &Parts) -> Result<Message, Fail> {
         haves: Numbers::new(alloc),
         covers: Covers::new(alloc),
         firsts: Numbers::new(alloc),
-        writes: writes_of(alloc, parts.writes)?,
+        writes: writes_of(rt, alloc, parts.writes),
         lent: Numbers::new(alloc),
         returned: Numbers::new(alloc),
     };
-    fill(&mut message, parts)?;
-    Ok(message)
+    fill(rt, &mut message, parts);
+    message
 }
 
 // Replica 0 of 3 replicas and 2 conits tells replica 1 two of its own writes and one of replica 2.
@@ -147,9 +151,9 @@ fn of_writes(writes: &[Told]) -> Parts<'_> {
 const TWICE: Told = Told { index: 4, ..SECOND };
 
 // Whether the message is in range of 3 replicas and 2 conits.
-fn is_good(alloc: Global, parts: &Parts) -> Result<bool, Fail> {
-    let config = Config::new(alloc, 3, 2, &[9; 6], &[0; 18])?;
-    Ok(is_message_in_range(&config, &message_of(alloc, parts)?))
+fn is_good(rt: &impl Abort, alloc: Global, parts: &Parts) -> bool {
+    let config = Config::new(alloc, 3, 2, &[9; 6], &[0; 18]).expect(rt, "a setup");
+    is_message_in_range(&config, &message_of(rt, alloc, parts))
 }
 
 #[rattlefmt::skip]
@@ -173,19 +177,15 @@ static ENDS_AND_LISTS: [(Parts<'static>, bool, &str); 16] = [
 ];
 
 // Each message of a table is in range where it is due.
-fn assert_good(
-    rt: &(impl Abort + AllocGlobal),
-    cases: &[(Parts<'static>, bool, &str)],
-) -> Result<(), Fail> {
+fn assert_good(rt: &impl Abort, alloc: Global, cases: &[(Parts<'static>, bool, &str)]) {
     for (parts, due, text) in cases {
-        assert!(rt; is_good(rt.alloc(), parts)? == *due, "{text}");
+        assert!(rt; is_good(rt, alloc, parts) == *due, "{text}");
     }
-    Ok(())
 }
 
 #[test]
-fn knows_the_ends_and_the_lists(rt: HostRuntime) -> Result<(), Fail> {
-    assert_good(&rt, &ENDS_AND_LISTS)
+fn knows_the_ends_and_the_lists(rt: HostRuntime) {
+    assert_good(&rt, rt.alloc(), &ENDS_AND_LISTS);
 }
 
 #[rattlefmt::skip]
@@ -199,8 +199,8 @@ static ORIGINS: [(Parts<'static>, bool, &str); 6] = [
 ];
 
 #[test]
-fn knows_what_is_told_of_an_origin(rt: HostRuntime) -> Result<(), Fail> {
-    assert_good(&rt, &ORIGINS)
+fn knows_what_is_told_of_an_origin(rt: HostRuntime) {
+    assert_good(&rt, rt.alloc(), &ORIGINS);
 }
 
 #[rattlefmt::skip]
@@ -212,15 +212,14 @@ static COVERS: [(Cover, bool); 4] = [
 ];
 
 #[test]
-fn knows_what_a_cover_vouches_for(rt: HostRuntime) -> Result<(), Fail> {
+fn knows_what_a_cover_vouches_for(rt: HostRuntime) {
     for (cover, due) in &COVERS {
         let covers = [COVER, *cover, COVER];
         assert!(rt;
-            is_good(rt.alloc(), &of_covers(&covers))? == *due,
+            is_good(&rt, rt.alloc(), &of_covers(&covers)) == *due,
             "{cover:?}"
         );
     }
-    Ok(())
 }
 
 #[rattlefmt::skip]
@@ -236,12 +235,14 @@ static WRITES: [([Told; 3], bool, &str); 8] = [
 ];
 
 #[test]
-fn knows_the_order_of_writes(rt: HostRuntime) -> Result<(), Fail> {
+fn knows_the_order_of_writes(rt: HostRuntime) {
     for (writes, due, text) in &WRITES {
-        assert!(rt; is_good(rt.alloc(), &of_writes(writes))? == *due, "{text}");
+        assert!(rt;
+            is_good(&rt, rt.alloc(), &of_writes(writes)) == *due,
+            "{text}"
+        );
     }
-    assert!(rt; is_good(rt.alloc(), &of_writes(&[]))?);
-    Ok(())
+    assert!(rt; is_good(&rt, rt.alloc(), &of_writes(&[])));
 }
 
 static OWN: [Told; 3] = [
@@ -255,16 +256,15 @@ static OWN: [Told; 3] = [
 ];
 
 #[test]
-fn knows_the_receivers_own_writes(rt: HostRuntime) -> Result<(), Fail> {
+fn knows_the_receivers_own_writes(rt: HostRuntime) {
     for (to, due) in [(1, false), (2, true)] {
         let parts = Parts {
             to,
             firsts: &[4, 1, 0],
             ..of_writes(&OWN)
         };
-        assert!(rt; is_good(rt.alloc(), &parts)? == due, "to {to}");
+        assert!(rt; is_good(&rt, rt.alloc(), &parts) == due, "to {to}");
     }
-    Ok(())
 }
 
 #[rattlefmt::skip]
@@ -293,52 +293,46 @@ static NUMBERS: [(Told, bool, &str); 7] = [
 ];
 
 // A message whose first write is this one is in range where it is due.
-fn assert_told(
-    rt: &(impl Abort + AllocGlobal),
-    told: Told,
-    due: bool,
-    text: &str,
-) -> Result<(), Fail> {
+fn assert_told(rt: &impl Abort, alloc: Global, told: Told, due: bool, text: &str) {
     let writes = [told, SECOND, THIRD];
-    assert!(rt; is_good(rt.alloc(), &of_writes(&writes))? == due, "{text}");
-    Ok(())
+    assert!(rt; is_good(rt, alloc, &of_writes(&writes)) == due, "{text}");
 }
 
 #[test]
-fn knows_the_numbers_of_a_write(rt: HostRuntime) -> Result<(), Fail> {
+fn knows_the_numbers_of_a_write(rt: HostRuntime) {
     for (told, due, text) in &NUMBERS {
-        assert_told(&rt, *told, *due, text)?;
+        assert_told(&rt, rt.alloc(), *told, *due, text);
     }
     for (op, due, text) in &OPS {
-        assert_told(&rt, Told { op: *op, ..FIRST }, *due, text)?;
+        assert_told(&rt, rt.alloc(), Told { op: *op, ..FIRST }, *due, text);
     }
-    Ok(())
 }
 
 // So many writes of replica 0, from its first on.
-fn many(alloc: Global, count: u64) -> Result<Items<Told>, NoMemory> {
+fn many(rt: &impl Abort, alloc: Global, count: u64) -> Items<Told> {
     let mut writes = Items::new(alloc);
     for index in 0..count {
-        writes.push(Told { index, ..FIRST })?;
+        writes
+            .push(Told { index, ..FIRST })
+            .expect(rt, "room for a write");
     }
-    Ok(writes)
+    writes
 }
 
 // Whether a message with so many writes is in range.
-fn is_good_with(alloc: Global, count: u64) -> Result<bool, Fail> {
-    let writes = many(alloc, count)?;
+fn is_good_with(rt: &impl Abort, alloc: Global, count: u64) -> bool {
+    let writes = many(rt, alloc, count);
     let parts = Parts {
         haves: &[65, 2, 1],
         firsts: &[0, 2, 0],
         writes: writes.items(),
         ..GOOD
     };
-    is_good(alloc, &parts)
+    is_good(rt, alloc, &parts)
 }
 
 #[test]
-fn knows_how_many_writes_a_message_has(rt: HostRuntime) -> Result<(), Fail> {
-    assert!(rt; is_good_with(rt.alloc(), 64)?);
-    assert!(rt; !is_good_with(rt.alloc(), 65)?);
-    Ok(())
+fn knows_how_many_writes_a_message_has(rt: HostRuntime) {
+    assert!(rt; is_good_with(&rt, rt.alloc(), 64));
+    assert!(rt; !is_good_with(&rt, rt.alloc(), 65));
 }

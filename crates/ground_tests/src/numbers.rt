@@ -1,10 +1,10 @@
 //! Numbers in text.
 
 use std::alloc::Global;
-use std::test::Fail;
+use std::process::Abort;
 use tact_base::{
-    Bytes, NoMemory, NumberFault, TokenFault, print_number, print_signed, read_number,
-    whole_number, whole_signed,
+    Bytes, NumberFault, TokenFault, print_number, print_signed, read_number, whole_number,
+    whole_signed,
 };
 
 // The number at a place, and the place behind it.
@@ -110,27 +110,26 @@ fn reads_a_whole_signed_token(rt: HostRuntime) {
     }
 }
 
-fn printed(alloc: Global, values: &[u64]) -> Result<Bytes, NoMemory> {
+fn printed(rt: &impl Abort, alloc: Global, values: &[u64]) -> Bytes {
     let mut out = Bytes::new(alloc);
     for value in values {
-        print_number(&mut out, *value)?;
+        print_number(&mut out, *value).expect(rt, "room for a number");
     }
-    Ok(out)
+    out
 }
 
-fn printed_signed(alloc: Global, values: &[i64]) -> Result<Bytes, NoMemory> {
+fn printed_signed(rt: &impl Abort, alloc: Global, values: &[i64]) -> Bytes {
     let mut out = Bytes::new(alloc);
     for value in values {
-        print_signed(&mut out, *value)?;
+        print_signed(&mut out, *value).expect(rt, "room for a number");
     }
-    Ok(out)
+    out
 }
 
 #[test]
-fn prints_numbers(rt: HostRuntime) -> Result<(), Fail> {
-    let out = printed(rt.alloc(), &[0, 10, u64::MAX])?;
+fn prints_numbers(rt: HostRuntime) {
+    let out = printed(&rt, rt.alloc(), &[0, 10, u64::MAX]);
     assert!(rt; out.items() == b"01018446744073709551615".as_slice());
-    let out = printed_signed(rt.alloc(), &[i64::MIN, -1, 0, i64::MAX])?;
+    let out = printed_signed(&rt, rt.alloc(), &[i64::MIN, -1, 0, i64::MAX]);
     assert!(rt; out.items() == b"-9223372036854775808-109223372036854775807".as_slice());
-    Ok(())
 }

@@ -6,7 +6,6 @@ use run_model::Config;
 use split_budget::{Budget, Budgets, Fit};
 use std::alloc::Global;
 use std::process::Abort;
-use std::test::Fail;
 use tact_base::{Numbers, Weight, Weights};
 
 /// The budgets of replica 0 of a setup, with the counts of its replicas and of its conits. They are boxed, since a box
@@ -37,39 +36,40 @@ pub(crate) struct Readings {
 impl Opened {
     /// At the opening of a setup without a fault.
     pub(crate) fn new(
+        rt: &impl Abort,
         alloc: Global,
         replicas: u32,
         conits: u32,
         alphas: &[u64],
         loans: &[u64],
-    ) -> Result<Box<Opened>, Fail>
+    ) -> Box<Opened>
         requires { 0 < replicas }
     {
-        Config::new(alloc, replicas, conits, alphas, loans)?;
+        assert!(rt; Config::new(alloc, replicas, conits, alphas, loans).is_ok());
         let budget = Budget {
             replica: 0,
             replicas,
             conits,
-            alphas: Numbers::from_slice(alloc, alphas)?,
-            loans: Numbers::from_slice(alloc, loans)?,
+            alphas: Numbers::from_slice(alloc, alphas).expect(rt, "alphas"),
+            loans: Numbers::from_slice(alloc, loans).expect(rt, "loans"),
         };
         let opened = Opened {
             replicas,
             conits,
-            budgets: Budgets::new(alloc, &budget)?,
+            budgets: Budgets::new(alloc, &budget).expect(rt, "budgets"),
         };
-        Ok(Box::new(alloc, opened)?)
+        Box::new(alloc, opened).expect(rt, "a box")
     }
 
     /// Of three, on one conit: each allows 10, and lends 5 to each other.
-    pub(crate) fn of_three(alloc: Global) -> Result<Box<Opened>, Fail> {
-        Opened::new(alloc, 3, 1, &[10; 3], &[0, 5, 5, 5, 0, 5, 5, 5, 0])
+    pub(crate) fn of_three(rt: &impl Abort, alloc: Global) -> Box<Opened> {
+        Opened::new(rt, alloc, 3, 1, &[10; 3], &[0, 5, 5, 5, 0, 5, 5, 5, 0])
     }
 
     /// Of two, on two conits: on conit 0 each allows 10, and lends `loan`, and on conit 1 it allows 7, and lends 1.
-    pub(crate) fn of_two(alloc: Global, loan: u64) -> Result<Box<Opened>, Fail> {
+    pub(crate) fn of_two(rt: &impl Abort, alloc: Global, loan: u64) -> Box<Opened> {
         let loans = [0, loan, 0, 1, loan, 0, 1, 0];
-        Opened::new(alloc, 2, 2, &[10, 7, 10, 7], &loans)
+        Opened::new(rt, alloc, 2, 2, &[10, 7, 10, 7], &loans)
     }
 
     /// What is read of a peer on a conit.
@@ -95,15 +95,15 @@ impl Opened {
     }
 
     /// The answer to a weight, of which a write is added where it fits.
-    pub(crate) fn accept(&mut self, rt: &impl Abort, weight: Weight) -> Result<Fit, Fail> {
+    pub(crate) fn accept(&mut self, rt: &impl Abort, weight: Weight) -> Fit {
         assert!(rt; weight.conit < self.conits);
-        self.budgets.reserve_room(1)?;
-        let weights = Weights::new(&[weight])?;
+        self.budgets.reserve_room(1).expect(rt, "room for one");
+        let weights = Weights::new(&[weight]).expect(rt, "a weight");
         let fit = self.budgets.test(weight);
         if fit == Fit::Fits {
             self.budgets.add(&weights);
         }
-        Ok(fit)
+        fit
     }
 
     /// The answer to an amount, which is held where it fits.
@@ -127,14 +127,14 @@ impl Opened {
     }
 
     /// Spends a weight where so much is held: whether it is.
-    pub(crate) fn spend(&mut self, rt: &impl Abort, weight: Weight) -> Result<bool, Fail> {
+    pub(crate) fn spend(&mut self, rt: &impl Abort, weight: Weight) -> bool {
         assert!(rt; weight.conit < self.conits);
-        self.budgets.reserve_room(1)?;
+        self.budgets.reserve_room(1).expect(rt, "room for one");
         if weight.nweight.unsigned_abs() > self.budgets.reserved(weight.conit) {
-            return Ok(false);
+            return false;
         }
         self.budgets.spend(weight);
-        Ok(true)
+        true
     }
 
     /// A peer has so many of the writes.

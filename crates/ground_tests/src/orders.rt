@@ -1,50 +1,49 @@
 //! The writes of a replica in order: batches and commits in turn, against a plain list.
 
-ghost use Rattle.std.specs.Prelude.{◌≡◌, ◌<◌, ◌≤◌, All, IfOk};
+ghost use Rattle.std.specs.Prelude.{◌≡◌, ◌<◌, ◌≤◌, All};
 ghost use Rattle.std.specs.List.Sorted.{IsStrictlySortedBy};
 ghost use Rattle.tact_base.specs.WriteOrder.{write_cmp};
 
 use commit_order::Ordered;
 use std::alloc::Global;
 use std::process::Abort;
-use std::test::Fail;
 use tact_base::{Op, Place, Weights, Write};
 use test_draws::{below, next};
 
 // Two writes with one stamp and one with a later stamp, all with one index, in order.
-fn batch(first: u64, last: u64, index: u64) -> Result<[Write; 3], Fail>
+fn batch(rt: &impl Abort, first: u64, last: u64, index: u64) -> [Write; 3]
     requires { first < last }
-    ensures sorted { IfOk result (IsStrictlySortedBy write_cmp) }
-    ensures late { IfOk result (All (λ made. first ≤ made.stamp)) }
-    ensures alike { IfOk result (All (λ made. made.index ≡ index)) }
+    ensures sorted { IsStrictlySortedBy write_cmp result }
+    ensures late { All (λ made. first ≤ made.stamp) result }
+    ensures alike { All (λ made. made.index ≡ index) result }
 {
-    Ok([
-        write(first, 0, index)?,
-        write(first, 1, index)?,
-        write(last, 0, index)?,
-    ])
+    [
+        write(rt, first, 0, index),
+        write(rt, first, 1, index),
+        write(rt, last, 0, index),
+    ]
 }
 
-fn write(stamp: u64, origin: u32, index: u64) -> Result<Write, Fail>
-    ensures { IfOk result (λ w. (w.stamp ≡ stamp) × (w.origin ≡ origin) × (w.index ≡ index)) }
+fn write(rt: &impl Abort, stamp: u64, origin: u32, index: u64) -> Write
+    ensures { (result.stamp ≡ stamp) × (result.origin ≡ origin) × (result.index ≡ index) }
 {
-    Ok(Write {
+    Write {
         origin,
         index,
         stamp,
         moment: 0,
-        weights: Weights::new(&[])?,
+        weights: Weights::new(&[]).expect(rt, "no weights"),
         op: Op::Put { key: 1, value: 5 },
-    })
+    }
 }
 
 // Puts the places of writes into a list of places in order.
-fn put(places: &mut Vec<Place>, writes: &[Write]) -> Result<(), Fail> {
+fn put(rt: &impl Abort, places: &mut Vec<Place>, writes: &[Write]) {
     for write in writes {
         let place = write.place();
-        places.insert(places.partition_point(|held| *held < place), place)?;
+        let at = places.partition_point(|held| *held < place);
+        places.insert(at, place).expect(rt, "room for a place");
     }
-    Ok(())
 }
 
 // The writes have these places.
@@ -62,7 +61,7 @@ fn assert_places(rt: &impl Abort, ordered: &Ordered, point: u64, places: &[Place
 }
 
 #[test]
-fn batches_go_in_one_by_one(rt: HostRuntime) -> Result<(), Fail> {
+fn batches_go_in_one_by_one(rt: HostRuntime) {
     let mut ordered = Ordered::new(rt.alloc());
     let mut places = Vec::new(rt.alloc());
     let mut number = 1;
@@ -71,25 +70,24 @@ fn batches_go_in_one_by_one(rt: HostRuntime) -> Result<(), Fail> {
         number = next(number);
         let first = point + 1 + u64::from(below(number, 33, 9));
         let last = first + 1 + u64::from(below(number, 43, 9));
-        let writes = batch(first, last, index)?;
-        ordered.reserve(3)?;
+        let writes = batch(&rt, first, last, index);
+        ordered.reserve(3).expect(&rt, "room for three");
         ordered.insert_all(&writes);
-        put(&mut places, &writes)?;
+        put(&rt, &mut places, &writes);
         point += u64::from(below(number, 53, 3));
         ordered.commit_to(point);
         assert_places(&rt, &ordered, point, &places);
     }
-    Ok(())
 }
 
 // Three writes that are put in, the last first, and the places that each was given.
-fn put_in(alloc: Global) -> Result<(Ordered, [u64; 3]), Fail> {
+fn put_in(rt: &impl Abort, alloc: Global) -> (Ordered, [u64; 3]) {
     let mut ordered = Ordered::new(alloc);
-    ordered.reserve(3)?;
-    let third = ordered.insert(&write(3, 0, 1)?);
-    let second = ordered.insert(&write(1, 1, 0)?);
-    let first = ordered.insert(&write(1, 0, 0)?);
-    Ok((ordered, [third, second, first]))
+    ordered.reserve(3).expect(rt, "room for three");
+    let third = ordered.insert(&write(rt, 3, 0, 1));
+    let second = ordered.insert(&write(rt, 1, 1, 0));
+    let first = ordered.insert(&write(rt, 1, 0, 0));
+    (ordered, [third, second, first])
 }
 
 // The place of a write past the point of commit.
@@ -137,8 +135,8 @@ static IN_ORDER: [Place; 3] = [
 ];
 
 #[test]
-fn puts_writes_in_order(rt: HostRuntime) -> Result<(), Fail> {
-    let (mut ordered, places) = put_in(rt.alloc())?;
+fn puts_writes_in_order(rt: HostRuntime) {
+    let (mut ordered, places) = put_in(&rt, rt.alloc());
     assert_eq!(rt; places, [0, 0, 0]);
     for &(stamp, origin, index, due) in &FOUND {
         assert_place(&rt, &ordered, stamp, origin, index, due);
@@ -147,17 +145,16 @@ fn puts_writes_in_order(rt: HostRuntime) -> Result<(), Fail> {
     assert_eq!(rt; commit(&mut ordered, 1), Some(2));
     assert_eq!(rt; commit(&mut ordered, 2), Some(2));
     assert_parts(&rt, &ordered, &IN_ORDER[..2], &IN_ORDER[2..]);
-    Ok(())
 }
 
 // Three writes that are put in, the first first, and the places that each was given.
-fn put_behind(alloc: Global) -> Result<(Ordered, [u64; 3]), Fail> {
+fn put_behind(rt: &impl Abort, alloc: Global) -> (Ordered, [u64; 3]) {
     let mut ordered = Ordered::new(alloc);
-    ordered.reserve(3)?;
-    let first = ordered.insert(&write(1, 0, 0)?);
-    let second = ordered.insert(&write(2, 0, 1)?);
-    let third = ordered.insert(&write(3, 1, 0)?);
-    Ok((ordered, [first, second, third]))
+    ordered.reserve(3).expect(rt, "room for three");
+    let first = ordered.insert(&write(rt, 1, 0, 0));
+    let second = ordered.insert(&write(rt, 2, 0, 1));
+    let third = ordered.insert(&write(rt, 3, 1, 0));
+    (ordered, [first, second, third])
 }
 
 // Gives up the first committed write, where there is one.
@@ -173,8 +170,8 @@ static SECOND: [Place; 1] = [Place { stamp: 2, origin: 0, index: 1 }];
 static THIRD: [Place; 1] = [Place { stamp: 3, origin: 1, index: 0 }];
 
 #[test]
-fn gives_up_the_first(rt: HostRuntime) -> Result<(), Fail> {
-    let (mut ordered, places) = put_behind(rt.alloc())?;
+fn gives_up_the_first(rt: HostRuntime) {
+    let (mut ordered, places) = put_behind(&rt, rt.alloc());
     assert_eq!(rt; places, [0, 1, 2]);
     assert_eq!(rt; commit(&mut ordered, 2), Some(2));
     give_up(&mut ordered);
@@ -183,5 +180,4 @@ fn gives_up_the_first(rt: HostRuntime) -> Result<(), Fail> {
     assert_place(&rt, &ordered, 4, 0, 0, 3);
     assert_eq!(rt; commit(&mut ordered, 3), Some(3));
     assert_at(&rt, ordered.tentative(), &[]);
-    Ok(())
 }

@@ -1,19 +1,18 @@
 //! What a sending of anti-entropy begins with, when one is due, and whom a reply waits for.
 
-ghost use Rattle.std.specs.Prelude.{◌≡◌, IfOk};
+ghost use Rattle.std.specs.Prelude.{◌≡◌};
 
 use anti_entropy::{answer_due, due, firsts, wish};
 use run_model::{Message, Reply, Sums};
 use std::alloc::Global;
 use std::process::Abort;
-use std::test::Fail;
-use tact_base::{Covers, NoMemory, Numbers, Op, SharedWrites, Weights, Write, WriteList};
+use tact_base::{Covers, Numbers, Op, SharedWrites, Weights, Write, WriteList};
 
 // What a sending to a replica begins with, by these counts at hand and known.
-fn begun(alloc: Global, haves: &[u64; 3], known: &[u64; 3], to: u32) -> Result<Numbers, NoMemory> {
-    let haves = Numbers::from_slice(alloc, haves)?;
-    let known = Numbers::from_slice(alloc, known)?;
-    firsts(alloc, &haves, &known, to)
+fn begun(rt: &impl Abort, alloc: Global, haves: &[u64; 3], known: &[u64; 3], to: u32) -> Numbers {
+    let haves = Numbers::from_slice(alloc, haves).expect(rt, "haves");
+    let known = Numbers::from_slice(alloc, known).expect(rt, "what is known");
+    firsts(alloc, &haves, &known, to).expect(rt, "firsts")
 }
 
 static BEGUN: [([u64; 3], [u64; 3], u32, [u64; 3]); 7] = [
@@ -27,19 +26,18 @@ static BEGUN: [([u64; 3], [u64; 3], u32, [u64; 3]); 7] = [
 ];
 
 #[test]
-fn begins_past_what_is_known(rt: HostRuntime) -> Result<(), Fail> {
+fn begins_past_what_is_known(rt: HostRuntime) {
     for (haves, known, to, begin) in &BEGUN {
-        let firsts = begun(rt.alloc(), haves, known, *to)?;
+        let firsts = begun(&rt, rt.alloc(), haves, known, *to);
         assert_eq!(rt; firsts.items(), begin.as_slice());
     }
-    Ok(())
 }
 
 // Whether a sending to a replica is due, by these counts at hand and known.
-fn is_due(alloc: Global, haves: &[u64; 3], known: &[u64; 3], to: u32) -> Result<bool, NoMemory> {
-    let haves = Numbers::from_slice(alloc, haves)?;
-    let known = Numbers::from_slice(alloc, known)?;
-    Ok(due(&haves, &known, to))
+fn is_due(rt: &impl Abort, alloc: Global, haves: &[u64; 3], known: &[u64; 3], to: u32) -> bool {
+    let haves = Numbers::from_slice(alloc, haves).expect(rt, "haves");
+    let known = Numbers::from_slice(alloc, known).expect(rt, "what is known");
+    due(&haves, &known, to)
 }
 
 static DUE: [([u64; 3], [u64; 3], u32, bool); 8] = [
@@ -54,64 +52,63 @@ static DUE: [([u64; 3], [u64; 3], u32, bool); 8] = [
 ];
 
 #[test]
-fn sends_what_others_lack(rt: HostRuntime) -> Result<(), Fail> {
+fn sends_what_others_lack(rt: HostRuntime) {
     for (haves, known, to, due) in &DUE {
         assert!(rt;
-            is_due(rt.alloc(), haves, known, *to)? == *due,
+            is_due(&rt, rt.alloc(), haves, known, *to) == *due,
             "{known:?} to {to}"
         );
     }
-    Ok(())
 }
 
-fn write() -> Result<Write, Fail> {
-    Ok(Write {
+fn write(rt: &impl Abort) -> Write {
+    Write {
         origin: 1,
         index: 0,
         stamp: 1,
         moment: 0,
-        weights: Weights::new(&[])?,
+        weights: Weights::new(&[]).expect(rt, "no weights"),
         op: Op::Put { key: 1, value: 5 },
-    })
+    }
 }
 
 // So many writes.
-fn writes(alloc: Global, count: usize) -> Result<SharedWrites, Fail> {
+fn writes(rt: &impl Abort, alloc: Global, count: usize) -> SharedWrites {
     let mut told = WriteList::new(alloc);
     for _ in 0..count {
-        told.push(write()?)?;
+        told.push(write(rt)).expect(rt, "room for a write");
     }
-    Ok(SharedWrites::new(alloc, told)?)
+    SharedWrites::new(alloc, told).expect(rt, "writes")
 }
 
 // A message from replica 1 that tells these counts and has so many writes.
-fn message(alloc: Global, haves: &[u64], count: usize) -> Result<Message, Fail>
-    ensures { IfOk result (λ message. message.haves ≡ haves.now) }
+fn message(rt: &impl Abort, alloc: Global, haves: &[u64], count: usize) -> Message
+    ensures { result.haves ≡ haves.now }
 {
-    let writes = writes(alloc, count)?;
-    Ok(Message {
+    Message {
         from: 1,
         to: 0,
         number: 0,
-        haves: Numbers::from_slice(alloc, haves)?,
+        haves: Numbers::from_slice(alloc, haves).expect(rt, "haves"),
         covers: Covers::new(alloc),
         firsts: Numbers::new(alloc),
-        writes,
+        writes: writes(rt, alloc, count),
         lent: Numbers::new(alloc),
         returned: Numbers::new(alloc),
-    })
+    }
 }
 
 // Whether an answer is due to a message that tells these counts and has so many writes, by those at hand.
 fn is_answer_due(
+    rt: &impl Abort,
     alloc: Global,
     told: &[u64; 3],
     count: usize,
     haves: &[u64; 3],
-) -> Result<bool, Fail> {
-    let message = message(alloc, told, count)?;
-    let haves = Numbers::from_slice(alloc, haves)?;
-    Ok(answer_due(&message, &haves))
+) -> bool {
+    let message = message(rt, alloc, told, count);
+    let haves = Numbers::from_slice(alloc, haves).expect(rt, "haves");
+    answer_due(&message, &haves)
 }
 
 static ANSWERS: [([u64; 3], usize, [u64; 3], bool); 7] = [
@@ -125,12 +122,11 @@ static ANSWERS: [([u64; 3], usize, [u64; 3], bool); 7] = [
 ];
 
 #[test]
-fn answers_writes_and_lesser_counts(rt: HostRuntime) -> Result<(), Fail> {
+fn answers_writes_and_lesser_counts(rt: HostRuntime) {
     for (told, writes, haves, due) in &ANSWERS {
-        let answer = is_answer_due(rt.alloc(), told, *writes, haves)?;
+        let answer = is_answer_due(&rt, rt.alloc(), told, *writes, haves);
         assert!(rt; answer == *due, "{writes} writes, {haves:?} at hand");
     }
-    Ok(())
 }
 
 // A reply waits for this replica, if for one.

@@ -1,11 +1,11 @@
 //! Setups: what is refused, and what is read of one.
 
-ghost use Rattle.std.specs.Prelude.{◌≡◌, IfOk};
+ghost use Rattle.std.specs.Prelude.{◌≡◌};
 
 use crate::checks::assert_numbers;
 use run_model::{Config, ConfigFault};
 use std::alloc::Global;
-use std::test::Fail;
+use std::process::Abort;
 use tact_base::ALPHA_MAX;
 
 const BIG: u64 = ALPHA_MAX + 1;
@@ -51,11 +51,11 @@ static ALPHAS: [u64; 4] = [5, 6, 7, ALPHA_MAX];
 static LOANS: [u64; 8] = [0, 1, 0, 2, 3, 0, ALPHA_MAX, 0];
 
 // A copy of a setup of 2 replicas and 2 conits.
-fn made(alloc: Global) -> Result<Config, Fail>
-    ensures { IfOk result (λ config. (config.replicas ≡ 2) × (config.conits ≡ 2)) }
+fn made(rt: &impl Abort, alloc: Global) -> Config
+    ensures { (result.replicas ≡ 2) × (result.conits ≡ 2) }
 {
-    let config = Config::new(alloc, 2, 2, &ALPHAS, &LOANS)?;
-    Ok(config.copy(alloc)?)
+    let config = Config::new(alloc, 2, 2, &ALPHAS, &LOANS).expect(rt, "a setup");
+    config.copy(alloc).expect(rt, "a copy")
 }
 
 // What is read of a setup of 2 replicas and 2 conits: its counts, an alpha of each replica, and a loan of each.
@@ -74,9 +74,8 @@ fn readings(config: &Config) -> [u64; 6]
 }
 
 #[test]
-fn reads_what_it_was_made_of(rt: HostRuntime) -> Result<(), Fail> {
-    let config = made(rt.alloc())?;
+fn reads_what_it_was_made_of(rt: HostRuntime) {
+    let config = made(&rt, rt.alloc());
     assert_numbers(&rt, &readings(&config), &[2, 2, 6, 7, 2, 3]);
     assert_numbers(&rt, config.loans(1, 1), &[ALPHA_MAX, 0]);
-    Ok(())
 }

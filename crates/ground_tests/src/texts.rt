@@ -5,8 +5,7 @@ use run_model::{
 };
 use std::alloc::Global;
 use std::process::Abort;
-use std::test::Fail;
-use tact_base::{Bytes, Covers, Need, Needs, NoMemory, Numbers, Op, SharedWrites, Weight, Weights};
+use tact_base::{Bytes, Covers, Need, Needs, Numbers, Op, SharedWrites, Weight, Weights};
 
 const ADD: Op = Op::Add { key: 7, delta: 1 };
 
@@ -17,49 +16,40 @@ const ONE: Weight = Weight {
 };
 
 // Prints a copy of an entry. Entries are boxed, since a box is let go in one step.
-fn print(alloc: Global, entry: &Entry, out: &mut Bytes) -> Result<(), NoMemory> {
-    let copy = Box::new(alloc, entry.clone()?)?;
-    line_of(&copy, out)
+fn print(rt: &impl Abort, alloc: Global, entry: &Entry, out: &mut Bytes) {
+    let copy = entry.clone().expect(rt, "a copy");
+    let copy = Box::new(alloc, copy).expect(rt, "a box");
+    line_of(&copy, out).expect(rt, "a line");
 }
 
 // The line of a copy of replica 0's entry with this act at this moment.
-fn line_at(alloc: Global, moment: u64, act: Act) -> Result<Bytes, NoMemory> {
+fn line_at(rt: &impl Abort, alloc: Global, moment: u64, act: Act) -> Bytes {
     let entry = Entry {
         replica: 0,
         moment,
         act,
     };
-    let entry = Box::new(alloc, entry)?;
+    let entry = Box::new(alloc, entry).expect(rt, "a box");
     let mut out = Bytes::new(alloc);
-    print(alloc, &entry, &mut out)?;
-    Ok(out)
+    print(rt, alloc, &entry, &mut out);
+    out
 }
 
 // The line of replica 0's entry with this act at this moment is this.
-fn assert_line(
-    rt: &(impl Abort + AllocGlobal),
-    moment: u64,
-    act: Act,
-    due: &str,
-) -> Result<(), NoMemory> {
-    let line = line_at(rt.alloc(), moment, act)?;
+fn assert_line(rt: &(impl Abort + AllocGlobal), moment: u64, act: Act, due: &str) {
+    let line = line_at(rt, rt.alloc(), moment, act);
     assert!(rt; line.items() == due.as_bytes(), "{due}");
-    Ok(())
 }
 
 // The line of a call of client 0 at replica 0, its second at the moment 3, that is done is this.
-fn assert_request(
-    rt: &(impl Abort + AllocGlobal),
-    request: Request,
-    due: &str,
-) -> Result<(), NoMemory> {
+fn assert_request(rt: &(impl Abort + AllocGlobal), request: Request, due: &str) {
     let call = Act::Call {
         client: 0,
         number: 2,
         request,
         reply: Reply::Done { index: 0, stamp: 1 },
     };
-    assert_line(rt, 3, call, due)
+    assert_line(rt, 3, call, due);
 }
 
 static WRITES: [(Op, &[Weight], &str); 3] = [
@@ -92,12 +82,11 @@ static WRITES: [(Op, &[Weight], &str); 3] = [
 ];
 
 #[test]
-fn prints_writes(rt: HostRuntime) -> Result<(), Fail> {
+fn prints_writes(rt: HostRuntime) {
     for &(op, weights, due) in &WRITES {
-        let weights = Weights::new(weights)?;
-        assert_request(&rt, Request::Write { weights, op }, due)?;
+        let weights = Weights::new(weights).expect(&rt, "weights");
+        assert_request(&rt, Request::Write { weights, op }, due);
     }
-    Ok(())
 }
 
 static READS: [(&[Need], &str); 2] = [
@@ -114,12 +103,11 @@ static READS: [(&[Need], &str); 2] = [
 ];
 
 #[test]
-fn prints_reads(rt: HostRuntime) -> Result<(), Fail> {
+fn prints_reads(rt: HostRuntime) {
     for &(needs, due) in &READS {
-        let needs = Needs::new(needs)?;
-        assert_request(&rt, Request::Read { key: 1, needs }, due)?;
+        let needs = Needs::new(needs).expect(&rt, "needs");
+        assert_request(&rt, Request::Read { key: 1, needs }, due);
     }
-    Ok(())
 }
 
 #[rattlefmt::skip]
@@ -130,43 +118,32 @@ const HELD: [(Request, &str); 3] = [
 ];
 
 #[test]
-fn prints_what_is_held(rt: HostRuntime) -> Result<(), Fail> {
+fn prints_what_is_held(rt: HostRuntime) {
     for (request, due) in &HELD {
-        assert_request(&rt, request.clone()?, due)?;
+        let request = request.clone().expect(&rt, "a copy");
+        assert_request(&rt, request, due);
     }
-    Ok(())
 }
 
 // A reply to client 0's first call waits or doesn't, and its line at the moment 0 is this.
-fn assert_reply(
-    rt: &(impl Abort + AllocGlobal),
-    reply: &Reply,
-    waits: bool,
-    due: &str,
-) -> Result<(), Fail> {
+fn assert_reply(rt: &(impl Abort + AllocGlobal), reply: &Reply, waits: bool, due: &str) {
     assert!(rt; reply.is_waiting() == waits, "{due}");
-    let weights = Weights::new(&[ONE])?;
-    let reply = reply.clone()?;
+    let weights = Weights::new(&[ONE]).expect(rt, "a weight");
+    let reply = reply.clone().expect(rt, "a copy");
     let call = Act::Call {
         client: 0,
         number: 1,
         request: Request::Write { weights, op: ADD },
         reply,
     };
-    assert_line(rt, 0, call, due)?;
-    Ok(())
+    assert_line(rt, 0, call, due);
 }
 
 // The same of each reply of a table.
-fn assert_replies(
-    rt: &(impl Abort + AllocGlobal),
-    table: &[(Reply, &str)],
-    waits: bool,
-) -> Result<(), Fail> {
+fn assert_replies(rt: &(impl Abort + AllocGlobal), table: &[(Reply, &str)], waits: bool) {
     for (reply, due) in table {
-        assert_reply(rt, reply, waits, due)?;
+        assert_reply(rt, reply, waits, due);
     }
-    Ok(())
 }
 
 #[rattlefmt::skip]
@@ -179,8 +156,8 @@ const FINAL: [(Reply, &str); 5] = [
 ];
 
 #[test]
-fn prints_final_replies(rt: HostRuntime) -> Result<(), Fail> {
-    assert_replies(&rt, &FINAL, false)
+fn prints_final_replies(rt: HostRuntime) {
+    assert_replies(&rt, &FINAL, false);
 }
 
 #[rattlefmt::skip]
@@ -193,8 +170,8 @@ const WAITING: [(Reply, &str); 5] = [
 ];
 
 #[test]
-fn prints_what_is_waited_for(rt: HostRuntime) -> Result<(), Fail> {
-    assert_replies(&rt, &WAITING, true)
+fn prints_what_is_waited_for(rt: HostRuntime) {
+    assert_replies(&rt, &WAITING, true);
 }
 
 static VALUES: [(i64, &[i64], &str); 2] = [
@@ -207,75 +184,64 @@ static VALUES: [(i64, &[i64], &str); 2] = [
 ];
 
 #[test]
-fn prints_values(rt: HostRuntime) -> Result<(), Fail> {
+fn prints_values(rt: HostRuntime) {
     for &(value, sums, due) in &VALUES {
         assert!(rt; sums.len() <= 4);
         let sums = Sums::new(sums);
-        assert_reply(&rt, &Reply::Value { value, sums }, false, due)?;
+        assert_reply(&rt, &Reply::Value { value, sums }, false, due);
     }
-    Ok(())
 }
 
 // A message with no writes and no counts.
-fn message(alloc: Global, from: u32, to: u32, number: u64) -> Result<Message, NoMemory> {
-    Ok(Message {
+fn message(rt: &impl Abort, alloc: Global, from: u32, to: u32, number: u64) -> Message {
+    Message {
         from,
         to,
         number,
-        firsts: Numbers::from_slice(alloc, &[2, 0, 3])?,
+        firsts: Numbers::from_slice(alloc, &[2, 0, 3]).expect(rt, "firsts"),
         haves: Numbers::new(alloc),
         covers: Covers::new(alloc),
         writes: SharedWrites::empty(),
         lent: Numbers::new(alloc),
         returned: Numbers::new(alloc),
-    })
+    }
 }
 
 #[test]
-fn prints_messages(rt: HostRuntime) -> Result<(), Fail> {
-    let message_to = message(rt.alloc(), 0, 1, 4)?;
+fn prints_messages(rt: HostRuntime) {
     let send = Act::Send {
-        message: message_to,
+        message: message(&rt, rt.alloc(), 0, 1, 4),
     };
-    assert_line(&rt, 100, send, "e 0 100 send 1 4 2 0 3\n")?;
-    let message_from = message(rt.alloc(), 1, 0, 5)?;
+    assert_line(&rt, 100, send, "e 0 100 send 1 4 2 0 3\n");
     let take = Act::Take {
-        message: message_from,
+        message: message(&rt, rt.alloc(), 1, 0, 5),
     };
-    assert_line(&rt, 100, take, "e 0 100 take 1 5\n")?;
-    Ok(())
+    assert_line(&rt, 100, take, "e 0 100 take 1 5\n");
 }
 
 #[test]
-fn prints_loans_and_restarts(rt: HostRuntime) -> Result<(), Fail> {
+fn prints_loans_and_restarts(rt: HostRuntime) {
     let lend = Act::Lend {
         to: 1,
         conit: 2,
         amount: 6,
     };
-    assert_line(&rt, 100, lend, "e 0 100 lend 1 2 6\n")?;
+    assert_line(&rt, 100, lend, "e 0 100 lend 1 2 6\n");
     let back = Act::Back {
         owner: 2,
         conit: 1,
         amount: 7,
     };
-    assert_line(&rt, 100, back, "e 0 100 back 2 1 7\n")?;
-    assert_line(&rt, 100, Act::Restart, "e 0 100 restart\n")?;
-    Ok(())
+    assert_line(&rt, 100, back, "e 0 100 back 2 1 7\n");
+    assert_line(&rt, 100, Act::Restart, "e 0 100 restart\n");
 }
 
 // The first lines and the last line of a record of 7 entries.
-fn lines(alloc: Global, config: &Config) -> Result<Bytes, NoMemory> {
+fn ends(rt: &impl Abort, alloc: Global, config: &Config) -> Bytes {
     let mut out = Bytes::new(alloc);
-    head_of(config, &mut out)?;
-    end_of(7, &mut out)?;
-    Ok(out)
-}
-
-// The same of 2 replicas.
-fn ends(alloc: Global, conits: u32, alphas: &[u64], loans: &[u64]) -> Result<Bytes, Fail> {
-    let config = Config::new(alloc, 2, conits, alphas, loans)?;
-    Ok(lines(alloc, &config)?)
+    head_of(config, &mut out).expect(rt, "a head");
+    end_of(7, &mut out).expect(rt, "an end");
+    out
 }
 
 static ENDS: [(u32, &[u64], &[u64], &str); 2] = [
@@ -294,23 +260,22 @@ static ENDS: [(u32, &[u64], &[u64], &str); 2] = [
 ];
 
 #[test]
-fn begins_and_ends_records(rt: HostRuntime) -> Result<(), Fail> {
+fn begins_and_ends_records(rt: HostRuntime) {
     for &(conits, alphas, loans, due) in &ENDS {
-        let out = ends(rt.alloc(), conits, alphas, loans)?;
+        let config = Config::new(rt.alloc(), 2, conits, alphas, loans).expect(&rt, "a setup");
+        let out = ends(&rt, rt.alloc(), &config);
         assert!(rt; out.items() == due.as_bytes(), "{due}");
     }
-    Ok(())
 }
 
 #[test]
-fn copies_lines(rt: HostRuntime) -> Result<(), Fail> {
-    let firsts = Numbers::from_slice(rt.alloc(), &[1, 2])?;
+fn copies_lines(rt: HostRuntime) {
+    let firsts = Numbers::from_slice(rt.alloc(), &[1, 2]).expect(&rt, "firsts");
     let line = Line::Send {
         from: 0,
         to: 1,
         firsts,
     };
-    let copy = line.clone()?;
+    let copy = line.clone().expect(&rt, "a copy");
     assert!(rt; copy == line);
-    Ok(())
 }

@@ -25,10 +25,10 @@ joined ops late rest count place first last same at is amount =
     ))
 
 pub insert_all-requires-clause-joined : goal.insert_all-requires-clause-joined
-insert_all-requires-clause-joined c =
+insert_all-requires-clause-joined g c =
     let late = c.args.late.now.items in
     let rest : ops_of c.deref-2.result.now ≡ c.args.first.op ∷ drop c.args.place late ++ c.args.last.op ∷ [] =
-    ap ops_of c.deref-2.ensures.value ∙ c.in_ok-rest.ensures
+    ap ops_of c.deref-2.ensures.value ∙ c.with_two-rest.ensures
     ∙ ap (λ (ops : List Op). c.args.first.op ∷ ops ++ c.args.last.op ∷ [])
     (take_all (length c.deref.result.now - c.args.place) (drop c.args.place c.deref.result.now) (omega (arith, length-drop c.args.place c.deref.result.now))
     ∙ ap (drop c.args.place) c.deref.ensures.value) in
