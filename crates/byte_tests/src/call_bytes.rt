@@ -1,6 +1,5 @@
 //! Requests and replies in bytes.
 
-ghost use Rattle.std.specs.Prelude.{IfOk};
 ghost use Rattle.run_model.specs.CallBytes.{HasConitsBelow, HasSmallNames};
 ghost use Rattle.tact_base.specs.declared.limits.TheConstants.{CONITS_MAX};
 
@@ -11,8 +10,7 @@ use run_model::{
 };
 use std::alloc::Global;
 use std::process::Abort;
-use std::test::Fail;
-use tact_base::{Bytes, Need, Needs, NoMemory, Weights};
+use tact_base::{Bytes, Need, Needs, Weights};
 
 const WRITE_BYTES: &[u8] = b"\x01\x01\0\0\0\0\0\0\0\0\x05\0\0\0\0\0\0\0\x01\
     \x02\0\0\0\0\0\0\0\x07\0\0\0\0\0\0\0\x01";
@@ -83,36 +81,32 @@ fn reply_fault(bytes: &[u8]) -> (Option<FieldFault>, usize) {
 
 // The request that all the bytes are.
 #[tactic(auto, using(run_model::proofs::RequestBytes::named_conits))]
-fn request_of(bytes: &[u8]) -> Result<Request, FieldFault>
-    ensures { IfOk result (HasConitsBelow CONITS_MAX) }
+fn request_of(rt: &impl Abort, bytes: &[u8]) -> Request
+    ensures { HasConitsBelow CONITS_MAX result }
 {
     let mut place = 0;
-    let request = get_request(16, bytes, &mut place)?;
-    if place < bytes.len() {
-        return Err(FieldFault::BadField(place));
-    }
-    Ok(request)
+    let request = get_request(16, bytes, &mut place).expect(rt, "a request");
+    assert_eq!(rt; place, bytes.len());
+    request
 }
 
 // The reply that all the bytes are.
-fn reply_of(bytes: &[u8]) -> Result<Reply, FieldFault>
-    ensures { IfOk result HasSmallNames }
+fn reply_of(rt: &impl Abort, bytes: &[u8]) -> Reply
+    ensures { HasSmallNames result }
 {
     let mut place = 0;
-    let reply = get_reply(bytes, &mut place)?;
-    if place < bytes.len() {
-        return Err(FieldFault::BadField(place));
-    }
-    Ok(reply)
+    let reply = get_reply(bytes, &mut place).expect(rt, "a reply");
+    assert_eq!(rt; place, bytes.len());
+    reply
 }
 
 // Whether the request is put as these bytes.
-fn is_put(alloc: Global, request: &Request, bytes: &[u8]) -> Result<bool, NoMemory>
+fn is_put(rt: &impl Abort, alloc: Global, request: &Request, bytes: &[u8]) -> bool
     requires { HasConitsBelow CONITS_MAX request.now }
 {
     let mut out = Bytes::new(alloc);
-    put_request(request, &mut out)?;
-    Ok(out.items() == bytes)
+    put_request(request, &mut out).expect(rt, "room for a request");
+    out.items() == bytes
 }
 
 // Whether the request is put in place as these bytes.
@@ -124,12 +118,12 @@ fn is_filled(request: &Request, bytes: &[u8]) -> bool
     short.bytes() == bytes
 }
 
-fn is_reply_put(alloc: Global, reply: &Reply, bytes: &[u8]) -> Result<bool, NoMemory>
+fn is_reply_put(rt: &impl Abort, alloc: Global, reply: &Reply, bytes: &[u8]) -> bool
     requires { HasSmallNames reply.now }
 {
     let mut out = Bytes::new(alloc);
-    put_reply(reply, &mut out)?;
-    Ok(out.items() == bytes)
+    put_reply(reply, &mut out).expect(rt, "room for a reply");
+    out.items() == bytes
 }
 
 fn is_reply_filled(reply: &Reply, bytes: &[u8]) -> bool
@@ -141,27 +135,21 @@ fn is_reply_filled(reply: &Reply, bytes: &[u8]) -> bool
 }
 
 // Whether these bytes are those of the request, both ways.
-fn is_spelled(alloc: Global, request: &Request, bytes: &[u8]) -> Result<bool, Fail> {
-    let read = request_of(bytes)?;
-    Ok(read == *request && is_filled(&read, bytes) && is_put(alloc, &read, bytes)?)
+fn is_spelled(rt: &impl Abort, alloc: Global, request: &Request, bytes: &[u8]) -> bool {
+    let read = request_of(rt, bytes);
+    read == *request && is_filled(&read, bytes) && is_put(rt, alloc, &read, bytes)
 }
 
 // Whether these bytes are those of the reply, both ways.
-fn is_reply_spelled(alloc: Global, reply: &Reply, bytes: &[u8]) -> Result<bool, Fail> {
-    let read = reply_of(bytes)?;
-    Ok(read == *reply && is_reply_filled(&read, bytes) && is_reply_put(alloc, &read, bytes)?)
+fn is_reply_spelled(rt: &impl Abort, alloc: Global, reply: &Reply, bytes: &[u8]) -> bool {
+    let read = reply_of(rt, bytes);
+    read == *reply && is_reply_filled(&read, bytes) && is_reply_put(rt, alloc, &read, bytes)
 }
 
 // These bytes are those of the request, both ways, and each part of them is too short.
-fn assert_spelled(
-    rt: &(impl Abort + AllocGlobal),
-    request: Request,
-    bytes: &[u8],
-    text: &str,
-) -> Result<(), Fail> {
-    assert!(rt; is_spelled(rt.alloc(), &request, bytes)?, "{text}");
+fn assert_spelled(rt: &(impl Abort + AllocGlobal), request: &Request, bytes: &[u8], text: &str) {
+    assert!(rt; is_spelled(rt, rt.alloc(), request, bytes), "{text}");
     assert_request_parts(rt, bytes);
-    Ok(())
 }
 
 // Each part of these bytes is too short.
@@ -172,15 +160,16 @@ fn assert_request_parts(rt: &impl Abort, bytes: &[u8]) {
 }
 
 // These bytes are those of the reply, both ways, and each part of them is too short.
-fn assert_reply(
-    rt: &(impl Abort + AllocGlobal),
-    reply: Reply,
-    bytes: &[u8],
-    text: &str,
-) -> Result<(), Fail> {
-    assert!(rt; is_reply_spelled(rt.alloc(), &reply, bytes)?, "{text}");
+fn assert_reply(rt: &(impl Abort + AllocGlobal), reply: &Reply, bytes: &[u8], text: &str) {
+    assert!(rt; is_reply_spelled(rt, rt.alloc(), reply, bytes), "{text}");
     assert_reply_parts(rt, bytes);
-    Ok(())
+}
+
+// The same of each reply of a table.
+fn assert_replies(rt: &(impl Abort + AllocGlobal), table: &[(Reply, &[u8], &str)]) {
+    for (reply, bytes, text) in table {
+        assert_reply(rt, reply, bytes, text);
+    }
 }
 
 // Each part of these bytes is too short.
@@ -190,28 +179,24 @@ fn assert_reply_parts(rt: &impl Abort, bytes: &[u8]) {
     }
 }
 
+#[rattlefmt::skip]
+const REQUESTS: [(Request, &[u8], &str); 3] = [
+    (Request::Held { weight: LIGHT, op: ADD }, HELD_BYTES, "a held write"),
+    (Request::Reserve { conit: 15, amount: 1_000_000_000_000 }, RESERVE_BYTES, "a reserve"),
+    (Request::Release { conit: 0, amount: 1 }, RELEASE_BYTES, "a release"),
+];
+
 #[test]
-fn requests_both_ways(rt: HostRuntime) -> Result<(), Fail> {
-    let weights = Weights::new(&[LIGHT])?;
+fn requests_both_ways(rt: HostRuntime) {
+    let weights = Weights::new(&[LIGHT]).expect(&rt, "a weight");
     let write = Request::Write { weights, op: ADD };
-    assert_spelled(&rt, write, WRITE_BYTES, "a write")?;
-    let held = Request::Held {
-        weight: LIGHT,
-        op: ADD,
-    };
-    assert_spelled(&rt, held, HELD_BYTES, "a held write")?;
-    let reserve = Request::Reserve {
-        conit: 15,
-        amount: 1_000_000_000_000,
-    };
-    assert_spelled(&rt, reserve, RESERVE_BYTES, "a reserve")?;
-    let release = Request::Release {
-        conit: 0,
-        amount: 1,
-    };
-    assert_spelled(&rt, release, RELEASE_BYTES, "a release")?;
-    let needs = Needs::new(&[LOOSE, LOOSEST])?;
-    assert_spelled(&rt, Request::Read { key: 258, needs }, READ_BYTES, "a read")
+    assert_spelled(&rt, &write, WRITE_BYTES, "a write");
+    for (request, bytes, text) in &REQUESTS {
+        assert_spelled(&rt, request, bytes, text);
+    }
+    let needs = Needs::new(&[LOOSE, LOOSEST]).expect(&rt, "needs");
+    let read = Request::Read { key: 258, needs };
+    assert_spelled(&rt, &read, READ_BYTES, "a read");
 }
 
 #[rattlefmt::skip]
@@ -234,90 +219,55 @@ static REQUEST_FAULTS: [(&[u8], usize, u8, FieldFault, &str); 15] = [
 ];
 
 #[test]
-fn faults_of_a_request(rt: HostRuntime) -> Result<(), Fail> {
+fn faults_of_a_request(rt: HostRuntime) {
     for &(whole, at, byte, fault, text) in &REQUEST_FAULTS {
-        let bytes = changed(rt.alloc(), whole, at, byte)?;
+        let bytes = changed(&rt, rt.alloc(), whole, at, byte);
         assert!(rt; request_fault(&bytes) == (Some(fault), 0), "{text}");
     }
-    Ok(())
 }
 
+#[rattlefmt::skip]
+const REPLIES: [(Reply, &[u8], &str); 3] = [
+    (Reply::Done { index: 1, stamp: 258 }, DONE_BYTES, "done"),
+    (Reply::Granted, b"\x02", "granted"),
+    (Reply::Released, b"\x03", "released"),
+];
+
 #[test]
-fn replies_both_ways(rt: HostRuntime) -> Result<(), Fail> {
-    let done = Reply::Done {
-        index: 1,
-        stamp: 258,
-    };
-    assert_reply(&rt, done, DONE_BYTES, "done")?;
-    assert_reply(&rt, Reply::Granted, b"\x02", "granted")?;
-    assert_reply(&rt, Reply::Released, b"\x03", "released")?;
+fn replies_both_ways(rt: HostRuntime) {
+    assert_replies(&rt, &REPLIES);
     let sums = Sums::new(&[-5, 7]);
     assert_reply(
         &rt,
-        Reply::Value { value: -2, sums },
+        &Reply::Value { value: -2, sums },
         VALUE_BYTES,
         "a value",
-    )
+    );
 }
 
-#[test]
-fn refusals_both_ways(rt: HostRuntime) -> Result<(), Fail> {
-    let heavy = Reply::TooHeavy {
-        conit: 255,
-        peer: 0,
-        weight: 2,
-        share: u64::MAX,
-    };
-    assert_reply(&rt, heavy, HEAVY_BYTES, "too heavy")?;
-    let held = Reply::WaitHeld {
-        conit: 1,
-        peer: 2,
-        reserved: 3,
-        weight: 4,
-        share: 5,
-    };
-    assert_reply(&rt, held, WAIT_HELD_BYTES, "held")?;
-    let share = Reply::WaitShare {
-        conit: 2,
-        peer: 1,
-        missing: 3,
-        reserved: 4,
-        weight: 5,
-        share: 6,
-    };
-    assert_reply(&rt, share, SHARE_BYTES, "a share")?;
-    let few = Reply::NotHeld {
-        conit: 7,
-        held: 1,
-        amount: 2,
-    };
-    assert_reply(&rt, few, FEW_BYTES, "not held")
-}
+#[rattlefmt::skip]
+const REFUSALS: [(Reply, &[u8], &str); 4] = [
+    (Reply::TooHeavy { conit: 255, peer: 0, weight: 2, share: u64::MAX }, HEAVY_BYTES, "too heavy"),
+    (Reply::WaitHeld { conit: 1, peer: 2, reserved: 3, weight: 4, share: 5 }, WAIT_HELD_BYTES, "held"),
+    (Reply::WaitShare { conit: 2, peer: 1, missing: 3, reserved: 4, weight: 5, share: 6 }, SHARE_BYTES, "a share"),
+    (Reply::NotHeld { conit: 7, held: 1, amount: 2 }, FEW_BYTES, "not held"),
+];
 
 #[test]
-fn waiting_reads_both_ways(rt: HostRuntime) -> Result<(), Fail> {
-    let lent = Reply::WaitLent {
-        conit: 1,
-        holder: 2,
-        out: 3,
-        total: 4,
-        num: 5,
-    };
-    assert_reply(&rt, lent, LENT_BYTES, "lent")?;
-    let order = Reply::WaitOrder {
-        conit: 1,
-        replica: 2,
-        tentative: 3,
-        order: 4,
-    };
-    assert_reply(&rt, order, ORDER_BYTES, "an order")?;
-    let stale = Reply::WaitStale {
-        conit: 1,
-        replica: 2,
-        moment: 3,
-        wanted: 4,
-    };
-    assert_reply(&rt, stale, STALE_BYTES, "a staleness")
+fn refusals_both_ways(rt: HostRuntime) {
+    assert_replies(&rt, &REFUSALS);
+}
+
+#[rattlefmt::skip]
+const WAITING: [(Reply, &[u8], &str); 3] = [
+    (Reply::WaitLent { conit: 1, holder: 2, out: 3, total: 4, num: 5 }, LENT_BYTES, "lent"),
+    (Reply::WaitOrder { conit: 1, replica: 2, tentative: 3, order: 4 }, ORDER_BYTES, "an order"),
+    (Reply::WaitStale { conit: 1, replica: 2, moment: 3, wanted: 4 }, STALE_BYTES, "a staleness"),
+];
+
+#[test]
+fn waiting_reads_both_ways(rt: HostRuntime) {
+    assert_replies(&rt, &WAITING);
 }
 
 #[rattlefmt::skip]
@@ -329,10 +279,9 @@ static REPLY_FAULTS: [(&[u8], usize, u8, FieldFault, &str); 4] = [
 ];
 
 #[test]
-fn faults_of_a_reply(rt: HostRuntime) -> Result<(), Fail> {
+fn faults_of_a_reply(rt: HostRuntime) {
     for &(whole, at, byte, fault, text) in &REPLY_FAULTS {
-        let bytes = changed(rt.alloc(), whole, at, byte)?;
+        let bytes = changed(&rt, rt.alloc(), whole, at, byte);
         assert!(rt; reply_fault(&bytes) == (Some(fault), 0), "{text}");
     }
-    Ok(())
 }

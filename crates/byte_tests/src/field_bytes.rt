@@ -3,7 +3,6 @@
 use run_model::{FieldFault, get_op, get_weights, put_op, put_weights};
 use std::alloc::Global;
 use std::process::Abort;
-use std::test::Fail;
 use tact_base::{Bytes, Op, Weight, Weights};
 
 pub(crate) const ADD: Op = Op::Add { key: 7, delta: 1 };
@@ -52,10 +51,10 @@ static WEIGHTS: [(&[Weight], &[u8]); 3] = [
 ];
 
 // The bytes of an operation, behind a byte that stood there before.
-fn op_bytes(alloc: Global, op: &Op) -> Result<Bytes, Fail> {
-    let mut out = Bytes::from_slice(alloc, &[9])?;
-    put_op(op, &mut out)?;
-    Ok(out)
+fn op_bytes(rt: &impl Abort, alloc: Global, op: &Op) -> Bytes {
+    let mut out = Bytes::from_slice(alloc, &[9]).expect(rt, "a byte");
+    put_op(op, &mut out).expect(rt, "room for an operation");
+    out
 }
 
 // The operation at a place of bytes, and the place after it.
@@ -75,12 +74,11 @@ fn assert_op(rt: &impl Abort, op: Op, due: &[u8], bytes: &[u8]) {
 }
 
 #[test]
-fn operations_both_ways(rt: HostRuntime) -> Result<(), Fail> {
+fn operations_both_ways(rt: HostRuntime) {
     for &(op, due) in &OPS {
-        let bytes = op_bytes(rt.alloc(), &op)?;
+        let bytes = op_bytes(&rt, rt.alloc(), &op);
         assert_op(&rt, op, due, bytes.items());
     }
-    Ok(())
 }
 
 // The key is 10^9 + 1, and the value -10^15 - 1 and 10^15 + 1.
@@ -120,13 +118,13 @@ fn are_weights(bytes: &[u8], items: &[Weight]) -> bool {
 }
 
 // The bytes of weights, if their conits are among 16.
-fn weights_bytes(alloc: Global, items: &[Weight]) -> Result<Bytes, Fail> {
+fn weights_bytes(rt: &impl Abort, alloc: Global, items: &[Weight]) -> Bytes {
     let mut out = Bytes::new(alloc);
-    let weights = Weights::new(items)?;
+    let weights = Weights::new(items).expect(rt, "weights");
     if weights.items().iter().all(|weight| weight.conit < 16) {
-        put_weights(&weights, &mut out)?;
+        put_weights(&weights, &mut out).expect(rt, "room for weights");
     }
-    Ok(out)
+    out
 }
 
 // The bytes are these weights, and each part of them is too short.
@@ -138,20 +136,25 @@ fn assert_weights(rt: &impl Abort, items: &[Weight], bytes: &[u8]) {
 }
 
 #[test]
-fn weights_both_ways(rt: HostRuntime) -> Result<(), Fail> {
+fn weights_both_ways(rt: HostRuntime) {
     for &(items, due) in &WEIGHTS {
-        let bytes = weights_bytes(rt.alloc(), items)?;
+        let bytes = weights_bytes(&rt, rt.alloc(), items);
         assert!(rt; bytes.items() == due);
         assert_weights(&rt, items, due);
     }
-    Ok(())
 }
 
 // The bytes, with another one at a place.
-pub(crate) fn changed(alloc: Global, bytes: &[u8], at: usize, byte: u8) -> Result<Vec<u8>, Fail> {
-    let mut copy = Vec::from_slice(alloc, bytes)?;
+pub(crate) fn changed(
+    rt: &impl Abort,
+    alloc: Global,
+    bytes: &[u8],
+    at: usize,
+    byte: u8,
+) -> Vec<u8> {
+    let mut copy = Vec::from_slice(alloc, bytes).expect(rt, "a copy");
     set(&mut copy, at, byte);
-    Ok(copy)
+    copy
 }
 
 fn set(bytes: &mut [u8], at: usize, byte: u8) {
@@ -174,10 +177,9 @@ static WEIGHTS_FAULTS: [(usize, u8, FieldFault, &str); 9] = [
 ];
 
 #[test]
-fn faults_of_weights(rt: HostRuntime) -> Result<(), Fail> {
+fn faults_of_weights(rt: HostRuntime) {
     for &(at, byte, fault, text) in &WEIGHTS_FAULTS {
-        let bytes = changed(rt.alloc(), TWO_BYTES, at, byte)?;
+        let bytes = changed(&rt, rt.alloc(), TWO_BYTES, at, byte);
         assert!(rt; weights_fault(&bytes) == (Some(fault), 0), "{text}");
     }
-    Ok(())
 }

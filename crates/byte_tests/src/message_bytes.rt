@@ -3,8 +3,8 @@
 use crate::field_bytes::{ADD, LIGHT, changed};
 use run_model::Message;
 use std::alloc::Global;
-use std::test::Fail;
-use tact_base::{Bytes, Cover, Covers, NoMemory, Numbers, SharedWrites, Weights, Write, WriteList};
+use std::process::Abort;
+use tact_base::{Bytes, Cover, Covers, Numbers, SharedWrites, Weights, Write, WriteList};
 use tact_msg::{MsgFault, decode, encode};
 
 // The first message of replica 0 to replica 1: it has accepted one write, and lent 10.
@@ -16,21 +16,21 @@ const WORKED: &[u8] = b"\x4d\x01\x02\x01\0\x01\0\0\0\0\0\0\0\0\
     \x02\0\0\0\0\0\0\0\x07\0\0\0\0\0\0\0\x01";
 
 // Its one write.
-fn write() -> Result<Write, Fail> {
-    Ok(Write {
+fn write(rt: &impl Abort) -> Write {
+    Write {
         origin: 0,
         index: 0,
         stamp: 1,
         moment: 0,
-        weights: Weights::new(&[LIGHT])?,
+        weights: Weights::new(&[LIGHT]).expect(rt, "a weight"),
         op: ADD,
-    })
+    }
 }
 
-fn writes(alloc: Global) -> Result<SharedWrites, Fail> {
+fn writes(rt: &impl Abort, alloc: Global) -> SharedWrites {
     let mut writes = WriteList::new(alloc);
-    writes.push(write()?)?;
-    Ok(SharedWrites::new(alloc, writes)?)
+    writes.push(write(rt)).expect(rt, "room for a write");
+    SharedWrites::new(alloc, writes).expect(rt, "writes")
 }
 
 // What is known of the own cover.
@@ -41,17 +41,19 @@ const OWN: Cover = Cover {
 };
 
 // Puts the lists into a message that has none.
-fn fill(message: &mut Message) -> Result<(), NoMemory> {
-    message.haves.append(&[1, 0])?;
-    message.covers.append(&[OWN, Cover::default()])?;
-    message.firsts.append(&[0, 0])?;
-    message.lent.append(&[10])?;
-    message.returned.append(&[0])
+fn fill(rt: &impl Abort, message: &mut Message) {
+    message.haves.append(&[1, 0]).expect(rt, "haves");
+    message
+        .covers
+        .append(&[OWN, Cover::default()])
+        .expect(rt, "covers");
+    message.firsts.append(&[0, 0]).expect(rt, "firsts");
+    message.lent.append(&[10]).expect(rt, "what is lent");
+    message.returned.append(&[0]).expect(rt, "what is returned");
 }
 
 // The same message.
-fn worked(alloc: Global) -> Result<Message, Fail> {
-    let writes = writes(alloc)?;
+fn worked(rt: &impl Abort, alloc: Global) -> Message {
     let mut message = Message {
         from: 0,
         to: 1,
@@ -59,33 +61,28 @@ fn worked(alloc: Global) -> Result<Message, Fail> {
         haves: Numbers::new(alloc),
         covers: Covers::new(alloc),
         firsts: Numbers::new(alloc),
-        writes,
+        writes: writes(rt, alloc),
         lent: Numbers::new(alloc),
         returned: Numbers::new(alloc),
     };
-    fill(&mut message)?;
-    Ok(message)
+    fill(rt, &mut message);
+    message
 }
 
 // How many bytes the message at the front of bytes has.
 fn length_of(alloc: Global, bytes: &[u8]) -> Result<usize, MsgFault> {
-    let (_message, length) = decode(alloc, bytes)?;
-    Ok(length)
-}
-
-// How many bytes the message at the front of bytes has, if it is this one.
-fn length_as(alloc: Global, bytes: &[u8], due: &Message) -> Result<Option<usize>, MsgFault> {
-    let (message, length) = decode(alloc, bytes)?;
-    Ok(if message == *due { Some(length) } else { None })
+    match decode(alloc, bytes) {
+        Ok((_message, length)) => Ok(length),
+        Err(fault) => Err(fault),
+    }
 }
 
 // The bytes of the message at the front of bytes, behind a byte that stood there before.
-fn encoded_again(alloc: Global, bytes: &[u8]) -> Result<Bytes, Fail> {
-    let mut out = Bytes::from_slice(alloc, &[9])?;
-    if let Ok((message, _length)) = decode(alloc, bytes) {
-        encode(&message, &mut out)?;
-    }
-    Ok(out)
+fn encoded_again(rt: &impl Abort, alloc: Global, bytes: &[u8]) -> Bytes {
+    let mut out = Bytes::from_slice(alloc, &[9]).expect(rt, "a byte");
+    let (message, _length) = decode(alloc, bytes).expect(rt, "a message");
+    encode(&message, &mut out).expect(rt, "room for a message");
+    out
 }
 
 // Whether the bytes are refused at a field up to a place, or are another message than this one.
@@ -98,25 +95,25 @@ fn is_told_apart(alloc: Global, bytes: &[u8], at: usize, message: &Message) -> b
 }
 
 // The message twice.
-fn stream(alloc: Global) -> Result<Bytes, Fail> {
-    let mut stream = Bytes::from_slice(alloc, WORKED)?;
-    stream.append(WORKED)?;
-    Ok(stream)
+fn stream(rt: &impl Abort, alloc: Global) -> Bytes {
+    let mut stream = Bytes::from_slice(alloc, WORKED).expect(rt, "a message");
+    stream.append(WORKED).expect(rt, "room for another");
+    stream
 }
 
-// How many bytes the first of two messages has, if it is the worked one.
-fn first_length(alloc: Global) -> Result<Option<usize>, Fail> {
-    let stream = stream(alloc)?;
-    let due = worked(alloc)?;
-    Ok(length_as(alloc, stream.items(), &due)?)
+// How many bytes the message at the front of bytes has, which is the worked one.
+fn worked_length(rt: &impl Abort, alloc: Global, bytes: &[u8]) -> usize {
+    let (message, length) = decode(alloc, bytes).expect(rt, "a message");
+    assert!(rt; message == worked(rt, alloc));
+    length
 }
 
 #[test]
-fn the_worked_message(rt: HostRuntime) -> Result<(), Fail> {
-    assert_eq!(rt; first_length(rt.alloc())?, Some(163));
-    let out = encoded_again(rt.alloc(), WORKED)?;
+fn the_worked_message(rt: HostRuntime) {
+    let stream = stream(&rt, rt.alloc());
+    assert_eq!(rt; worked_length(&rt, rt.alloc(), stream.items()), 163);
+    let out = encoded_again(&rt, rt.alloc(), WORKED);
     assert!(rt; out.items().get(1..) == Some(WORKED));
-    Ok(())
 }
 
 #[test]
@@ -127,13 +124,12 @@ fn fronts_of_a_message(rt: HostRuntime) {
 }
 
 #[test]
-fn other_bytes_are_told_apart(rt: HostRuntime) -> Result<(), Fail> {
-    let message = worked(rt.alloc())?;
+fn other_bytes_are_told_apart(rt: HostRuntime) {
+    let message = worked(&rt, rt.alloc());
     for at in 0..WORKED.len() {
-        let bytes = changed(rt.alloc(), WORKED, at, 255)?;
+        let bytes = changed(&rt, rt.alloc(), WORKED, at, 255);
         assert!(rt; is_told_apart(rt.alloc(), &bytes, at, &message));
     }
-    Ok(())
 }
 
 static FAULTS: [(usize, u8, usize, &str); 29] = [
@@ -169,11 +165,10 @@ static FAULTS: [(usize, u8, usize, &str); 29] = [
 ];
 
 #[test]
-fn faults_of_a_message(rt: HostRuntime) -> Result<(), Fail> {
+fn faults_of_a_message(rt: HostRuntime) {
     for &(at, byte, place, text) in &FAULTS {
-        let bytes = changed(rt.alloc(), WORKED, at, byte)?;
+        let bytes = changed(&rt, rt.alloc(), WORKED, at, byte);
         let length = length_of(rt.alloc(), &bytes);
         assert!(rt; length == Err(MsgFault::BadField(place)), "{text}");
     }
-    Ok(())
 }
