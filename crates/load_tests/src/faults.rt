@@ -3,8 +3,7 @@
 use run_model::LoadKind;
 use std::alloc::Global;
 use std::process::Abort;
-use std::test::Fail;
-use tact_base::{Bytes, NoMemory};
+use tact_base::Bytes;
 use work_load::{LoadFault, parse_plan};
 
 // A workload of three replicas and two conits to which a name can be added, and the beginning of one that ends with an
@@ -20,20 +19,21 @@ const CLIENTS: &[u8] = b"{\"replicas\":2,\"conits\":1,\"clients\":[";
 
 // Why a text, in three parts, is no workload.
 pub(crate) fn fault_of(
+    rt: &impl Abort,
     alloc: Global,
     front: &[u8],
     middle: &[u8],
     end: &[u8],
-) -> Result<Option<LoadFault>, Fail> {
-    let text = joined(alloc, front, middle, end)?;
-    Ok(parse_plan(alloc, text.items()).err())
+) -> Option<LoadFault> {
+    let text = joined(rt, alloc, front, middle, end);
+    parse_plan(alloc, text.items()).err()
 }
 
-fn joined(alloc: Global, front: &[u8], middle: &[u8], end: &[u8]) -> Result<Bytes, NoMemory> {
-    let mut text = Bytes::from_slice(alloc, front)?;
-    text.append(middle)?;
-    text.append(end)?;
-    Ok(text)
+fn joined(rt: &impl Abort, alloc: Global, front: &[u8], middle: &[u8], end: &[u8]) -> Bytes {
+    let mut text = Bytes::from_slice(alloc, front).expect(rt, "the front");
+    text.append(middle).expect(rt, "room for the middle");
+    text.append(end).expect(rt, "room for the end");
+    text
 }
 
 // The first fault of a text, in three parts, has this place and is of this kind.
@@ -44,10 +44,9 @@ fn assert_bad(
     end: &[u8],
     place: u64,
     kind: LoadKind,
-) -> Result<(), Fail> {
-    let fault = fault_of(rt.alloc(), front, middle, end)?;
+) {
+    let fault = fault_of(rt, rt.alloc(), front, middle, end);
     assert_eq!(rt; fault, Some(LoadFault::Bad { place, kind }));
-    Ok(())
 }
 
 #[rattlefmt::skip]
@@ -75,11 +74,10 @@ static TEXTS: [(&[u8], LoadKind); 20] = [
 ];
 
 #[test]
-fn whole_texts(rt: HostRuntime) -> Result<(), Fail> {
+fn whole_texts(rt: HostRuntime) {
     for &(text, kind) in &TEXTS {
-        assert_bad(&rt, text, b"", b"", 0, kind)?;
+        assert_bad(&rt, text, b"", b"", 0, kind);
     }
-    Ok(())
 }
 
 #[rattlefmt::skip]
@@ -111,11 +109,10 @@ static SETTINGS: [(&[u8], LoadKind); 24] = [
 ];
 
 #[test]
-fn bounds_links_and_rounds(rt: HostRuntime) -> Result<(), Fail> {
+fn bounds_links_and_rounds(rt: HostRuntime) {
     for &(name, kind) in &SETTINGS {
-        assert_bad(&rt, NAMES, name, b"}", 0, kind)?;
+        assert_bad(&rt, NAMES, name, b"}", 0, kind);
     }
-    Ok(())
 }
 
 #[rattlefmt::skip]
@@ -135,11 +132,10 @@ static CLIENT_LISTS: [(&[u8], u64, LoadKind); 12] = [
 ];
 
 #[test]
-fn clients(rt: HostRuntime) -> Result<(), Fail> {
+fn clients(rt: HostRuntime) {
     for &(list, place, kind) in &CLIENT_LISTS {
-        assert_bad(&rt, CLIENTS, list, b"]}", place, kind)?;
+        assert_bad(&rt, CLIENTS, list, b"]}", place, kind);
     }
-    Ok(())
 }
 
 #[rattlefmt::skip]
@@ -186,9 +182,8 @@ static ITEMS: [(&[u8], LoadKind); 39] = [
 ];
 
 #[test]
-fn items(rt: HostRuntime) -> Result<(), Fail> {
+fn items(rt: HostRuntime) {
     for &(item, kind) in &ITEMS {
-        assert_bad(&rt, FRONT, item, b"]]]}", 2, kind)?;
+        assert_bad(&rt, FRONT, item, b"]]]}", 2, kind);
     }
-    Ok(())
 }

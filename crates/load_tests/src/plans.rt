@@ -5,7 +5,6 @@ use link_faults::LinkPlan;
 use run_model::LoadKind;
 use std::alloc::Global;
 use std::process::Abort;
-use std::test::Fail;
 use tact_base::{Bytes, Need, Needs, Op, Weight, Weights};
 use work_load::{Client, Item, LoadFault, Plan, parse_plan};
 
@@ -50,18 +49,18 @@ const WITHIN: Need = Need {
 };
 
 // A write of one weight, and a read with one need.
-fn write(op: Op, weight: Weight) -> Result<Item, Fail> {
-    let weights = Weights::new(&[weight])?;
-    Ok(Item::Write { weights, op })
+fn write(rt: &impl Abort, op: Op, weight: Weight) -> Item {
+    let weights = Weights::new(&[weight]).expect(rt, "a weight");
+    Item::Write { weights, op }
 }
 
-fn read(key: u64) -> Result<Item, Fail> {
-    let needs = Needs::new(&[WITHIN])?;
-    Ok(Item::Read { key, needs })
+fn read(rt: &impl Abort, key: u64) -> Item {
+    let needs = Needs::new(&[WITHIN]).expect(rt, "a need");
+    Item::Read { key, needs }
 }
 
-fn plan(alloc: Global, text: &[u8]) -> Result<Plan, LoadFault> {
-    parse_plan(alloc, text)
+fn plan(rt: &impl Abort, alloc: Global, text: &[u8]) -> Plan {
+    parse_plan(alloc, text).expect(rt, "a workload")
 }
 
 // The bounds of a run, and what is lent at its opening.
@@ -110,17 +109,16 @@ fn assert_links(rt: &impl Abort, plan: &Plan, links: &[LinkPlan]) {
 }
 
 #[test]
-fn a_run_and_its_links(rt: HostRuntime) -> Result<(), Fail> {
-    let plan = plan(rt.alloc(), WORKLOAD)?;
+fn a_run_and_its_links(rt: HostRuntime) {
+    let plan = plan(&rt, rt.alloc(), WORKLOAD);
     assert_eq!(rt; counts(&plan), (3, 1, 4));
     assert_setup(&rt, &plan, &SHARED, &LENT);
     assert_links(&rt, &plan, &LINKS);
-    Ok(())
 }
 
-fn first_items() -> Result<[Item; 3], Fail> {
+fn first_items(rt: &impl Abort) -> [Item; 3] {
     let add = Op::Add { key: 1, delta: 1 };
-    Ok([write(add, TALLY)?, write(add, TALLY)?, read(1)?])
+    [write(rt, add, TALLY), write(rt, add, TALLY), read(rt, 1)]
 }
 
 fn second_items() -> [Item; 3] {
@@ -135,7 +133,7 @@ fn second_items() -> [Item; 3] {
     [reserve, held, Item::Release { conit: 0 }]
 }
 
-fn third_items() -> Result<[Item; 3], Fail> {
+fn third_items(rt: &impl Abort) -> [Item; 3] {
     let shift = Op::Shift {
         from: 1,
         to: 2,
@@ -146,18 +144,18 @@ fn third_items() -> Result<[Item; 3], Fail> {
         conit: 0,
         amount: 0,
     };
-    Ok([write(shift, BACK)?, lend, read(2)?])
+    [write(rt, shift, BACK), lend, read(rt, 2)]
 }
 
-fn last_items() -> Result<[Item; 3], Fail> {
+fn last_items(rt: &impl Abort) -> [Item; 3] {
     let back = Item::Back {
         owner: 0,
         conit: 0,
         amount: 10,
     };
-    let needs = Needs::new(&[])?;
-    let put = write(Op::Put { key: 9, value: 4 }, TWO)?;
-    Ok([put, back, Item::Read { key: 9, needs }])
+    let needs = Needs::new(&[]).expect(rt, "no needs");
+    let put = write(rt, Op::Put { key: 9, value: 4 }, TWO);
+    [put, back, Item::Read { key: 9, needs }]
 }
 
 // A client, by its place, is this one of a replica, and has these items.
@@ -175,18 +173,17 @@ fn assert_client(
 }
 
 #[test]
-fn clients_and_their_items(rt: HostRuntime) -> Result<(), Fail> {
-    let plan = plan(rt.alloc(), WORKLOAD)?;
-    assert_clients(&rt, plan.clients())
+fn clients_and_their_items(rt: HostRuntime) {
+    let plan = plan(&rt, rt.alloc(), WORKLOAD);
+    assert_clients(&rt, plan.clients());
 }
 
-fn assert_clients(rt: &impl Abort, clients: &[Client]) -> Result<(), Fail> {
+fn assert_clients(rt: &impl Abort, clients: &[Client]) {
     assert_eq!(rt; clients.len(), 4);
-    assert_client(rt, clients, 0, (0, 0), first_items()?);
+    assert_client(rt, clients, 0, (0, 0), first_items(rt));
     assert_client(rt, clients, 1, (0, 1), second_items());
-    assert_client(rt, clients, 2, (1, 0), third_items()?);
-    assert_client(rt, clients, 3, (2, 0), last_items()?);
-    Ok(())
+    assert_client(rt, clients, 2, (1, 0), third_items(rt));
+    assert_client(rt, clients, 3, (2, 0), last_items(rt));
 }
 
 fn assert_usual(rt: &impl Abort, plan: &Plan) {
@@ -204,22 +201,20 @@ fn assert_usual_loans(rt: &impl Abort, loans: &[u64]) {
 }
 
 #[test]
-fn a_restart(rt: HostRuntime) -> Result<(), Fail> {
+fn a_restart(rt: HostRuntime) {
     let text = b"{\"replicas\":2,\"conits\":1,\"clients\":[[1,3,[[\"restart\"]]]]}";
-    let plan = plan(rt.alloc(), text)?;
+    let plan = plan(&rt, rt.alloc(), text);
     assert_eq!(rt; plan.clients().len(), 1);
     assert!(rt; plan.clients()[0].items.items() == [Item::Restart].as_slice());
-    Ok(())
 }
 
 #[test]
-fn what_no_name_says(rt: HostRuntime) -> Result<(), Fail> {
+fn what_no_name_says(rt: HostRuntime) {
     let text = b"{\"clients\":[[7,7,[]]],\"replicas\":8,\"conits\":16}";
-    let plan = plan(rt.alloc(), text)?;
+    let plan = plan(&rt, rt.alloc(), text);
     assert_eq!(rt; counts(&plan), (8, 16, 0));
     assert_usual(&rt, &plan);
     assert_links(&rt, &plan, &[LinkPlan::default(); 8]);
-    Ok(())
 }
 
 static ALPHAS: [u64; 6] = [
@@ -247,40 +242,41 @@ static TWO_LINKS: [LinkPlan; 2] = [
 ];
 
 #[test]
-fn bounds_among_others(rt: HostRuntime) -> Result<(), Fail> {
+fn bounds_among_others(rt: HostRuntime) {
     let text = b" {\"replicas\":9, \"replicas\":2,\"conits\":3,\"links\":[[1,0,2,0]],\n\
         \"bounds\":[[1,2,5,[4,0]],[0,1,1000000000000,[0,0]]],\"clients\":[[1,0,[]]] }\n";
-    let plan = plan(rt.alloc(), text)?;
+    let plan = plan(&rt, rt.alloc(), text);
     assert_setup(&rt, &plan, &ALPHAS, &LOANS);
     assert_links(&rt, &plan, &TWO_LINKS);
-    Ok(())
 }
 
+const RELEASES: &[u8] = b"{\"replicas\":2,\"conits\":1,\"clients\":[[0,0,[";
+
 // A client of so many items.
-fn with_items(alloc: Global, count: usize) -> Result<Bytes, Fail> {
-    let mut text = Bytes::from_slice(alloc, b"{\"replicas\":2,\"conits\":1,\"clients\":[[0,0,[")?;
+fn with_items(rt: &impl Abort, alloc: Global, count: usize) -> Bytes {
+    let mut text = Bytes::from_slice(alloc, RELEASES).expect(rt, "the front");
     for place in 0..count {
         if place > 0 {
-            text.push(b',')?;
+            text.push(b',').expect(rt, "room for a comma");
         }
-        text.append(b"[\"release\",0]")?;
+        text.append(b"[\"release\",0]")
+            .expect(rt, "room for an item");
     }
-    Ok(text)
+    text
 }
 
 // Why a client of so many items is none, if it isn't.
-fn fault_with(alloc: Global, count: usize) -> Result<Option<LoadFault>, Fail> {
-    let text = with_items(alloc, count)?;
-    fault_of(alloc, text.items(), b"]]]", b"}")
+fn fault_with(rt: &impl Abort, alloc: Global, count: usize) -> Option<LoadFault> {
+    let text = with_items(rt, alloc, count);
+    fault_of(rt, alloc, text.items(), b"]]]", b"}")
 }
 
 #[test]
-fn a_thousand_items(rt: HostRuntime) -> Result<(), Fail> {
+fn a_thousand_items(rt: HostRuntime) {
     let bad = LoadFault::Bad {
         place: 1,
         kind: LoadKind::Shape,
     };
-    assert_eq!(rt; fault_with(rt.alloc(), 1_000)?, None);
-    assert_eq!(rt; fault_with(rt.alloc(), 1_001)?, Some(bad));
-    Ok(())
+    assert_eq!(rt; fault_with(&rt, rt.alloc(), 1_000), None);
+    assert_eq!(rt; fault_with(&rt, rt.alloc(), 1_001), Some(bad));
 }
