@@ -1,6 +1,6 @@
 //! The errors of a replica, by the book.
 
-ghost use Rattle.std.specs.Prelude.{◌≡◌, ◌≤◌, ◌<◌, IfOk, length};
+ghost use Rattle.std.specs.Prelude.{◌≡◌, ◌≤◌, ◌<◌, length};
 ghost use Rattle.tact_base.specs.declared.limits.TheConstants.{MOMENT_MAX};
 ghost use Rattle.replica_core.specs.Stands.{IsSameReplica};
 ghost use Rattle.book_tests.specs.Groups.{IsBookOfTwo, IsOfTwo};
@@ -11,7 +11,6 @@ use replica_core::Replica;
 use run_model::Request;
 use std::alloc::Global;
 use std::process::Abort;
-use std::test::Fail;
 use tact_base::{Op, Weight, Weights};
 
 // What a write of an amount does.
@@ -23,7 +22,7 @@ fn op_of(amount: i8) -> Op {
 }
 
 // Client 0 adds an amount to key 7, which weighs as much on conit 0, and 1 in the order.
-fn add(replica: &mut Replica, moment: u64, amount: i8) -> Result<(), Fail>
+fn add(rt: &impl Abort, replica: &mut Replica, moment: u64, amount: i8)
     requires moment { moment ≤ MOMENT_MAX }
     requires conits { 0 < replica.old.core.setup.conits }
     ensures { IsSameReplica replica.old.core replica.new.core }
@@ -34,14 +33,13 @@ fn add(replica: &mut Replica, moment: u64, amount: i8) -> Result<(), Fail>
         oweight: 1,
     };
     let request = Request::Write {
-        weights: Weights::new(&[weight])?,
+        weights: Weights::new(&[weight]).expect(rt, "a weight"),
         op: Op::Add {
             key: 7,
             delta: i64::from(amount),
         },
     };
-    replica.call(moment, 0, &request)?;
-    Ok(())
+    replica.call(moment, 0, &request).expect(rt, "an answer");
 }
 
 fn assert_errors(rt: &impl Abort, book: &Book, view: &Replica, moment: u64, errors: (u64, u64, u64))
@@ -54,47 +52,31 @@ fn assert_errors(rt: &impl Abort, book: &Book, view: &Replica, moment: u64, erro
 }
 
 // Replica 0 adds 4, and replica 1, of which it hears nothing, adds 5 and takes it back.
-fn measure(rt: &impl Abort, book: &mut Book, zero: &mut Replica) -> Result<(), Fail>
+fn measure(rt: &impl Abort, book: &mut Book, zero: &mut Replica)
     requires book { IsBookOfTwo book.old 0 0 }
     requires zero { IsOfTwo zero.old.core 0 }
 {
-    add(zero, 2, 4)?;
+    add(rt, zero, 2, 4);
     assert_errors(rt, book, zero, 10, (4, 1, 0));
-    accept_of_zero(rt, book, &write(0, 0, 1, 2, 4, op_of(4))?);
+    accept_of_zero(rt, book, &write(rt, 0, 0, 1, 2, 4, op_of(4)));
     assert_errors(rt, book, zero, 10, (0, 1, 0));
-    accept_of_one(rt, book, &write(1, 0, 1, 3, 5, op_of(5))?);
+    accept_of_one(rt, book, &write(rt, 1, 0, 1, 3, 5, op_of(5)));
     assert_errors(rt, book, zero, 10, (5, 1, 7));
     assert_errors(rt, book, zero, 2, (5, 1, 0));
-    accept_of_one(rt, book, &write(1, 1, 2, 6, -5, op_of(-5))?);
+    accept_of_one(rt, book, &write(rt, 1, 1, 2, 6, -5, op_of(-5)));
     assert_errors(rt, book, zero, 10, (0, 1, 7));
-    Ok(())
 }
 
-#[derive(Drop)]
-struct Group {
-    book: Book,
-    zero: Replica,
-}
-
-fn fresh_zero(alloc: Global) -> Result<Replica, Fail>
-    ensures { IfOk result (λ zero. IsOfTwo zero.core 0) }
+fn fresh_zero(rt: &impl Abort, alloc: Global) -> Replica
+    ensures { IsOfTwo result.core 0 }
 {
-    let config = config_of_two(alloc)?;
-    Ok(Replica::new(alloc, &config, 0)?)
-}
-
-fn fresh_group(alloc: Global) -> Result<Group, Fail>
-    ensures book { IfOk result (λ made. IsBookOfTwo made.book 0 0) }
-    ensures zero { IfOk result (λ made. IsOfTwo made.zero.core 0) }
-{
-    Ok(Group {
-        book: fresh_book(alloc)?,
-        zero: fresh_zero(alloc)?,
-    })
+    let config = config_of_two(rt, alloc);
+    Replica::new(alloc, &config, 0).expect(rt, "a replica")
 }
 
 #[test]
-fn measures_by_all_accepted_writes(rt: HostRuntime) -> Result<(), Fail> {
-    let mut group = fresh_group(rt.alloc())?;
-    measure(&rt, &mut group.book, &mut group.zero)
+fn measures_by_all_accepted_writes(rt: HostRuntime) {
+    let mut book = fresh_book(&rt, rt.alloc());
+    let mut zero = fresh_zero(&rt, rt.alloc());
+    measure(&rt, &mut book, &mut zero);
 }

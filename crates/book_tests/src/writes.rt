@@ -1,62 +1,62 @@
 //! The book of two replicas on one conit, and writes for it.
 
-ghost use Rattle.std.specs.Prelude.{◌<◌, ◌≡◌, ◌+◌, All, IfOk};
+ghost use Rattle.std.specs.Prelude.{◌<◌, ◌≡◌, ◌+◌, All};
 ghost use Rattle.book_tests.specs.Groups.{IsBookOfTwo, IsWriteOf};
 
 use reference_book::Book;
 use run_model::Config;
 use std::alloc::Global;
 use std::process::Abort;
-use std::test::Fail;
 use tact_base::{Op, Weight, Weights, Write};
 
 /// The setup of two replicas on one conit, each of which allows 10 and lends it all.
-pub(crate) fn config_of_two(alloc: Global) -> Result<Config, Fail>
-    ensures replicas { IfOk result (λ config. config.replicas ≡ 2) }
-    ensures conits { IfOk result (λ config. config.conits ≡ 1) }
+pub(crate) fn config_of_two(rt: &impl Abort, alloc: Global) -> Config
+    ensures replicas { result.replicas ≡ 2 }
+    ensures conits { result.conits ≡ 1 }
 {
-    Ok(Config::new(alloc, 2, 1, &[10; 2], &[0, 10, 10, 0])?)
+    Config::new(alloc, 2, 1, &[10; 2], &[0, 10, 10, 0]).expect(rt, "a setup")
 }
 
 /// Its book.
-pub(crate) fn fresh_book(alloc: Global) -> Result<Book, Fail>
-    ensures { IfOk result (λ book. IsBookOfTwo book 0 0) }
+pub(crate) fn fresh_book(rt: &impl Abort, alloc: Global) -> Book
+    ensures { IsBookOfTwo result 0 0 }
 {
-    let config = config_of_two(alloc)?;
-    Ok(Book::new(alloc, &config)?)
+    let config = config_of_two(rt, alloc);
+    Book::new(alloc, &config).expect(rt, "a book")
 }
 
 // A weight on conit 0, which weighs 1 in the order.
-fn weights_of(amount: i8) -> Result<Weights, Fail>
-    ensures { IfOk result (λ weights. All (λ weight. weight.conit < 1) weights) }
+fn weights_of(rt: &impl Abort, amount: i8) -> Weights
+    ensures { All (λ weight. weight.conit < 1) result }
 {
     let weight = Weight {
         conit: 0,
         nweight: i64::from(amount),
         oweight: 1,
     };
-    Ok(Weights::new(&[weight])?)
+    Weights::new(&[weight]).expect(rt, "a weight")
 }
 
 /// A write of an origin, the one at this index.
 pub(crate) fn write(
+    rt: &impl Abort,
     origin: u32,
     index: u64,
     stamp: u64,
     moment: u64,
     amount: i8,
     op: Op,
-) -> Result<Write, Fail>
-    ensures { IfOk result (λ write. IsWriteOf write origin index) }
+) -> Write
+    ensures { IsWriteOf result origin index }
 {
-    Ok(Write {
+    Write {
         origin,
         index,
         stamp,
         moment,
-        weights: weights_of(amount)?,
+        weights: weights_of(rt, amount),
         op,
-    })
+    }
 }
 
 /// The book takes in the next write of replica 0, where replica 1 wrote nothing.
