@@ -1,5 +1,5 @@
 //! A text that a script's lines are printed on.
-ghost use Rattle.std.specs.Prelude.{◌≡◌};
+ghost use Rattle.std.specs.Prelude.{◌≡◌, []};
 
 use run_model::LineRoom;
 use std::marker::Model;
@@ -29,6 +29,20 @@ impl Page {
             text,
             room: LineRoom::new(),
         }
+    }
+
+    /// Takes its text off.
+    pub(crate) fn clear(&mut self)
+        ensures { self.new ≡ [] }
+    {
+        self.text.truncate(0);
+    }
+
+    /// The bytes of its text.
+    pub(crate) fn bytes(&self) -> &[u8]
+        ensures { result.now ≡ self.now }
+    {
+        self.text.items()
     }
 
     /// Its text.

@@ -68,9 +68,9 @@ impl World {
         }
         self.spent = true;
         self.lines = self.lines.and(line);
-        self.page.text.truncate(0);
+        self.page.clear();
         self.stage.step(line, &mut self.entries, &mut self.page)?;
-        out.append(self.page.text.items())?;
+        out.append(self.page.bytes())?;
         self.spent = false;
         Ok(())
     }
