@@ -27,24 +27,32 @@ fn accept_two(rt: &impl Abort, member: &mut Member) {
     assert_eq!(rt; member.replica.spare(), 2);
     assert_written(rt, member, 5, 0, 1);
     assert_written(rt, member, 4, 1, 2);
-    assert_readings(rt, member, &ACCEPTED);
+    assert_readings(rt, member, &accepted());
 }
 
 // What replica 1 of two reads, of which client 3 wrote twice, at the moment 5 first, where there was room for no more.
-#[rattlefmt::skip]
-static ACCEPTED: Readings = Readings {
-    haves: [0, 2],
-    known: [0; 4],
-    covers: [NOTHING, Cover { count: 2, stamp: 2, moment: 5 }],
-    clock: 2,
-    point: 0,
-    committed: 0,
-    tentative: 2,
-    count: 2,
-    calls: [0, 0, 0, 2, 0, 0, 0, 0],
-    last: 5,
-    spare: 0,
-};
+fn accepted() -> Readings {
+    Readings {
+        haves: [0, 2],
+        known: [0; 4],
+        covers: [
+            NOTHING,
+            Cover {
+                count: 2,
+                stamp: 2,
+                moment: 5,
+            },
+        ],
+        clock: 2,
+        point: 0,
+        committed: 0,
+        tentative: 2,
+        count: 2,
+        calls: [0, 0, 0, 2, 0, 0, 0, 0],
+        last: 5,
+        spare: 0,
+    }
+}
 
 // The cover of one that was never heard of.
 const NOTHING: Cover = Cover {
@@ -118,26 +126,34 @@ fn fill(rt: &impl Abort, member: &mut Member) {
 }
 
 // What a full replica of two reads, which restarted at the moment 3 alone.
-#[rattlefmt::skip]
-static FULL: Readings = Readings {
-    haves: [0; 2],
-    known: [0; 4],
-    covers: [Cover { count: 0, stamp: 0, moment: 3 }, NOTHING],
-    clock: 0,
-    point: 0,
-    committed: 0,
-    tentative: 0,
-    count: 20_000,
-    calls: [0; 8],
-    last: 3,
-    spare: 0,
-};
+fn full() -> Readings {
+    Readings {
+        haves: [0; 2],
+        known: [0; 4],
+        covers: [
+            Cover {
+                count: 0,
+                stamp: 0,
+                moment: 3,
+            },
+            NOTHING,
+        ],
+        clock: 0,
+        point: 0,
+        committed: 0,
+        tentative: 0,
+        count: 20_000,
+        calls: [0; 8],
+        last: 3,
+        spare: 0,
+    }
+}
 
 // Each entry is refused, and nothing changes.
 fn assert_full(rt: &impl Abort, member: &mut Member) {
     assert_nothing_enters(rt, member);
     assert_no_loan_moves(rt, member);
-    assert_readings(rt, member, &FULL);
+    assert_readings(rt, member, &full());
 }
 
 fn assert_nothing_enters(rt: &impl Abort, member: &mut Member) {
@@ -164,6 +180,6 @@ fn of_nothing(rt: &impl Abort, alloc: Global) -> Box<Member> {
 fn is_full_after_as_many_entries(rt: HostRuntime) {
     let mut member = of_nothing(&rt, rt.alloc());
     fill(&rt, &mut member);
-    assert_readings(&rt, &member, &FULL);
+    assert_readings(&rt, &member, &full());
     assert_full(&rt, &mut member);
 }
