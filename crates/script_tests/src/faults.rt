@@ -4,7 +4,6 @@ use crate::playing::played;
 use run_model::Status;
 use std::alloc::Global;
 use std::process::Abort;
-use std::test::Fail;
 
 const SCRIPT: &str = "start 2 1 0 0\n";
 
@@ -19,8 +18,8 @@ fn assert_ends(
     reads: &[u64],
     writes: &[u64],
     wanted: Status,
-) -> Result<(), Fail> {
-    let (status, sink) = played(alloc, script.as_bytes(), reads, writes)?;
+) {
+    let (status, sink) = played(rt, alloc, script.as_bytes(), reads, writes);
     assert_eq!(rt; status, wanted, "{script} {reads:?} {writes:?}");
     let is_written = !sink.bytes().is_empty();
     assert_eq!(rt;
@@ -28,17 +27,16 @@ fn assert_ends(
         wanted == Status::Done,
         "{script} {reads:?} {writes:?}"
     );
-    Ok(())
 }
 
 #[test]
-fn the_outside_is_named(rt: HostRuntime) -> Result<(), Fail> {
+fn the_outside_is_named(rt: HostRuntime) {
     let alloc = rt.alloc();
-    assert_ends(&rt, alloc, SCRIPT, &[0], &[], Status::ReadFault)?;
-    assert_ends(&rt, alloc, SCRIPT, &[1], &[], Status::ReadFault)?;
-    assert_ends(&rt, alloc, SCRIPT, &[2], &[], Status::Done)?;
-    assert_ends(&rt, alloc, SCRIPT, &[], &[0], Status::WriteFault)?;
-    assert_ends(&rt, alloc, SCRIPT, &[], &[1], Status::Done)?;
+    assert_ends(&rt, alloc, SCRIPT, &[0], &[], Status::ReadFault);
+    assert_ends(&rt, alloc, SCRIPT, &[1], &[], Status::ReadFault);
+    assert_ends(&rt, alloc, SCRIPT, &[2], &[], Status::Done);
+    assert_ends(&rt, alloc, SCRIPT, &[], &[0], Status::WriteFault);
+    assert_ends(&rt, alloc, SCRIPT, &[], &[1], Status::Done);
     // A fault goes before what is wrong with the lines that were read.
-    assert_ends(&rt, alloc, NO_SCRIPT, &[1], &[], Status::ReadFault)
+    assert_ends(&rt, alloc, NO_SCRIPT, &[1], &[], Status::ReadFault);
 }

@@ -2,8 +2,7 @@
 
 use std::alloc::Global;
 use std::process::Abort;
-use std::test::Fail;
-use tact_base::{Bytes, NoMemory};
+use tact_base::Bytes;
 use tact_io::{
     Failed, Journal, JournalFail, MemJournal, MemShelf, OutFault, Shelf, SureJournal, SureShelf,
 };
@@ -29,30 +28,26 @@ const THIRD: JournalFail = JournalFail {
 };
 
 /// Appends a piece, for which it makes room.
-fn put<J: Journal>(journal: &mut J, piece: &[u8]) -> Result<Result<(), Failed>, NoMemory> {
-    journal.make_room(1, piece.len() as u64)?;
-    Ok(journal.append(piece))
+fn put<J: Journal>(rt: &impl Abort, journal: &mut J, piece: &[u8]) -> Result<(), Failed> {
+    let made = journal.make_room(1, piece.len() as u64);
+    made.expect(rt, "room for a piece");
+    journal.append(piece)
 }
 
 /// The first three pieces, each ended by a semicolon.
-fn pieces(alloc: Global, journal: &mut MemJournal) -> Result<Bytes, OutFault> {
+fn pieces(rt: &impl Abort, alloc: Global, journal: &mut MemJournal) -> Bytes {
     let mut text = Bytes::new(alloc);
     for at in 0..3 {
-        append_piece(journal, at, &mut text)?;
+        append_piece(rt, journal, at, &mut text);
     }
-    Ok(text)
+    text
 }
 
-fn append_piece(journal: &mut MemJournal, at: u64, text: &mut Bytes) -> Result<(), OutFault> {
-    match journal.read(at)? {
-        Some(piece) => Ok(append_ended(piece.items(), text)?),
-        None => Ok(()),
+fn append_piece(rt: &impl Abort, journal: &mut MemJournal, at: u64, text: &mut Bytes) {
+    if let Some(piece) = journal.read(at).expect(rt, "what stands there") {
+        text.append(piece.items()).expect(rt, "room for a piece");
+        text.append(b";").expect(rt, "room for its end");
     }
-}
-
-fn append_ended(piece: &[u8], text: &mut Bytes) -> Result<(), NoMemory> {
-    text.append(piece)?;
-    text.append(b";")
 }
 
 // The calls that fail, what the appends of two pieces answer, how often the journal has failed, and what it has.
@@ -65,52 +60,48 @@ static FAULTS: [(&[JournalFail], Result<(), Failed>, Result<(), Failed>, u64, &[
 ];
 
 #[test]
-fn journals_fail_where_listed(rt: HostRuntime) -> Result<(), Fail> {
+fn journals_fail_where_listed(rt: HostRuntime) {
     for &(fails, first, second, faults, want) in &FAULTS {
-        let mut journal = MemJournal::new(rt.alloc(), fails)?;
-        assert_eq!(rt; put(&mut journal, b"one"), Ok(first));
-        assert_eq!(rt; put(&mut journal, b"two"), Ok(second));
+        let mut journal = MemJournal::new(rt.alloc(), fails).expect(&rt, "a journal");
+        assert_eq!(rt; put(&rt, &mut journal, b"one"), first);
+        assert_eq!(rt; put(&rt, &mut journal, b"two"), second);
         assert_eq!(rt; journal.faults(), faults);
-        let text = pieces(rt.alloc(), &mut journal)?;
+        let text = pieces(&rt, rt.alloc(), &mut journal);
         assert_eq!(rt; text.items(), want, "fails {fails:?}");
     }
-    Ok(())
 }
 
 #[test]
-fn a_sure_journal_keeps_its_pieces(rt: HostRuntime) -> Result<(), Fail> {
-    let one = Bytes::from_slice(rt.alloc(), b"one")?;
+fn a_sure_journal_keeps_its_pieces(rt: HostRuntime) {
+    let one = Bytes::from_slice(rt.alloc(), b"one").expect(&rt, "a piece");
     let mut sure = SureJournal::new(rt.alloc());
-    assert_eq!(rt; put(&mut sure, b"one"), Ok(Ok(())));
+    assert_eq!(rt; put(&rt, &mut sure, b"one"), Ok(()));
     assert_eq!(rt; sure.read(0), Ok(Some(one)));
     assert_eq!(rt; sure.read(1), Ok(None));
-    Ok(())
 }
 
 // Two pieces are put in, and the third call fails.
 fn fill(rt: &impl Abort, journal: &mut MemJournal) {
-    assert_eq!(rt; put(journal, b"one"), Ok(Ok(())));
-    assert_eq!(rt; put(journal, b"two"), Ok(Ok(())));
+    assert_eq!(rt; put(rt, journal, b"one"), Ok(()));
+    assert_eq!(rt; put(rt, journal, b"two"), Ok(()));
     assert_eq!(rt; journal.read(0), Err(OutFault::Failed));
 }
 
 #[test]
-fn journals_are_put_back(rt: HostRuntime) -> Result<(), Fail> {
-    let mut shelf = MemShelf::new(rt.alloc(), &[THIRD])?;
-    let mut journal = shelf.fetch(7)?;
+fn journals_are_put_back(rt: HostRuntime) {
+    let mut shelf = MemShelf::new(rt.alloc(), &[THIRD]).expect(&rt, "a shelf");
+    let mut journal = shelf.fetch(7).expect(&rt, "a journal");
     fill(&rt, &mut journal);
     assert_eq!(rt; shelf.journal(7).is_none(), true);
     shelf.put_back(7, journal);
     assert_eq!(rt; shelf.journal(7).map(MemJournal::faults), Some(1));
     assert_eq!(rt; shelf.journal(6).is_none(), true);
-    Ok(())
 }
 
 #[test]
-fn sure_journals_are_put_back(rt: HostRuntime) -> Result<(), Fail> {
-    let mut shelf = SureShelf::new(rt.alloc())?;
-    let journal = shelf.fetch(0)?;
+fn sure_journals_are_put_back(rt: HostRuntime) {
+    let mut shelf = SureShelf::new(rt.alloc()).expect(&rt, "a shelf");
+    let journal = shelf.fetch(0).expect(&rt, "a journal");
     shelf.put_back(0, journal);
     assert_eq!(rt; shelf.journal(0).is_some(), true);
-    Ok(())
 }

@@ -4,50 +4,41 @@ use crate::playing::{bad_line, played};
 use run_model::{LineKind, Status};
 use std::alloc::Global;
 use std::process::Abort;
-use std::test::Fail;
 
 // A script of so many blank lines after its first, each of so many spaces.
-fn padded(alloc: Global, lines: usize, spaces: usize) -> Result<Vec<u8>, Fail> {
-    let mut script = Vec::from_slice(alloc, b"start 2 1 0 0")?;
+fn padded(rt: &impl Abort, alloc: Global, lines: usize, spaces: usize) -> Vec<u8> {
+    let mut script = Vec::from_slice(alloc, b"start 2 1 0 0").expect(rt, "a script");
     for _ in 0..lines {
-        push_blank(&mut script, spaces)?;
+        push_blank(rt, &mut script, spaces);
     }
-    Ok(script)
+    script
 }
 
-fn push_blank(script: &mut Vec<u8>, spaces: usize) -> Result<(), Fail> {
-    script.push(b'\n')?;
+fn push_blank(rt: &impl Abort, script: &mut Vec<u8>, spaces: usize) {
+    script.push(b'\n').expect(rt, "room for a line");
     for _ in 0..spaces {
-        script.push(b' ')?;
+        script.push(b' ').expect(rt, "room for a space");
     }
-    Ok(())
 }
 
 // Such a script ends so.
-fn assert_padded(
-    rt: &impl Abort,
-    alloc: Global,
-    lines: usize,
-    spaces: usize,
-    wanted: Status,
-) -> Result<(), Fail> {
-    let script = padded(alloc, lines, spaces)?;
-    let (status, _sink) = played(alloc, &script, &[], &[])?;
+fn assert_padded(rt: &impl Abort, alloc: Global, lines: usize, spaces: usize, wanted: Status) {
+    let script = padded(rt, alloc, lines, spaces);
+    let (status, _sink) = played(rt, alloc, &script, &[], &[]);
     assert_eq!(rt; status, wanted, "{lines} lines of {spaces} spaces");
-    Ok(())
 }
 
 #[test]
-fn up_to_the_limit_and_past_it(rt: HostRuntime) -> Result<(), Fail> {
+fn up_to_the_limit_and_past_it(rt: HostRuntime) {
     let alloc = rt.alloc();
-    assert_padded(&rt, alloc, 1, 400, Status::Done)?;
-    assert_padded(&rt, alloc, 1, 401, bad_line(2, LineKind::LongLine))?;
-    assert_padded(&rt, alloc, 9_999, 1, Status::Done)?;
+    assert_padded(&rt, alloc, 1, 400, Status::Done);
+    assert_padded(&rt, alloc, 1, 401, bad_line(2, LineKind::LongLine));
+    assert_padded(&rt, alloc, 9_999, 1, Status::Done);
     assert_padded(
         &rt,
         alloc,
         10_000,
         1,
         bad_line(10_001, LineKind::TooManyLines),
-    )
+    );
 }

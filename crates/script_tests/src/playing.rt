@@ -4,7 +4,6 @@ use run_model::{InputKind, LineKind, Status};
 use script_run::play;
 use std::alloc::Global;
 use std::process::Abort;
-use std::test::Fail;
 use tact_io::{MemSink, MemSource};
 
 /// What a text begins with where three replicas lend each other 5 of 10.
@@ -23,15 +22,16 @@ bound 1 0 10 10 0
 /// The status of a script that is played in memory, where the listed reads and writes fail, and the sink
 /// with what was written.
 pub(crate) fn played(
+    rt: &impl Abort,
     alloc: Global,
     script: &[u8],
     reads: &[u64],
     writes: &[u64],
-) -> Result<(Status, MemSink), Fail> {
-    let mut source = MemSource::new(alloc, script, reads)?;
-    let mut sink = MemSink::new(alloc, writes)?;
+) -> (Status, MemSink) {
+    let mut source = MemSource::new(alloc, script, reads).expect(rt, "a source");
+    let mut sink = MemSink::new(alloc, writes).expect(rt, "a sink");
     let status = play(alloc, &mut source, &mut sink);
-    Ok((status, sink))
+    (status, sink)
 }
 
 /// A script ends so, and this is written.
@@ -41,11 +41,10 @@ pub(crate) fn assert_plays(
     script: &str,
     wanted: &Status,
     text: &str,
-) -> Result<(), Fail> {
-    let (status, sink) = played(alloc, script.as_bytes(), &[], &[])?;
+) {
+    let (status, sink) = played(rt, alloc, script.as_bytes(), &[], &[]);
     assert_eq!(rt; &status, wanted, "{script}");
     assert_eq!(rt; sink.bytes(), text.as_bytes(), "{script}");
-    Ok(())
 }
 
 /// The status of a script whose first line at fault is this one, with this fault.
@@ -57,13 +56,17 @@ pub(crate) fn bad_line(place: u64, kind: LineKind) -> Status {
 }
 
 /// Whether a script is done, and its text is a header and then these lines.
-pub(crate) fn prints(alloc: Global, script: &str, header: &str, lines: &str) -> Result<bool, Fail> {
-    let (status, sink) = played(alloc, script.as_bytes(), &[], &[])?;
+pub(crate) fn prints(
+    rt: &impl Abort,
+    alloc: Global,
+    script: &str,
+    header: &str,
+    lines: &str,
+) -> bool {
+    let (status, sink) = played(rt, alloc, script.as_bytes(), &[], &[]);
     let text = sink.bytes();
-    Ok(
-        status == Status::Done
-            && text.len() == header.len() + lines.len()
-            && text.starts_with(header.as_bytes())
-            && text.ends_with(lines.as_bytes()),
-    )
+    status == Status::Done
+        && text.len() == header.len() + lines.len()
+        && text.starts_with(header.as_bytes())
+        && text.ends_with(lines.as_bytes())
 }

@@ -2,7 +2,6 @@
 
 use crate::playing::{assert_plays, bad_line};
 use run_model::LineKind;
-use std::test::Fail;
 
 #[rattlefmt::skip]
 static REFUSALS: [(&str, u64, LineKind); 38] = [
@@ -47,9 +46,8 @@ static REFUSALS: [(&str, u64, LineKind); 38] = [
 ];
 
 #[test]
-fn the_first_fault_is_named(rt: HostRuntime) -> Result<(), Fail> {
+fn the_first_fault_is_named(rt: HostRuntime) {
     for &(script, place, kind) in &REFUSALS {
-        assert_plays(&rt, rt.alloc(), script, &bad_line(place, kind), "")?;
+        assert_plays(&rt, rt.alloc(), script, &bad_line(place, kind), "");
     }
-    Ok(())
 }

@@ -4,7 +4,7 @@ use std::alloc::Global;
 use std::fmt::Display;
 use std::io;
 use std::io::{ErrorKind, Read};
-use std::test::Fail;
+use std::process::Abort;
 use tact_io::{
     Clock, Failed, MemSink, MemSource, OutFault, ReadEnd, Sink, Source, StdClock, StdSink,
     StdSource, StepClock, SureSink, SureSource, read_all, write_all,
@@ -70,22 +70,20 @@ static READS: [(&[u64], [Option<usize>; 5]); 4] = [
 ];
 
 #[test]
-fn sources_in_memory_fail_where_listed(rt: HostRuntime) -> Result<(), Fail> {
+fn sources_in_memory_fail_where_listed(rt: HostRuntime) {
     for (fails, want) in &READS {
-        let mut source = MemSource::new(rt.alloc(), b"abcdefgh", fails)?;
+        let mut source = MemSource::new(rt.alloc(), b"abcdefgh", fails).expect(&rt, "a source");
         assert_eq!(rt; &five_reads(&mut source), want, "fails {fails:?}");
     }
-    Ok(())
 }
 
 #[test]
-fn a_sure_source_is_read(rt: HostRuntime) -> Result<(), Fail> {
-    let mut sure = SureSource::new(rt.alloc(), b"abcdefgh")?;
+fn a_sure_source_is_read(rt: HostRuntime) {
+    let mut sure = SureSource::new(rt.alloc(), b"abcdefgh").expect(&rt, "a source");
     assert_eq!(rt;
         &five_reads(&mut sure),
         &[Some(3), Some(3), Some(2), Some(0), Some(0)]
     );
-    Ok(())
 }
 
 const FAILED: Result<(), OutFault> = Err(OutFault::Failed);
@@ -99,22 +97,20 @@ static WRITES: [(&[u64], Result<(), OutFault>, Result<(), OutFault>, &[u8]); 4] 
 ];
 
 #[test]
-fn sinks_in_memory_fail_where_listed(rt: HostRuntime) -> Result<(), Fail> {
+fn sinks_in_memory_fail_where_listed(rt: HostRuntime) {
     for &(fails, first, second, want) in &WRITES {
-        let mut sink = MemSink::new(rt.alloc(), fails)?;
+        let mut sink = MemSink::new(rt.alloc(), fails).expect(&rt, "a sink");
         assert_eq!(rt; write_all(&mut sink, b"one"), first, "fails {fails:?}");
         assert_eq!(rt; write_all(&mut sink, b"two"), second, "fails {fails:?}");
         assert_eq!(rt; sink.bytes(), want, "fails {fails:?}");
     }
-    Ok(())
 }
 
 #[test]
-fn a_sure_sink_is_written(rt: HostRuntime) -> Result<(), Fail> {
-    let mut sure = SureSink::new(rt.alloc())?;
+fn a_sure_sink_is_written(rt: HostRuntime) {
+    let mut sure = SureSink::new(rt.alloc()).expect(&rt, "a sink");
     assert_eq!(rt; write_all(&mut sure, b"one"), Ok(()));
     assert_eq!(rt; sure.bytes(), b"one".as_slice());
-    Ok(())
 }
 
 // How many bytes are there, how many are read at most, the reads that fail, and how many are read.
@@ -134,32 +130,31 @@ static ENDS: [(usize, u64, &[u64], Result<usize, ReadEnd>); 11] = [
 
 // How many bytes are read to the end of a source.
 fn read_of(
+    rt: &impl Abort,
     alloc: Global,
     bytes: &[u8],
     most: u64,
     fails: &[u64],
-) -> Result<Result<usize, ReadEnd>, Fail> {
-    let mut source = MemSource::new(alloc, bytes, fails)?;
-    Ok(read_all(alloc, &mut source, most).map(|bytes| bytes.len()))
+) -> Result<usize, ReadEnd> {
+    let mut source = MemSource::new(alloc, bytes, fails).expect(rt, "a source");
+    read_all(alloc, &mut source, most).map(|bytes| bytes.len())
 }
 
 #[test]
-fn reading_to_the_end(rt: HostRuntime) -> Result<(), Fail> {
-    let all = vec![in rt.alloc(); b'x'; 40_000]?;
+fn reading_to_the_end(rt: HostRuntime) {
+    let all = vec![in rt.alloc(); b'x'; 40_000].expect(&rt, "bytes");
     for &(length, most, fails, want) in &ENDS {
         let bytes = all.get(..length).unwrap_or(&[]);
-        let answer = read_of(rt.alloc(), bytes, most, fails)?;
+        let answer = read_of(&rt, rt.alloc(), bytes, most, fails);
         assert_eq!(rt; answer, want, "{length} bytes, fails {fails:?}");
     }
-    Ok(())
 }
 
 #[test]
-fn a_sure_source_is_read_to_its_end(rt: HostRuntime) -> Result<(), Fail> {
-    let mut sure = SureSource::new(rt.alloc(), b"tact 1 2 1\n")?;
-    let bytes = read_all(rt.alloc(), &mut sure, 11)?;
+fn a_sure_source_is_read_to_its_end(rt: HostRuntime) {
+    let mut sure = SureSource::new(rt.alloc(), b"tact 1 2 1\n").expect(&rt, "a source");
+    let bytes = read_all(rt.alloc(), &mut sure, 11).expect(&rt, "bytes");
     assert_eq!(rt; bytes.items(), b"tact 1 2 1\n".as_slice());
-    Ok(())
 }
 
 // The first moment of a clock, its step, and what it tells then.

@@ -1,7 +1,6 @@
 //! Scripts on shares, loans and what is reserved, and the text of their runs.
 
 use crate::playing::{THREE, TWO, prints};
-use std::test::Fail;
 
 // What a text begins with where two replicas lend 4 of 10.
 const TWO_LENT_FOUR: &str = "tact 1 2 1
@@ -141,9 +140,8 @@ static BUDGETS: [(&str, &str, &str); 7] = [
 ];
 
 #[test]
-fn budgets_hold(rt: HostRuntime) -> Result<(), Fail> {
+fn budgets_hold(rt: HostRuntime) {
     for &(script, header, lines) in &BUDGETS {
-        assert!(rt; prints(rt.alloc(), script, header, lines)?, "{script}");
+        assert!(rt; prints(&rt, rt.alloc(), script, header, lines), "{script}");
     }
-    Ok(())
 }

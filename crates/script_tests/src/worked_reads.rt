@@ -1,7 +1,6 @@
 //! Scripts with reads, and the text of their runs.
 
 use crate::playing::{THREE, TWO, prints};
-use std::test::Fail;
 
 // What a text begins with where two replicas lend all of 100.
 const TWO_OF_HUNDRED: &str = "tact 1 2 1
@@ -181,9 +180,8 @@ static READS: [(&str, &str, &str); 8] = [
 ];
 
 #[test]
-fn reads_are_told(rt: HostRuntime) -> Result<(), Fail> {
+fn reads_are_told(rt: HostRuntime) {
     for &(script, header, lines) in &READS {
-        assert!(rt; prints(rt.alloc(), script, header, lines)?, "{script}");
+        assert!(rt; prints(&rt, rt.alloc(), script, header, lines), "{script}");
     }
-    Ok(())
 }

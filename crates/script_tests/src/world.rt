@@ -6,8 +6,8 @@ ghost use Rattle.script_text.specs.Setups.{setup_of};
 
 use run_model::Line;
 use script_run::{World, parse_script};
-use std::test::Fail;
-use tact_base::{Bytes, NoMemory};
+use std::process::Abort;
+use tact_base::Bytes;
 
 const SCRIPT: &[u8] = b"start 2 1 0 0
 write 0 0 put 1 5
@@ -23,18 +23,17 @@ e 1 0 take 0 0
 ";
 
 #[test]
-fn a_world_keeps_what_its_lines_made(rt: HostRuntime) -> Result<(), Fail> {
-    let script = parse_script(rt.alloc(), SCRIPT).map_err(|_| "a script")?;
-    let mut world = World::new(rt.alloc(), script.config())?;
+fn a_world_keeps_what_its_lines_made(rt: HostRuntime) {
+    let script = parse_script(rt.alloc(), SCRIPT).expect(&rt, "a script");
+    let mut world = World::new(rt.alloc(), script.config()).expect(&rt, "a world");
     let mut text = Bytes::new(rt.alloc());
-    step_all(&mut world, script.lines(), &mut text)?;
+    step_all(&rt, &mut world, script.lines(), &mut text);
     assert_eq!(rt; text.items(), TEXT);
     assert_eq!(rt; world.entries().len(), 3);
-    Ok(())
 }
 
 // Does what the lines of a script say, in a world in which nothing has happened.
-fn step_all(world: &mut World, lines: &[Line], text: &mut Bytes) -> Result<(), NoMemory>
+fn step_all(rt: &impl Abort, world: &mut World, lines: &[Line], text: &mut Bytes)
     requires script { IsScript lines.now }
     requires few { length lines.now ≤ SCRIPT_LINES }
     requires setup { world.old.setup ≡ setup_of lines.now }
@@ -42,7 +41,6 @@ fn step_all(world: &mut World, lines: &[Line], text: &mut Bytes) -> Result<(), N
     requires unspent { world.old.spent ≡ false }
 {
     for line in lines {
-        world.step(line, text)?;
+        world.step(line, text).expect(rt, "a step");
     }
-    Ok(())
 }
