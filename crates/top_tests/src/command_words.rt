@@ -2,7 +2,6 @@
 
 use crate::obeying::assert_obeys;
 use run_model::{Status, UsageKind};
-use std::test::Fail;
 
 static LINES: [(&str, UsageKind); 34] = [
     ("", UsageKind::NoCommand),
@@ -42,9 +41,8 @@ static LINES: [(&str, UsageKind); 34] = [
 ];
 
 #[test]
-fn each_command_line_has_its_status(rt: HostRuntime) -> Result<(), Fail> {
+fn each_command_line_has_its_status(rt: HostRuntime) {
     for &(line, wanted) in &LINES {
-        assert_obeys(&rt, line, b"start 2 1 0 0\n", Status::Usage(wanted), b"")?;
+        assert_obeys(&rt, line, b"start 2 1 0 0\n", Status::Usage(wanted), b"");
     }
-    Ok(())
 }

@@ -4,23 +4,18 @@ use run_model::Status;
 use std::alloc::Global;
 use std::process::Abort;
 use std::sync::Wait;
-use std::test::Fail;
 use std::thread::Threads;
 use tact_io::{FreeGate, MemSink, MemSource, Shelf, StepClock, SureShelf};
 use tact_top::tact;
 
 // The words of a line.
-fn words_of(alloc: Global, line: &str) -> Result<Vec<String>, Fail> {
+fn words_of(rt: &impl Abort, alloc: Global, line: &str) -> Vec<String> {
     let mut words = Vec::new(alloc);
-    push_words(alloc, line, &mut words)?;
-    Ok(words)
-}
-
-fn push_words(alloc: Global, line: &str, words: &mut Vec<String>) -> Result<(), Fail> {
     for word in line.split_whitespace() {
-        words.push(String::from_str(alloc, word)?)?;
+        let word = String::from_str(alloc, word).expect(rt, "a word");
+        words.push(word).expect(rt, "room for a word");
     }
-    Ok(())
+    words
 }
 
 // What a command reads and writes.
@@ -30,10 +25,10 @@ struct Ends {
     sink: MemSink,
 }
 
-fn open(alloc: Global, input: &[u8], reads: &[u64], writes: &[u64]) -> Result<Ends, Fail> {
-    let source = MemSource::new(alloc, input, reads)?;
-    let sink = MemSink::new(alloc, writes)?;
-    Ok(Ends { source, sink })
+fn open(rt: &impl Abort, alloc: Global, input: &[u8], reads: &[u64], writes: &[u64]) -> Ends {
+    let source = MemSource::new(alloc, input, reads).expect(rt, "a source");
+    let sink = MemSink::new(alloc, writes).expect(rt, "a sink");
+    Ends { source, sink }
 }
 
 // Does what the words say. The clock stands at 7.
@@ -62,48 +57,45 @@ where
 
 /// The status of a command line on an input in memory, where the listed reads and writes fail, and the sink
 /// with what was written. The clock stands at 7, and no journal fails.
-pub(crate) fn obeyed<R: Threads + Wait + Sync + AllocGlobal>(
+pub(crate) fn obeyed<R: Threads + Wait + Sync + AllocGlobal + Abort>(
     rt: &R,
     line: &str,
     input: &[u8],
     reads: &[u64],
     writes: &[u64],
-) -> Result<(Status, MemSink), Fail> {
-    let mut shelf = SureShelf::new(rt.alloc())?;
+) -> (Status, MemSink) {
+    let mut shelf = SureShelf::new(rt.alloc()).expect(rt, "a shelf");
     obeyed_over(rt, line, input, reads, writes, &mut shelf)
 }
 
 /// The same over a shelf of journals.
-pub(crate) fn obeyed_over<R: Threads + Wait + Sync + AllocGlobal, B: Shelf>(
+pub(crate) fn obeyed_over<R: Threads + Wait + Sync + AllocGlobal + Abort, B: Shelf>(
     rt: &R,
     line: &str,
     input: &[u8],
     reads: &[u64],
     writes: &[u64],
     shelf: &mut B,
-) -> Result<(Status, MemSink), Fail>
+) -> (Status, MemSink)
 where
     B::J: Drop + Send,
 {
-    let words = words_of(rt.alloc(), line)?;
-    let mut ends = open(rt.alloc(), input, reads, writes)?;
+    let words = words_of(rt, rt.alloc(), line);
+    let mut ends = open(rt, rt.alloc(), input, reads, writes);
     let status = obey(rt, &words, &mut ends, shelf);
     let Ends { source: _, sink } = ends;
-    Ok((status, sink))
+    (status, sink)
 }
 
-/// What a command line writes on an input, where it ends Done.
-pub(crate) fn done<R: Threads + Wait + Sync + AllocGlobal>(
+/// What a command line writes on an input: it ends Done.
+pub(crate) fn done<R: Threads + Wait + Sync + AllocGlobal + Abort>(
     rt: &R,
     line: &str,
     input: &[u8],
-) -> Result<MemSink, Fail> {
-    let (status, sink) = obeyed(rt, line, input, &[], &[])?;
-    if status == Status::Done {
-        Ok(sink)
-    } else {
-        Err("a command that isn't done".into())
-    }
+) -> MemSink {
+    let (status, sink) = obeyed(rt, line, input, &[], &[]);
+    assert_eq!(rt; status, Status::Done, "{line}");
+    sink
 }
 
 /// A command line on an input ends so, and this is written.
@@ -113,11 +105,10 @@ pub(crate) fn assert_obeys<R: Threads + Wait + Sync + AllocGlobal + Abort>(
     input: &[u8],
     wanted: Status,
     written: &[u8],
-) -> Result<(), Fail> {
-    let (status, sink) = obeyed(rt, line, input, &[], &[])?;
+) {
+    let (status, sink) = obeyed(rt, line, input, &[], &[]);
     assert_eq!(rt; status, wanted, "{line}");
     assert_eq!(rt; sink.bytes(), written, "{line}");
-    Ok(())
 }
 
 /// Where these reads and writes fail, a command line ends so, and nothing is written.
@@ -128,9 +119,8 @@ pub(crate) fn assert_fails<R: Threads + Wait + Sync + AllocGlobal + Abort>(
     reads: &[u64],
     writes: &[u64],
     wanted: Status,
-) -> Result<(), Fail> {
-    let (status, sink) = obeyed(rt, line, input, reads, writes)?;
+) {
+    let (status, sink) = obeyed(rt, line, input, reads, writes);
     assert_eq!(rt; status, wanted, "{line}");
     assert_eq!(rt; sink.bytes().is_empty(), true, "{line}");
-    Ok(())
 }

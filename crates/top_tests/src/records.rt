@@ -2,7 +2,6 @@
 
 use crate::obeying::assert_obeys;
 use run_model::{ByteKind, Cause, InputKind, LineKind, Status};
-use std::test::Fail;
 
 // A record without entries, and its bytes.
 const EMPTY: &[u8] = b"tact 1 2 1
@@ -68,15 +67,14 @@ static FORMS: [(&str, &[u8], &[u8]); 5] = [
 ];
 
 #[test]
-fn forms_of_a_record(rt: HostRuntime) -> Result<(), Fail> {
+fn forms_of_a_record(rt: HostRuntime) {
     for &(line, input, wanted) in &FORMS {
-        assert_obeys(&rt, line, input, Status::Done, wanted)?;
+        assert_obeys(&rt, line, input, Status::Done, wanted);
     }
-    Ok(())
 }
 
 #[test]
-fn a_take_without_a_send(rt: HostRuntime) -> Result<(), Fail> {
+fn a_take_without_a_send(rt: HostRuntime) {
     let cause = Cause::NoSend { from: 0, number: 0 };
     let wanted = Status::Bad { entry: 0, cause };
     assert_obeys(
@@ -85,7 +83,7 @@ fn a_take_without_a_send(rt: HostRuntime) -> Result<(), Fail> {
         NO_SEND,
         wanted,
         b"bad 0 no-send 0 0\n",
-    )
+    );
 }
 
 // Each command, what it reads, and the place and the kind of the first fault.
@@ -105,9 +103,8 @@ static NO_RECORDS: [(&str, &[u8], u64, InputKind); 11] = [
 ];
 
 #[test]
-fn inputs_that_are_no_records(rt: HostRuntime) -> Result<(), Fail> {
+fn inputs_that_are_no_records(rt: HostRuntime) {
     for &(line, input, place, kind) in &NO_RECORDS {
-        assert_obeys(&rt, line, input, Status::BadInput { place, kind }, b"")?;
+        assert_obeys(&rt, line, input, Status::BadInput { place, kind }, b"");
     }
-    Ok(())
 }

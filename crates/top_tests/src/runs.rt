@@ -4,9 +4,8 @@ use crate::obeying::{assert_fails, assert_obeys, done, obeyed, obeyed_over};
 use run_model::{InputKind, LoadKind, Status};
 use std::process::Abort;
 use std::sync::Wait;
-use std::test::Fail;
 use std::thread::Threads;
-use tact_base::{Bytes, NoMemory};
+use tact_base::Bytes;
 use tact_io::{JournalFail, MemShelf, MemSink};
 
 const WORKED: &[u8] = br#"{"replicas":3,"conits":1,
@@ -19,15 +18,19 @@ const WORKED: &[u8] = br#"{"replicas":3,"conits":1,
   [2,0,[["write",["put",9,4],[[0,2,1]]],["back",0,0,10],["read",9,[]]]]]}"#;
 
 // A client of replica 0 that asks 1,000 times for what waits until its replica hears of the other.
-fn append_reads(text: &mut Bytes) -> Result<(), NoMemory> {
-    text.append(br#"{"replicas":2,"conits":1,"clients":[[0,0,["#)?;
+fn append_reads(rt: &impl Abort, text: &mut Bytes) {
+    append(rt, br#"{"replicas":2,"conits":1,"clients":[[0,0,["#, text);
     for read in 0..1_000 {
         if read > 0 {
-            text.append(b",")?;
+            append(rt, b",", text);
         }
-        text.append(br#"["read",1,[[0,0,0,0]]]"#)?;
+        append(rt, br#"["read",1,[[0,0,0,0]]]"#, text);
     }
-    text.append(b"]]]}")
+    append(rt, b"]]]}", text);
+}
+
+fn append(rt: &impl Abort, part: &[u8], text: &mut Bytes) {
+    text.append(part).expect(rt, "room for a part");
 }
 
 // Each command line, what is no workload, and the place and the kind of its first fault.
@@ -39,17 +42,16 @@ static NO_WORKLOADS: [(&str, &[u8], u64, LoadKind); 3] = [
 ];
 
 #[test]
-fn what_is_no_workload_has_its_place(rt: HostRuntime) -> Result<(), Fail> {
+fn what_is_no_workload_has_its_place(rt: HostRuntime) {
     for &(line, input, place, kind) in &NO_WORKLOADS {
         let kind = InputKind::Load(kind);
-        assert_obeys(&rt, line, input, Status::BadInput { place, kind }, b"")?;
+        assert_obeys(&rt, line, input, Status::BadInput { place, kind }, b"");
     }
-    Ok(())
 }
 
 // The line that is said of the record of the worked workload.
-fn assert_worked(rt: &impl Abort, said: &[u8]) -> Result<(), Fail> {
-    let line = str::from_utf8(said)?;
+fn assert_worked(rt: &impl Abort, said: &[u8]) {
+    let line = str::from_utf8(said).expect(rt, "a line");
     assert!(rt;
         line.starts_with("run ") && line.ends_with(" lends 1 backs 1 restarts 0\n"),
         "{line}"
@@ -58,55 +60,50 @@ fn assert_worked(rt: &impl Abort, said: &[u8]) -> Result<(), Fail> {
         !line.contains(" sends 0 ") && !line.contains(" takes 0 "),
         "{line}"
     );
-    Ok(())
 }
 
 #[test]
-fn the_worked_workload_runs_to_its_end(rt: HostRuntime) -> Result<(), Fail> {
-    let record = done(&rt, "tactcli run --tries 50", WORKED)?;
-    let said = done(&rt, "tactcli check", record.bytes())?;
-    assert_worked(&rt, said.bytes())
+fn the_worked_workload_runs_to_its_end(rt: HostRuntime) {
+    let record = done(&rt, "tactcli run --tries 50", WORKED);
+    let said = done(&rt, "tactcli check", record.bytes());
+    assert_worked(&rt, said.bytes());
 }
 
 #[test]
-fn a_run_that_is_not_written(rt: HostRuntime) -> Result<(), Fail> {
-    assert_fails(&rt, "tactcli run", WORKED, &[], &[0], Status::WriteFault)
+fn a_run_that_is_not_written(rt: HostRuntime) {
+    assert_fails(&rt, "tactcli run", WORKED, &[], &[0], Status::WriteFault);
 }
 
 // Each entry of the record is of replica 0, at the moment 7.
-fn assert_entries(rt: &impl Abort, record: &[u8]) -> Result<(), Fail> {
-    for line in str::from_utf8(record)?.lines() {
+fn assert_entries(rt: &impl Abort, record: &[u8]) {
+    let text = str::from_utf8(record).expect(rt, "a text");
+    for line in text.lines() {
         assert_eq!(rt;
             !line.starts_with("e ") || line.starts_with("e 0 7 "),
             true,
             "{line}"
         );
     }
-    Ok(())
 }
 
-fn assert_full<R: Threads + Wait + Sync + AllocGlobal + Abort>(
-    rt: &R,
-    record: &[u8],
-) -> Result<(), Fail> {
-    assert_entries(rt, record)?;
-    let said = done(rt, "tactcli check", record)?;
+fn assert_full<R: Threads + Wait + Sync + AllocGlobal + Abort>(rt: &R, record: &[u8]) {
+    assert_entries(rt, record);
+    let said = done(rt, "tactcli check", record);
     assert_eq!(rt; said.bytes().starts_with(b"run 20000 calls "), true);
-    Ok(())
 }
 
 #[test]
-fn the_run_of_a_full_replica_is_written(rt: HostRuntime) -> Result<(), Fail> {
+fn the_run_of_a_full_replica_is_written(rt: HostRuntime) {
     let mut input = Bytes::new(rt.alloc());
-    append_reads(&mut input)?;
-    let (status, sink) = obeyed(&rt, "tactcli run", input.items(), &[], &[])?;
+    append_reads(&rt, &mut input);
+    let (status, sink) = obeyed(&rt, "tactcli run", input.items(), &[], &[]);
     let wanted = Status::Full {
         replica: 0,
         count: 20_000,
         clock: 0,
     };
     assert_eq!(rt; status, wanted);
-    assert_full(&rt, sink.bytes())
+    assert_full(&rt, sink.bytes());
 }
 
 const ONCE: JournalFail = JournalFail {
@@ -120,35 +117,30 @@ const AGAIN: JournalFail = JournalFail {
 };
 
 // How a run of one write ends over journals of which these calls fail, and what is written.
-fn run_over<R: Threads + Wait + Sync + AllocGlobal>(
+fn run_over<R: Threads + Wait + Sync + AllocGlobal + Abort>(
     rt: &R,
     fails: &[JournalFail],
-) -> Result<(Status, MemSink), Fail> {
-    let mut shelf = MemShelf::new(rt.alloc(), fails)?;
+) -> (Status, MemSink) {
+    let mut shelf = MemShelf::new(rt.alloc(), fails).expect(rt, "a shelf");
     let input = br#"{"replicas":2,"conits":1,"clients":[[0,0,[["write",["put",1,7],[]]]]]}"#;
     obeyed_over(rt, "tactcli run", input, &[], &[], &mut shelf)
 }
 
-fn assert_restarted<R: Threads + Wait + Sync + AllocGlobal + Abort>(
-    rt: &R,
-    record: &[u8],
-) -> Result<(), Fail> {
-    let said = done(rt, "tactcli check", record)?;
+fn assert_restarted<R: Threads + Wait + Sync + AllocGlobal + Abort>(rt: &R, record: &[u8]) {
+    let said = done(rt, "tactcli check", record);
     assert!(rt; said.bytes().ends_with(b" restarts 1\n"));
-    Ok(())
 }
 
 #[test]
-fn a_run_whose_journal_fails_once_is_written(rt: HostRuntime) -> Result<(), Fail> {
-    let (status, sink) = run_over(&rt, &[ONCE])?;
+fn a_run_whose_journal_fails_once_is_written(rt: HostRuntime) {
+    let (status, sink) = run_over(&rt, &[ONCE]);
     assert_eq!(rt; status, Status::Done);
-    assert_restarted(&rt, sink.bytes())
+    assert_restarted(&rt, sink.bytes());
 }
 
 #[test]
-fn a_run_whose_journal_fails_again_writes_nothing(rt: HostRuntime) -> Result<(), Fail> {
-    let (status, sink) = run_over(&rt, &[ONCE, AGAIN])?;
+fn a_run_whose_journal_fails_again_writes_nothing(rt: HostRuntime) {
+    let (status, sink) = run_over(&rt, &[ONCE, AGAIN]);
     assert_eq!(rt; status, Status::JournalFault { replica: 0 });
     assert_eq!(rt; sink.bytes().is_empty(), true);
-    Ok(())
 }
