@@ -4,7 +4,6 @@ ghost use Rattle.std.specs.Prelude.{◌<◌};
 use crate::running::run_surely;
 use run_model::{Act, Entry};
 use std::sync::atomic::{AtomicBool, AtomicU64, Ordering};
-use std::test::Fail;
 use std::thread;
 use tact_io::Gate;
 
@@ -86,14 +85,12 @@ fn calls_before(entries: &[Entry], replica: u32, first: First) -> (Option<u64>, 
 }
 
 #[test]
-fn workers_run_side_by_side_and_send_and_take_between_their_items(
-    rt: HostRuntime,
-) -> Result<(), Fail> {
+fn workers_run_side_by_side_and_send_and_take_between_their_items(rt: HostRuntime) {
     let gate = Crossing {
         calls: [AtomicU64::new(0), AtomicU64::new(0)],
         given_up: AtomicBool::new(false),
     };
-    let run = run_surely(&rt, rt.alloc(), PLAN, 20, &gate)?;
+    let run = run_surely(&rt, rt.alloc(), PLAN, 20, &gate);
     assert!(rt;
         !gate.given_up.load(Ordering::SeqCst),
         "no call was held for too long"
@@ -103,5 +100,4 @@ fn workers_run_side_by_side_and_send_and_take_between_their_items(
         calls_before(run.entries(), 0, First::TakeFrom(1)),
         (Some(1), 2)
     );
-    Ok(())
 }

@@ -5,7 +5,6 @@ use run_work::{Run, run_plan};
 use std::alloc::Global;
 use std::process::Abort;
 use std::sync::Wait;
-use std::test::Fail;
 use std::thread::Threads;
 use tact_io::{Gate, Shelf, StepClock, SureShelf};
 use work_load::{Plan, parse_plan};
@@ -37,10 +36,10 @@ pub(crate) fn run_surely<R: Threads + Wait + Sync + Abort, G: Gate + Sync>(
     workload: &[u8],
     tries: u64,
     gate: &G,
-) -> Result<Run, Fail>
+) -> Run
     requires { 0 < tries }
 {
-    let plan = parse_plan(alloc, workload)?;
-    let mut shelf = SureShelf::new(alloc)?;
-    Ok(run_over(rt, alloc, &plan, tries, gate, &mut shelf))
+    let plan = parse_plan(alloc, workload).expect(rt, "a plan");
+    let mut shelf = SureShelf::new(alloc).expect(rt, "a shelf");
+    run_over(rt, alloc, &plan, tries, gate, &mut shelf)
 }

@@ -7,9 +7,8 @@ use run_work::{RunFault, run_plan};
 use std::alloc::Global;
 use std::process::Abort;
 use std::sync::Wait;
-use std::test::Fail;
 use std::thread::Threads;
-use tact_base::{Bytes, NoMemory};
+use tact_base::Bytes;
 use tact_io::{FreeGate, StepClock, SureShelf};
 use work_load::{Plan, parse_plan};
 
@@ -23,33 +22,36 @@ pub(crate) const WORKED: &[u8] = br#"{"replicas":3,"conits":1,
   [2,0,[["write",["put",9,4],[[0,2,1]]],["back",0,0,10],["read",9,[]]]]]}"#;
 
 #[test]
-fn the_worked_workload_runs_to_its_end(rt: HostRuntime) -> Result<(), Fail> {
-    let run = run_surely(&rt, rt.alloc(), WORKED, 50, &FreeGate::new())?;
+fn the_worked_workload_runs_to_its_end(rt: HostRuntime) {
+    let run = run_surely(&rt, rt.alloc(), WORKED, 50, &FreeGate::new());
     let kinds = kinds_of(run.entries());
     assert!(rt; 0 < kinds.sends && 0 < kinds.takes);
     assert_eq!(rt;
         (kinds.calls, kinds.lends, kinds.backs, kinds.restarts),
         (10, 1, 1, 0)
     );
-    Ok(())
 }
 
 // A client of replica 0 that asks 1,000 times for what waits until its replica hears of the other.
-fn append_reads(text: &mut Bytes) -> Result<(), NoMemory> {
-    text.append(br#"{"replicas":2,"conits":1,"clients":[[0,0,["#)?;
+fn append_reads(rt: &impl Abort, text: &mut Bytes) {
+    append(rt, br#"{"replicas":2,"conits":1,"clients":[[0,0,["#, text);
     for read in 0..1_000 {
         if read > 0 {
-            text.append(b",")?;
+            append(rt, b",", text);
         }
-        text.append(br#"["read",1,[[0,0,0,0]]]"#)?;
+        append(rt, br#"["read",1,[[0,0,0,0]]]"#, text);
     }
-    text.append(b"]]]}")
+    append(rt, b"]]]}", text);
 }
 
-fn plan_of_reads(alloc: Global) -> Result<Plan, Fail> {
+fn append(rt: &impl Abort, part: &[u8], text: &mut Bytes) {
+    text.append(part).expect(rt, "room for a part");
+}
+
+fn plan_of_reads(rt: &impl Abort, alloc: Global) -> Plan {
     let mut text = Bytes::new(alloc);
-    append_reads(&mut text)?;
-    Ok(parse_plan(alloc, text.items())?)
+    append_reads(rt, &mut text);
+    parse_plan(alloc, text.items()).expect(rt, "a plan")
 }
 
 // Each entry is of the moment 7, and there are as many as a replica may have.
@@ -85,11 +87,10 @@ fn assert_full<R: Threads + Wait + Sync + Abort>(
 }
 
 #[test]
-fn a_replica_becomes_full_at_the_moments_of_the_clock(rt: HostRuntime) -> Result<(), Fail> {
-    let plan = plan_of_reads(rt.alloc())?;
-    let mut shelf = SureShelf::new(rt.alloc())?;
+fn a_replica_becomes_full_at_the_moments_of_the_clock(rt: HostRuntime) {
+    let plan = plan_of_reads(&rt, rt.alloc());
+    let mut shelf = SureShelf::new(rt.alloc()).expect(&rt, "a shelf");
     assert_full(&rt, rt.alloc(), &plan, &mut shelf);
-    Ok(())
 }
 
 // How many calls there are: each is the first of client 4 of replica 1.
@@ -105,10 +106,10 @@ fn first_calls(rt: &impl Abort, entries: &[Entry]) -> u64 {
 }
 
 #[test]
-fn sessions_of_replicas_without_clients_settle_a_run(rt: HostRuntime) -> Result<(), Fail> {
+fn sessions_of_replicas_without_clients_settle_a_run(rt: HostRuntime) {
     let text =
         br#"{"replicas":3,"conits":1,"settle":2,"clients":[[1,4,[["write",["put",1,7],[]],["restart"]]]]}"#;
-    let run = run_surely(&rt, rt.alloc(), text, 1, &FreeGate::new())?;
+    let run = run_surely(&rt, rt.alloc(), text, 1, &FreeGate::new());
     let kinds = kinds_of(run.entries());
     assert_eq!(rt;
         (
@@ -120,5 +121,4 @@ fn sessions_of_replicas_without_clients_settle_a_run(rt: HostRuntime) -> Result<
         ),
         (1, 1, 16, 16, 1)
     );
-    Ok(())
 }
