@@ -37,10 +37,14 @@ fn put<J: Journal>(rt: &impl Abort, journal: &mut J, piece: &[u8]) -> Result<(),
 /// The first three pieces, each ended by a semicolon.
 fn pieces(rt: &impl Abort, alloc: Global, journal: &mut MemJournal) -> Bytes {
     let mut text = Bytes::new(alloc);
-    for at in 0..3 {
-        append_piece(rt, journal, at, &mut text);
-    }
+    append_pieces(rt, journal, &mut text);
     text
+}
+
+fn append_pieces(rt: &impl Abort, journal: &mut MemJournal, text: &mut Bytes) {
+    for at in 0..3 {
+        append_piece(rt, journal, at, text);
+    }
 }
 
 fn append_piece(rt: &impl Abort, journal: &mut MemJournal, at: u64, text: &mut Bytes) {

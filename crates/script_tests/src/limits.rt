@@ -8,16 +8,16 @@ use std::process::Abort;
 // A script of so many blank lines after its first, each of so many spaces.
 fn padded(rt: &impl Abort, alloc: Global, lines: usize, spaces: usize) -> Vec<u8> {
     let mut script = Vec::from_slice(alloc, b"start 2 1 0 0").expect(rt, "a script");
-    for _ in 0..lines {
-        push_blank(rt, &mut script, spaces);
-    }
+    push_blanks(rt, &mut script, lines, spaces);
     script
 }
 
-fn push_blank(rt: &impl Abort, script: &mut Vec<u8>, spaces: usize) {
-    script.push(b'\n').expect(rt, "room for a line");
-    for _ in 0..spaces {
-        script.push(b' ').expect(rt, "room for a space");
+fn push_blanks(rt: &impl Abort, script: &mut Vec<u8>, lines: usize, spaces: usize) {
+    for _ in 0..lines {
+        script.push(b'\n').expect(rt, "room for a line");
+        for _ in 0..spaces {
+            script.push(b' ').expect(rt, "room for a space");
+        }
     }
 }
 

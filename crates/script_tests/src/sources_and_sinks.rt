@@ -96,13 +96,21 @@ static WRITES: [(&[u64], Result<(), OutFault>, Result<(), OutFault>, &[u8]); 4] 
     (&[1, 0], FAILED, FAILED, b""),
 ];
 
+fn two_writes(sink: &mut impl Sink) -> (Result<(), OutFault>, Result<(), OutFault>) {
+    let first = write_all(sink, b"one");
+    (first, write_all(sink, b"two"))
+}
+
 #[test]
 fn sinks_in_memory_fail_where_listed(rt: HostRuntime) {
     for &(fails, first, second, want) in &WRITES {
         let mut sink = MemSink::new(rt.alloc(), fails).expect(&rt, "a sink");
-        assert_eq!(rt; write_all(&mut sink, b"one"), first, "fails {fails:?}");
-        assert_eq!(rt; write_all(&mut sink, b"two"), second, "fails {fails:?}");
-        assert_eq!(rt; sink.bytes(), want, "fails {fails:?}");
+        let answers = two_writes(&mut sink);
+        assert_eq!(rt;
+            (answers, sink.bytes()),
+            ((first, second), want),
+            "fails {fails:?}"
+        );
     }
 }
 
