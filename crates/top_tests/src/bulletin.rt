@@ -28,8 +28,13 @@ const VERDICT: &str =
 // Forty posts, at the replicas in turn, with a round after every sixth and after the last.
 fn script(rt: &impl Abort, alloc: Global) -> String {
     let mut script = String::from_str(alloc, "start 3 1 20 10\n").expect(rt, "a script");
+    push_posts(rt, alloc, &mut script);
+    script
+}
+
+fn push_posts(rt: &impl Abort, alloc: Global, script: &mut String) {
     for key in 0..40_u64 {
-        push_post(rt, alloc, key, &mut script);
+        push_post(rt, alloc, key, script);
         if key % 6 == 5 || key == 39 {
             script.push_str(ROUND).expect(rt, "room for a round");
         }
@@ -37,7 +42,6 @@ fn script(rt: &impl Abort, alloc: Global) -> String {
     script
         .push_str(LAST_LINES)
         .expect(rt, "room for the last lines");
-    script
 }
 
 fn push_post(rt: &impl Abort, alloc: Global, key: u64, script: &mut String) {
@@ -54,12 +58,16 @@ fn played<R: Threads + Wait + Sync + AllocGlobal + Abort>(rt: &R) -> MemSink {
 // The lines of a text but its comments.
 fn without_comments(rt: &impl Abort, alloc: Global, text: &[u8]) -> Vec<u8> {
     let mut kept = Vec::new(alloc);
+    push_kept(rt, text, &mut kept);
+    kept
+}
+
+fn push_kept(rt: &impl Abort, text: &[u8], kept: &mut Vec<u8>) {
     for line in text.split_inclusive(|byte| *byte == b'\n') {
         if !line.starts_with(b"#") {
             kept.extend_from_slice(line).expect(rt, "room for a line");
         }
     }
-    kept
 }
 
 // The verdict on a record of the run.

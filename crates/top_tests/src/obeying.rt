@@ -11,11 +11,15 @@ use tact_top::tact;
 // The words of a line.
 fn words_of(rt: &impl Abort, alloc: Global, line: &str) -> Vec<String> {
     let mut words = Vec::new(alloc);
+    push_words(rt, alloc, line, &mut words);
+    words
+}
+
+fn push_words(rt: &impl Abort, alloc: Global, line: &str, words: &mut Vec<String>) {
     for word in line.split_whitespace() {
         let word = String::from_str(alloc, word).expect(rt, "a word");
         words.push(word).expect(rt, "room for a word");
     }
-    words
 }
 
 // What a command reads and writes.
