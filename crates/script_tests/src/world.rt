@@ -41,6 +41,8 @@ fn step_all(rt: &impl Abort, world: &mut World, lines: &[Line], text: &mut Bytes
     requires unspent { world.old.spent ≡ false }
 {
     for line in lines {
-        world.step(line, text).expect(rt, "a step");
+        let Ok(()) = world.step(line, text) else {
+            panic!(rt; "no memory")
+        };
     }
 }

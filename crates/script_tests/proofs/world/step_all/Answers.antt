@@ -12,8 +12,8 @@ step-requires c = record {
 pub loop-line-preserved : goal.loop-line-preserved
 loop-line-preserved c =
     let invariant = c.loop-line.invariant in (
-      c.in_ok-step.ensures.setup ∙ invariant.0,
-      c.in_ok-step.ensures.lines ∙ ap (λ (ls : List Line). ls ++ c.line-item.result ∷ []) invariant.1
+      c.in-Ok.ensures.setup ∙ invariant.0,
+      c.in-Ok.ensures.lines ∙ ap (λ (ls : List Line). ls ++ c.line-item.result ∷ []) invariant.1
           ∙ sym (front_is c.args.lines.now c.loop-line.line-index c.line-item.result c.loop-line-test.true c.line-item.is),
-      c.in_ok-step.ensures.unspent.1,
+      c.in-Ok.ensures.unspent.1,
     )
