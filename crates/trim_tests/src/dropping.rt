@@ -59,15 +59,18 @@ const ONE: Cover = Cover {
 
 // What each of the pair knows then.
 #[rattlefmt::skip]
-static PAIR: [Known; 2] = [
-    Known { haves: [1, 1, 0], known: [[0; 3], [1, 1, 0], [0; 3]], covers: [ONE, ONE, NOTHING], clock: 1 },
-    Known { haves: [1, 1, 0], known: [[1, 0, 0], [0; 3], [0; 3]], covers: [ONE, ONE, NOTHING], clock: 1 },
-];
+fn pair_known() -> [Known; 2] {
+    [
+        Known { haves: [1, 1, 0], known: [[0; 3], [1, 1, 0], [0; 3]], covers: [ONE, ONE, NOTHING], clock: 1 },
+        Known { haves: [1, 1, 0], known: [[1, 0, 0], [0; 3], [0; 3]], covers: [ONE, ONE, NOTHING], clock: 1 },
+    ]
+}
 
 fn assert_both(rt: &impl Abort, pair: &[Member]) {
     assert!(rt; pair.len() == 2);
-    assert_pair_member(rt, &pair[0], &PAIR[0], 2);
-    assert_pair_member(rt, &pair[1], &PAIR[1], 1);
+    let known = pair_known();
+    assert_pair_member(rt, &pair[0], &known[0], 2);
+    assert_pair_member(rt, &pair[1], &known[1], 1);
     let held = pair[1].replica.committed();
     assert!(rt; held.len() == 1);
     assert_eq!(rt; (held[0].origin, held[0].index), (1, 0));
@@ -131,10 +134,12 @@ const HEARD: Cover = Cover {
 
 // What the first and the second of the trio know then, and how the last one settled its write.
 #[rattlefmt::skip]
-static TRIO: [Known; 2] = [
-    Known { haves: [1, 0, 1], known: [[0; 3], [1, 0, 1], [0; 3]], covers: [ONE, HEARD, ONE], clock: 1 },
-    Known { haves: [1, 0, 1], known: [[1, 0, 0], [0; 3], [0, 0, 1]], covers: [ONE, HEARD, ONE], clock: 1 },
-];
+fn trio_known() -> [Known; 2] {
+    [
+        Known { haves: [1, 0, 1], known: [[0; 3], [1, 0, 1], [0; 3]], covers: [ONE, HEARD, ONE], clock: 1 },
+        Known { haves: [1, 0, 1], known: [[1, 0, 0], [0; 3], [0, 0, 1]], covers: [ONE, HEARD, ONE], clock: 1 },
+    ]
+}
 
 static LAST: Settled = Settled {
     point: 0,
@@ -148,8 +153,9 @@ static LAST: Settled = Settled {
 // The first and the second committed both writes, and hold them.
 fn assert_one_lacks(rt: &impl Abort, trio: &[Member]) {
     assert!(rt; trio.len() == 3);
-    assert_trio_member(rt, &trio[0], &TRIO[0]);
-    assert_trio_member(rt, &trio[1], &TRIO[1]);
+    let known = trio_known();
+    assert_trio_member(rt, &trio[0], &known[0]);
+    assert_trio_member(rt, &trio[1], &known[1]);
     assert_eq!(rt; &trio[2].settled(), &LAST);
 }
 

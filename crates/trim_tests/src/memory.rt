@@ -202,38 +202,40 @@ static EXCHANGES: [(Turn, Answer); 6] = [
 
 // What can be read then: the other's two writes are seen, of the own ones the last is tentative.
 #[rattlefmt::skip]
-static READ: Readings = Readings {
-    known: Known {
-        haves: [3, 2, 0],
-        known: [[0; 3], [0, 2, 0], [0; 3]],
-        covers: [Cover { count: 3, stamp: 3, moment: 10 }, Cover { count: 2, stamp: 2, moment: 7 }, NOTHING],
-        clock: 3,
-    },
-    settled: Settled {
-        point: 2,
-        count: 4,
-        last: Some(LastOne { origin: 1, index: 1 }),
-        dropped: 0,
-        held: 4,
-        tentative: 1,
-    },
-    values: Values { conits: [5, 0], weights: [2, 0], keys: [4, 12] },
-    counts: Counts {
-        entries: 12,
-        calls: 7,
-        last: 10,
-        spare: 100,
-        reserved: 5,
-        missing: (3, 4),
-        home: 0,
-        free: 0,
-    },
-};
+fn all_read() -> Readings {
+    Readings {
+        known: Known {
+            haves: [3, 2, 0],
+            known: [[0; 3], [0, 2, 0], [0; 3]],
+            covers: [Cover { count: 3, stamp: 3, moment: 10 }, Cover { count: 2, stamp: 2, moment: 7 }, NOTHING],
+            clock: 3,
+        },
+        settled: Settled {
+            point: 2,
+            count: 4,
+            last: Some(LastOne { origin: 1, index: 1 }),
+            dropped: 0,
+            held: 4,
+            tentative: 1,
+        },
+        values: Values { conits: [5, 0], weights: [2, 0], keys: [4, 12] },
+        counts: Counts {
+            entries: 12,
+            calls: 7,
+            last: 10,
+            spare: 100,
+            reserved: 5,
+            missing: (3, 4),
+            home: 0,
+            free: 0,
+        },
+    }
+}
 
 fn run_all(rt: &impl Abort, member: &mut Member, given: &Given<'_>) {
     take_all(rt, member, given, &WRITES_AND_READS);
     take_all(rt, member, given, &EXCHANGES);
-    assert_eq!(rt; &read(member), &READ);
+    assert_eq!(rt; &read(member), &all_read());
 }
 
 #[test]
