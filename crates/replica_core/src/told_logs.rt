@@ -120,6 +120,9 @@ impl ToldLogs {
             return Ok(told.writes.clone()?);
         }
         let writes = self.pieces(alloc, firsts, &ends, count)?;
+        if count < MESSAGE_WRITES {
+            return Ok(SharedWrites::alone(writes));
+        }
         SharedWrites::new(alloc, writes)
     }
 

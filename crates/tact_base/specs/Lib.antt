@@ -12,3 +12,4 @@ pub mod Admission
 pub mod Roomy
 pub mod RoomyLends
 pub mod Blanks
+pub mod SharedList

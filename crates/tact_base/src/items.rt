@@ -132,6 +132,15 @@ impl<T: Copy> Items<T> {
         Ok(())
     }
 
+    /// The same items in a list of their own, in memory of the same allocator.
+    pub fn copied(&self) -> Result<Self, AllocError>
+        ensures { IfOk result (λ list. list ≡ self.now) }
+    {
+        Ok(Items {
+            items: Vec::from_slice(*self.items.allocator(), &self.items)?,
+        })
+    }
+
     /// A list of these items, in memory of `alloc`.
     pub fn from_slice(alloc: Global, items: &[T]) -> Result<Self, NoMemory>
         ensures { IfOk result (λ list. list ≡ items.now) }

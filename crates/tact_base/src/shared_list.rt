@@ -6,22 +6,29 @@ use std::alloc::{AllocError, Global};
 use std::marker::Model;
 use std::sync::Arc;
 
-/// A list that doesn't change any more. Its clones share its memory, which goes with the last of them; they may be in
-/// different threads. Contracts see it as the list of its items.
+/// A list that doesn't change any more. One that is shared costs an allocation beside that of its items, and its clones
+/// share its memory, which goes with the last of them; they may be in different threads. One that stands alone costs none
+/// beside that of its items, and a clone of it copies these. Contracts see the list of its items.
 #[derive(Debug, Drop)]
 pub struct SharedList<T> {
-    // The list, where it has an item.
-    list: Option<Arc<Items<T>, Global>>,
+    list: Held<T>,
+}
+
+// Where a list has its items.
+#[derive(Debug, Drop)]
+enum Held<T> {
+    Nowhere,
+    Alone(Items<T>),
+    Shared(Arc<Items<T>, Global>),
 }
 
 impl<T> Model for SharedList<T> {
-    ghost use Rattle.std.specs.Prelude.{List, []};
-    ghost use Rattle.std.specs.Option.{option_map_or};
-    ghost use Rattle.std.specs.Arc.{arc_value};
+    ghost use Rattle.std.specs.Prelude.{List};
+    ghost use Rattle.tact_base.specs.SharedList.{items_held};
 
     ghost Value = { List T };
 
-    ghost view = { λ l. option_map_or arc_value l.list [] };
+    ghost view = { λ l. items_held l.list };
 }
 
 impl<T: Drop> SharedList<T> {
@@ -34,7 +41,7 @@ impl<T: Drop> SharedList<T> {
             return Ok(SharedList::empty());
         }
         Ok(SharedList {
-            list: Some(Arc::new(alloc, list)?),
+            list: Held::Shared(Arc::new(alloc, list)?),
         })
     }
 }
@@ -44,7 +51,18 @@ impl<T> SharedList<T> {
     pub fn empty() -> Self
         ensures { result ≡ [] }
     {
-        SharedList { list: None }
+        SharedList {
+            list: Held::Nowhere,
+        }
+    }
+
+    /// The list of these items, which stands alone. Takes no memory.
+    pub fn alone(list: Items<T>) -> Self
+        ensures { result ≡ list }
+    {
+        SharedList {
+            list: Held::Alone(list),
+        }
     }
 
     /// The items, in order.
@@ -52,8 +70,9 @@ impl<T> SharedList<T> {
         ensures { result.now ≡ self.now }
     {
         match &self.list {
-            None => &[],
-            Some(list) => list.items(),
+            Held::Nowhere => &[],
+            Held::Alone(list) => list.items(),
+            Held::Shared(list) => list.items(),
         }
     }
 
@@ -72,14 +91,15 @@ impl<T> SharedList<T> {
     }
 }
 
-impl<T: Drop> Clone for SharedList<T> {
+impl<T: Copy> Clone for SharedList<T> {
     ghost is_clone = { λ old new. new ≡ old };
 
     fn clone(&self) -> Result<Self, AllocError> {
         Ok(match &self.list {
-            None => SharedList::empty(),
-            Some(list) => SharedList {
-                list: Some(Arc::try_clone(list)?),
+            Held::Nowhere => SharedList::empty(),
+            Held::Alone(list) => SharedList::alone(list.copied()?),
+            Held::Shared(list) => SharedList {
+                list: Held::Shared(Arc::try_clone(list)?),
             },
         })
     }
