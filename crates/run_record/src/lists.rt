@@ -306,16 +306,6 @@ fn fill<'a, T: Listed>(
     Ok((count, rest))
 }
 
-// The list of no items.
-fn no_items<T: OnConit>() -> ConitList<T>
-    ensures { result ≡ [] }
-{
-    match ConitList::new(&[]) {
-        Ok(list) => list,
-        Err(_) => unreachable!(),
-    }
-}
-
 /// One weight `CONIT:NWEIGHT:OWEIGHT`. Of its token `NotNumber`, then `OutOfRange`. Takes no memory.
 pub fn weight_at(rest: &[u8], conits: u32) -> Result<(Weight, &[u8]), LineFault>
     requires { 0 < conits }
@@ -336,7 +326,7 @@ pub fn weights_at(rest: &[u8], conits: u32, end: ListEnd) -> Result<(Weights, &[
     ensures weights { Gives (λ x. (x.0, tokens x.1.now)) result (weights_at conits end (tokens rest.now)) }
 {
     if rest.is_empty() {
-        return Ok((no_items(), rest));
+        return Ok((ConitList::empty(), rest));
     }
     some_weights_at(rest, conits, end)
 }
@@ -362,7 +352,7 @@ pub fn needs_at(rest: &[u8], conits: u32, end: ListEnd) -> Result<(Needs, &[u8])
     ensures needs { Gives (λ x. (x.0, tokens x.1.now)) result (needs_at conits end (tokens rest.now)) }
 {
     if rest.is_empty() {
-        return Ok((no_items(), rest));
+        return Ok((ConitList::empty(), rest));
     }
     some_needs_at(rest, conits, end)
 }

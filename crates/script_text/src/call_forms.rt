@@ -1,6 +1,6 @@
 //! The forms of lines in which a client calls. Each reader is given what is left of the line after its first
 //! word, and the counts of replicas and conits, and adds the line to those before it.
-ghost use Rattle.std.specs.Prelude.{◌≡◌, ◌<◌, [], vec_len};
+ghost use Rattle.std.specs.Prelude.{◌≡◌, ◌<◌, vec_len};
 ghost use Rattle.std.specs.Vec.{vec_capacity};
 ghost use Rattle.run_record.specs.Splitting.{tokens};
 ghost use Rattle.script_text.specs.Adding.{AddsLine};
@@ -36,7 +36,7 @@ pub(crate) fn write_line(
             replica,
             client,
             op,
-            weights: no_weights(),
+            weights: Weights::empty(),
         });
         return Ok(());
     }
@@ -52,16 +52,6 @@ pub(crate) fn write_line(
         weights,
     });
     Ok(())
-}
-
-// The list of no weights.
-fn no_weights() -> Weights
-    ensures { result ≡ [] }
-{
-    match Weights::new(&[]) {
-        Ok(list) => list,
-        Err(_) => unreachable!(),
-    }
 }
 
 /// `held R K OP WEIGHT`

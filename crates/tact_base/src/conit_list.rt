@@ -1,4 +1,4 @@
-ghost use Rattle.std.specs.Prelude.{◌≡◌, ◌≤◌, ◌&&◌, ◌<◌, ℕ, Bool, length, nat_le, MatchResult, Some, None, pos};
+ghost use Rattle.std.specs.Prelude.{◌≡◌, ◌≤◌, ◌&&◌, ◌<◌, ℕ, Bool, length, nat_le, MatchResult, Some, None, pos, []};
 ghost use Rattle.std.specs.Cmp.Lexicographic.{pointwise, lists_equiv, lists_per};
 ghost use Rattle.std.specs.Int.RustNames.{unsigned_abs};
 ghost use Rattle.tact_base.specs.ConitList.{first_unordered, first_out_of_limits, list_fault, IsConitList};
@@ -159,6 +159,16 @@ impl<T: OnConit> ConitList<T> {
         Ok(ConitList {
             items: Few::new(items),
         })
+    }
+
+    /// The list of no items. Takes no memory.
+    pub fn empty() -> Self
+        ensures { result ≡ [] }
+    {
+        match ConitList::new(&[]) {
+            Ok(list) => list,
+            Err(_) => unreachable!(),
+        }
     }
 
     /// The items, in order.

@@ -8,4 +8,4 @@ pub returns-then-is_empty-clause-needs : goal.returns-then-is_empty-clause-needs
 unfolding list_at
 returns-then-is_empty-clause-needs c =
     let empty : length c.args.rest.now ≡ 0 = grind (arith, nat_tests) in
-    rw (tokens_none c.args.rest.now empty, c.no_items.ensures) refl
+    rw (tokens_none c.args.rest.now empty, c.empty.ensures) refl

@@ -21,12 +21,12 @@ unfolding write_line list_at end_at
 returns-then-is_empty c =
     let empty : length c.in_ok-op.rest.now ≡ 0 = grind (arith, nat_tests) in
     record {
-      line = line.Write c.in_ok-replica.replica c.in_ok-client.client c.in_ok-op.op c.no_weights.result;
-      says = rw (c.in_ok-replica.ensures.replica, c.in_ok-client.ensures.client, c.in_ok-op.ensures.op, tokens_none c.in_ok-op.rest.now empty, c.no_weights.ensures) refl;
+      line = line.Write c.in_ok-replica.replica c.in_ok-client.client c.in_ok-op.op c.empty.result;
+      says = rw (c.in_ok-replica.ensures.replica, c.in_ok-client.ensures.client, c.in_ok-op.ensures.op, tokens_none c.in_ok-op.rest.now empty, c.empty.ensures) refl;
       in_range = record {
         replica_in = c.in_ok-replica.ensures.within;
         client_in = c.in_ok-client.ensures.within;
-        request_in = (none_in_range (bare c.args.replicas c.args.conits) c.no_weights.result c.no_weights.ensures, c.in_ok-op.ensures.within);
+        request_in = (none_in_range (bare c.args.replicas c.args.conits) c.empty.result c.empty.ensures, c.in_ok-op.ensures.within);
       };
       added = c.push_reserved.ensures.items;
     }
