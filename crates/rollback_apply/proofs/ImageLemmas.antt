@@ -1,26 +1,35 @@
 -- What operations do to an image, key by key, and how the layers that are kept follow them.
 use Rattle.std.proofs.Common.{◌≡◌, ℕ, zero, suc, pos, ◌+ℤ◌, ◌-ℤ◌, ◌-◌, ◌+◌, ◌<◌, ◌≤◌, Bool, true, false, ◌==◌}
-use Rattle.std.proofs.Common.{if◌then◌else◌, nat_le, slice_get, List, [], ◌∷◌, ◌++◌, length, get_or, take, drop, insert, set, All}
+use Rattle.std.proofs.Common.{if◌then◌else◌, nat_le, slice_get, List, [], ◌∷◌, ◌++◌, length, get_or, take, drop, insert, set}
 use Rattle.std.proofs.Common.{Option, Some, None, refl, sym, ap, ap₂, ◌∙◌, ◌*◌, map, arith}
 use Rattle.std.specs.List.{sum_by}
 use Rattle.std.proofs.lemmas.Bool.{or_parts, eqb-true, le-leb}
 use Rattle.std.proofs.lemmas.List.{get_or-map, get_or-take, same_from_push, take_all, take_more, take_more_set, take-append-drop, take-append-le, take-map, drop-map, map-append, length-map, length-take}
-use Rattle.std.proofs.lemmas.List.Elements.{All-append, All-cons, All-drop, All-get_or, All-head, All-tail, All-take, All-weaker}
+use Rattle.std.proofs.lemmas.List.Elements.{All-get_or, All-take, All-weaker}
 use Rattle.std.proofs.lemmas.List.Sums.{fold-append, sum_by-append, sum_by-cons, sum_by-le-sum_by}
 use Rattle.std.specs.Option.{option_map_or}
+use Rattle.std.specs.Vec.{vec_capacity}
 use Rattle.std.proofs.Math.Seq.{drop-append_seam, drop-cons, take-add}
 use Rattle.tact_base.proofs.ListLemmas.{fold-push}
-use Rattle.tact_base.specs.Images.{Image, capped, with_value, shift_acts, after_op, image_from, ops_of}
+use Rattle.tact_base.specs.Images.{Image, capped, with_value, shift_acts, after_op, image_from}
 use Rattle.tact_base.specs.declared.write.Op.{Op}
 use Rattle.tact_base.specs.declared.write.Write.{Write}
 use Rattle.tact_base.specs.declared.write.Op.TheVariants.{Put, Add, Shift}
 use Rattle.rollback_apply.specs.Image.{ImageState, base_of, value_before, AreJoined}
 use Rattle.rollback_apply.specs.Keys.{first_key, second_key, names, key_values, with_key_values, value_among, undos_of}
 use Rattle.rollback_apply.specs.Current.{CurrentState, place_of, holds, lacking, Extends, KeepPlaces}
-use Rattle.rollback_apply.specs.Layers.{ops_in, wanted, all_wanted, ArePlaced, HasPlaces, SetsKeys, IsApplied}
+use Rattle.rollback_apply.specs.Layers.{ops_in, wanted, all_wanted, ArePlaced, HasMemory, HasPlaces, SetsKeys, IsApplied}
 use Rattle.rollback_apply.specs.declared.keys.KeyValues.{KeyValues}
 use Rattle.rollback_apply.specs.declared.layers.Layer.{Layer}
+use Rattle.rollback_apply.specs.declared.layers.Layers.{Layers}
 use Rattle.rollback_apply.specs.declared.layers.Places.{Places}
+
+-- the front of a longer front
+pub take-within : {A : Type 0} (n at : ℕ) (xs : List A) → n ≤ at → take n (take at xs) ≡ take n xs
+take-within zero at xs within = refl
+take-within (suc n) zero xs within = absurd (omega (arith, within))
+take-within (suc n) (suc at) [] within = refl
+take-within (suc n) (suc at) (x ∷ xs) within = ap (λ rest. x ∷ rest) (take-within n at xs (omega (arith, within)))
 
 -- images that agree at each key are one
 pub same_image : (f g : Image) → ((key : ℕ) → f key ≡ g key) → f ≡ g
@@ -166,14 +175,26 @@ applied-pop base old new layers layer applied sets =
           ∙ with_key_values-other (after_op now op) now op (after_op-unnamed now op) key;
     }
 
--- the keys of one of the layers have their places
-pub places-of : (current : CurrentState) (layers : List Layer) (at : ℕ) (layer d : Layer)
+-- the keys of one of the first layers have their places
+pub places-of : (current : CurrentState) (layers : List Layer) (count at : ℕ) (layer d : Layer)
+    → at < count
     → at < length layers
     → layer ≡ get_or layers at d
-    → ArePlaced current layers
+    → ArePlaced current (take count layers)
     → HasPlaces current layer.places layer.op
-places-of current layers at layer d within is placed =
-    rw is (All-get_or (λ (layer : Layer). HasPlaces current layer.places layer.op) layers at d within placed)
+places-of current layers count at layer d before within is placed =
+    let here : at < length (take count layers) = omega (arith, before, within, length-take count layers) in
+    rw (is ∙ sym (get_or-take count layers at d before))
+    (All-get_or (λ (layer : Layer). HasPlaces current layer.places layer.op) (take count layers) at d here placed)
+
+-- and those of fewer have them too
+pub placed-fewer : (current : CurrentState) (layers : List Layer) (few many : ℕ)
+    → few ≤ many
+    → ArePlaced current (take many layers)
+    → ArePlaced current (take few layers)
+placed-fewer current layers few many within placed =
+    rw (← take-within few many layers within)
+    (All-take (λ (layer : Layer). HasPlaces current layer.places layer.op) few (take many layers) placed)
 
 -- the layer at a place, the last that is applied, is undone
 pub undone-at : (base : Image) (old new : CurrentState) (layers : List Layer) (at : ℕ) (layer d : Layer)
@@ -241,11 +262,6 @@ wanted-stays old new op stay =
 pub all_wanted-stays : (old new : CurrentState) (ops : List Op) → KeepPlaces old new → all_wanted new ops ≤ all_wanted old ops
 all_wanted-stays old new ops stay = sum_by-le-sum_by (wanted new) (wanted old) ops (λ op. wanted-stays old new op stay)
 
--- the last of operations want what all do but those before them
-pub all_wanted-push : (current : CurrentState) (ops : List Op) (op : Op) → all_wanted current (ops ++ op ∷ []) ≡ all_wanted current ops + wanted current op
-all_wanted-push current ops op =
-    omega (arith, sum_by-append (wanted current) ops (op ∷ []))
-
 -- keys that have their places want none
 pub placed-wants : (current : CurrentState) (places : Places) (op : Op) → HasPlaces current places op → wanted current op ≡ 0
 placed-wants current places op has =
@@ -253,121 +269,92 @@ placed-wants current places op has =
     let second : lacking current (second_key op) ≡ 0 = rw has.second refl in
     omega (arith, first, second)
 
--- the keys of layers want none
-pub none_wanted : (current : CurrentState) (layers : List Layer) → ArePlaced current layers → all_wanted current (ops_in layers) ≡ 0
-none_wanted current [] placed = refl
-none_wanted current (layer ∷ layers) placed =
-    let P = λ (layer : Layer). HasPlaces current layer.places layer.op in
-    let all : all_wanted current (ops_in (layer ∷ layers)) ≡ wanted current layer.op + all_wanted current (ops_in layers) = sum_by-cons (wanted current) layer.op (ops_in layers) in
-    omega (arith, all, placed-wants current layer.places layer.op (All-head P layer layers placed), none_wanted current layers (All-tail P layer layers placed))
+-- the keys of any want at most two
+pub few_wanted-one : (current : CurrentState) (op : Op) → wanted current op ≤ 2
+few_wanted-one current op = omega (arith, few (first_key op), few (second_key op)) where
+  few : (key : ℕ) → lacking current key ≤ 1
+  few key = at (place_of current key) where
+    at : (found : Option ℕ) → option_map_or (λ place. 0) found 1 ≤ 1
+    at None = omega arith
+    at (Some place) = omega arith
 
--- what the first of writes wanted, the others want no more once it has its places
-pub first_wanted : (old new : CurrentState) (writes : List Write) (write d : Write) (places : Places)
-    → 0 < length writes
-    → write ≡ get_or writes 0 d
-    → KeepPlaces old new
-    → HasPlaces new places write.op
-    → all_wanted new (ops_of writes) + wanted old write.op ≤ all_wanted old (ops_of writes)
-first_wanted old new [] write d places some is stay has = absurd (omega (arith, some))
-first_wanted old new (first ∷ writes) write d places some is stay has =
-    let op = first.op in
-    let same : write.op ≡ op = ap (λ (w : Write). w.op) is in
-    omega (
-      arith,
-      sum_by-cons (wanted new) op (ops_of writes),
-      sum_by-cons (wanted old) op (ops_of writes),
-      placed-wants new places op (rw (← same) has),
-      ap (wanted old) same,
-      all_wanted-stays old new (ops_of writes) stay,
-    )
-
--- and those of any operations at most two each
 pub few_wanted : (current : CurrentState) (ops : List Op) → all_wanted current ops ≤ 2 * length ops
 few_wanted current [] = omega arith
 few_wanted current (op ∷ ops) =
     let all : all_wanted current (op ∷ ops) ≡ wanted current op + all_wanted current ops = sum_by-cons (wanted current) op ops in
-    omega (arith, all, few (first_key op), few (second_key op), few_wanted current ops) where
-      few : (key : ℕ) → lacking current key ≤ 1
-      few key = at (place_of current key) where
-        at : (found : Option ℕ) → option_map_or (λ place. 0) found 1 ≤ 1
-        at None = omega arith
-        at (Some place) = omega arith
+    omega (arith, all, few_wanted-one current op, few_wanted current ops)
 
--- operations that are put among layers want at most two places for each new one
-pub joined_wanted : (current : CurrentState) (layers : List Layer) (new ops : List Op) (index : ℕ)
-    → ArePlaced current layers
-    → AreJoined (ops_in layers) new (take index (ops_in layers) ++ ops)
-    → all_wanted current ops ≤ 2 * length new
-joined_wanted current layers new ops index placed joined =
+-- one that is put among others wants what it wants alone
+pub wanted-insert : (current : CurrentState) (ops : List Op) (at : ℕ) (op : Op)
+    → all_wanted current (insert ops at op) ≡ all_wanted current ops + wanted current op
+wanted-insert current ops at op =
     omega (
       arith,
-      joined (wanted current),
-      sum_by-append (wanted current) (take index (ops_in layers)) ops,
-      none_wanted current layers placed,
-      few_wanted current new,
+      sum_by-append (wanted current) (take at ops) (op ∷ drop at ops),
+      sum_by-cons (wanted current) op (drop at ops),
+      sum_by-append (wanted current) (take at ops) (drop at ops),
+      ap (all_wanted current) (take-append-drop at ops),
     )
 
--- and are as many as both
+-- what the operations behind a place want, where those before it are the same and all want so much more
+pub wanted-behind : (current : CurrentState) (old new : List Op) (at more : ℕ)
+    → take at new ≡ take at old
+    → all_wanted current new ≡ all_wanted current old + more
+    → all_wanted current (drop at new) ≡ all_wanted current (drop at old) + more
+wanted-behind current old new at more front all =
+    omega (arith, all, parted old, parted new, ap (all_wanted current) front) where
+      parted : (ops : List Op) → all_wanted current ops ≡ all_wanted current (take at ops) + all_wanted current (drop at ops)
+      parted ops =
+          ap (all_wanted current) (sym (take-append-drop at ops)) ∙ sum_by-append (wanted current) (take at ops) (drop at ops)
+
+-- what those from a place on want
+pub wanted-from : (current : CurrentState) (layers : List Layer) (at : ℕ) (layer d : Layer)
+    → at < length layers
+    → layer ≡ get_or layers at d
+    → all_wanted current (ops_in (drop at layers)) ≡ wanted current layer.op + all_wanted current (ops_in (drop (at + 1) layers))
+wanted-from current layers at layer d within is =
+    let one_more : suc at ≡ at + 1 = omega arith in
+    let rest : drop at layers ≡ layer ∷ drop (at + 1) layers =
+    drop-cons layers at d within ∙ ap₂ (λ (layer : Layer) (count : ℕ). layer ∷ drop count layers) (sym is) one_more in
+    ap (λ (rest : List Layer). all_wanted current (ops_in rest)) rest
+    ∙ sum_by-cons (wanted current) layer.op (ops_in (drop (at + 1) layers))
+
+-- memory for so many operations is memory for fewer
+pub memory-fewer : (layers : Layers) (applied more fewer : ℕ)
+    → fewer ≤ more
+    → HasMemory layers applied more
+    → HasMemory layers applied fewer
+memory-fewer layers applied more fewer within has = record {
+  listed = omega (arith, within, has.listed);
+  keys = omega (arith, within, has.keys);
+}
+
+-- and it stays where there is as much room, and keys keep their places
+pub memory-stays : (old new : Layers) (applied count : ℕ)
+    → new.tentative.items ≡ old.tentative.items
+    → vec_capacity old.tentative ≤ vec_capacity new.tentative
+    → Extends old.current new.current
+    → old.current.spare ≤ new.current.spare
+    → HasMemory old applied count
+    → HasMemory new applied count
+memory-stays old new applied count same more extends spare has = record {
+  listed = omega (arith, has.listed, more, ap length same);
+  keys = omega (
+    arith,
+    has.keys,
+    spare,
+    all_wanted-stays old.current new.current (ops_in (drop applied old.tentative.items)) extends.places,
+    ap (λ (layers : List Layer). all_wanted new.current (ops_in (drop applied layers))) same,
+  );
+}
+
+-- operations that are put among others are as many as both
 pub joined_length : (ops new all : List Op) → AreJoined ops new all → length all ≡ length ops + length new
 joined_length ops new all joined = omega (arith, joined (λ op. 1), ones ops, ones new, ones all) where
   ones : (ops : List Op) → sum_by (λ (op : Op). 1) ops ≡ length ops
   ones [] = refl
   ones (op ∷ ops) =
       omega (arith, sum_by-cons (λ (op : Op). 1) op ops, ones ops)
-
--- the front of a longer front
-pub take-within : {A : Type 0} (n at : ℕ) (xs : List A) → n ≤ at → take n (take at xs) ≡ take n xs
-take-within zero at xs within = refl
-take-within (suc n) zero xs within = absurd (omega (arith, within))
-take-within (suc n) (suc at) [] within = refl
-take-within (suc n) (suc at) (x ∷ xs) within = ap (λ rest. x ∷ rest) (take-within n at xs (omega (arith, within)))
-
--- fewer operations want no more
-pub fewer_wanted : (current : CurrentState) (writes : List Write) (few many : ℕ)
-    → few ≤ many
-    → all_wanted current (ops_of (take few writes)) ≤ all_wanted current (ops_of (take many writes))
-fewer_wanted current writes few many within =
-    let front = take few writes in
-    let rest = drop few (take many writes) in
-    let all : take many writes ≡ front ++ rest =
-    sym (take-append-drop few (take many writes)) ∙ ap (λ (first : List Write). first ++ rest) (take-within few many writes within) in
-    omega (
-      arith,
-      ap (λ (first : List Write). all_wanted current (ops_of first)) all,
-      ap (all_wanted current) (map-append op_of front rest),
-      sum_by-append (wanted current) (ops_of front) (ops_of rest),
-    )
-
--- layers have the operations of writes from a place on, once that of the write there is put before the later ones
-pub behind_put : (writes : List Write) (old new : List Layer) (from before at : ℕ) (write d : Write)
-    → from ≤ at
-    → at - from < length writes
-    → before ≡ at + 1
-    → write ≡ get_or writes (at - from) d
-    → ops_in (drop at new) ≡ write.op ∷ ops_in (drop (at + 1) old)
-    → ops_in (drop before old) ≡ ops_of (drop (before - from) writes)
-    → ops_in (drop at new) ≡ ops_of (drop (at - from) writes)
-behind_put writes old new from before at write d above within next is put behind =
-    let n = at - from in
-    let one_more : suc n ≡ n + 1 = omega arith in
-    let rest : drop n writes ≡ write ∷ drop (n + 1) writes =
-    drop-cons writes n d within ∙ ap₂ (λ (write : Write) (count : ℕ). write ∷ drop count writes) (sym is) one_more in
-    put
-    ∙ ap (λ (count : ℕ). write.op ∷ ops_in (drop count old)) (sym next)
-    ∙ ap (λ (ops : List Op). write.op ∷ ops) (behind ∙ ap (λ (count : ℕ). ops_of (drop count writes)) (omega (arith, next, above)))
-    ∙ ap ops_of (sym rest)
-
--- keys that get places, and more layers behind, leave the first ones applied
-pub applied-longer : (base : Image) (old new : CurrentState) (layers longer : List Layer) (count : ℕ)
-    → Extends old new
-    → take (length layers) longer ≡ layers
-    → count ≤ length layers
-    → IsApplied base old (take count layers)
-    → IsApplied base new (take count longer)
-applied-longer base old new layers longer count more front within applied =
-    let same : take count longer ≡ take count layers =
-    sym (take-within count (length layers) longer within) ∙ ap (take count) front in
-    rw same (applied-more base old new (take count layers) more applied)
 
 -- what keys hold after more operations than are applied
 pub held-behind : (base : Image) (current : CurrentState) (layers : List Layer) (applied more key : ℕ)
@@ -392,10 +379,6 @@ module _ {A : Type 0} where
   pub take-insert-le : (xs : List A) (n at : ℕ) (x : A) → n ≤ at → at ≤ length xs → take n (insert xs at x) ≡ take n xs
   take-insert-le xs n at x before within =
       sym (take-within n at (insert xs at x) before) ∙ ap (take n) (take-insert xs at x within) ∙ take-within n at xs before
-
-  pub All-insert : (P : A → Type 0) (xs : List A) (at : ℕ) (x : A) → P x → All P xs → All P (insert xs at x)
-  All-insert P xs at x here all =
-      All-append P (take at xs) (x ∷ drop at xs) (All-take P at xs all) (All-cons P x (drop at xs) here (All-drop P at xs all))
 
 pub map-insert : {A B : Type 0} (f : A → B) (xs : List A) (at : ℕ) (x : A) → map f (insert xs at x) ≡ insert (map f xs) at (f x)
 map-insert {A} {B} f xs at x =

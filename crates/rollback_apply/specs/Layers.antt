@@ -1,5 +1,5 @@
 -- Tentative operations as they are kept, each with what undoes it.
-use Rattle.std.specs.Prelude.{◌≡◌, ℕ, ◌+◌, ◌*◌, ◌≤◌, List, length, get_or, map, take, All, Some, vec_len}
+use Rattle.std.specs.Prelude.{◌≡◌, ℕ, ◌+◌, ◌*◌, ◌≤◌, List, length, map, take, drop, All, Some, vec_len}
 use Rattle.std.specs.List.{sum_by}
 use Rattle.std.specs.Vec.{vec_capacity}
 use Rattle.tact_base.specs.Images.{Image, image_from, image_of}
@@ -33,14 +33,6 @@ wanted current op = lacking current (first_key op) + lacking current (second_key
 abbrev pub all_wanted : CurrentState → List Op → ℕ
 all_wanted current ops = sum_by (wanted current) ops
 
--- the operation of the layer at a place changes first what another one changes first
-abbrev pub NamesFirst : List Layer → ℕ → Op → Type 0
-NamesFirst layers at op = (d : Layer) → first_key (get_or layers at d).op ≡ first_key op
-
--- and last what it changes last
-abbrev pub NamesSecond : List Layer → ℕ → Op → Type 0
-NamesSecond layers at op = (d : Layer) → second_key (get_or layers at d).op ≡ second_key op
-
 -- the keys of an operation hold other values, and all others what they held
 abbrev pub SetsKeys : CurrentState → CurrentState → Op → KeyValues → Type 0
 SetsKeys old new op values = (key : ℕ) → holds new key ≡ with_key_values (holds old) op values key
@@ -51,15 +43,16 @@ pub record IsApplied (base : Image) (current : CurrentState) (layers : List Laye
   pub undone : map (λ layer. layer.held) layers ≡ undos_of base (ops_in layers)
   pub fold : (key : ℕ) → holds current key ≡ image_from base (ops_in layers) key
 
--- The first operations are applied to the image of the committed ones, and all have the places of their keys.
+-- The first operations are applied to the image of the committed ones, and have the places of their keys.
 pub record Applies (layers : Layers) (count : ℕ) : Type 0 where
   pub applied : IsApplied (image_of (ops_in layers.settled.items)) layers.current (take count layers.tentative.items)
-  pub placed : ArePlaced layers.current layers.tentative.items
+  pub placed : ArePlaced layers.current (take count layers.tentative.items)
 
--- There is memory for `more` operations, each with new keys.
-pub record HasMemory (layers : Layers) (more : ℕ) : Type 0 where
+-- There is memory for the places that the keys of operations want which aren't applied, as those behind the first
+-- `applied` aren't, and for `more` operations, each with new keys.
+pub record HasMemory (layers : Layers) (applied more : ℕ) : Type 0 where
   pub listed : vec_len layers.tentative + more ≤ vec_capacity layers.tentative
-  pub keys : 2 * more ≤ layers.current.spare
+  pub keys : all_wanted layers.current (ops_in (drop applied layers.tentative.items)) + 2 * more ≤ layers.current.spare
 
 -- Between calls so many tentative operations are applied, and at most `LAG` behind them aren't, so many are committed, and
 -- there is memory for as many more as the room says.
@@ -68,4 +61,4 @@ pub record IsKept (layers : Layers) (applied committed room : ℕ) : Type 0 wher
   pub within : applied ≤ length layers.tentative.items
   pub few : length layers.tentative.items ≤ applied + LAG
   pub counted : length layers.settled.items ≡ committed
-  pub memory : HasMemory layers room
+  pub memory : HasMemory layers applied room

@@ -68,7 +68,7 @@ impl Image {
         if k <= self.room {
             return Ok(());
         }
-        self.room = self.layers.reserve(k)?;
+        self.room = self.layers.reserve(self.applied, k)?;
         Ok(())
     }
 

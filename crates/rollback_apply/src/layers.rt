@@ -2,11 +2,11 @@ ghost use Rattle.std.specs.Prelude.{◌≡◌, ℕ, ◌+◌, ◌-◌, ◌<◌, �
 ghost use Rattle.std.specs.Vec.{vec_capacity};
 ghost use Rattle.tact_base.specs.Images.{image_from, image_of, ops_of};
 ghost use Rattle.tact_base.specs.declared.write.Op as operation;
-ghost use Rattle.rollback_apply.specs.Current.{holds, IsPlace, Extends, KeepPlaces};
+ghost use Rattle.rollback_apply.specs.Current.{holds, IsPlace, Extends};
 ghost use Rattle.rollback_apply.specs.Keys as keys;
 ghost use Rattle.rollback_apply.specs.declared.lagging.TheConstants.{LAG};
 ghost use Rattle.rollback_apply.specs.declared.layers.Layer.{Layer};
-ghost use Rattle.rollback_apply.specs.Layers.{ops_in, wanted, all_wanted, Applies, ArePlaced, HasMemory, HasPlaces, NamesFirst, NamesSecond, SetsKeys};
+ghost use Rattle.rollback_apply.specs.Layers.{ops_in, wanted, Applies, HasMemory, HasPlaces, SetsKeys};
 
 use crate::current::Current;
 use crate::keys::{KeyValues, first_key, second_key, values_after};
@@ -28,19 +28,19 @@ pub struct Places {
     pub second: usize,
 }
 
-/// An operation, with what it takes to undo it.
+/// An operation, with what it takes to undo it once it is applied.
 #[derive(Clone, Copy, Debug)]
 pub struct Layer {
     /// The operation.
     pub op: Op,
-    /// The places of its keys.
+    /// Where it is applied, the places of its keys.
     pub places: Places,
-    /// What its keys held before it.
+    /// Where it is applied, what its keys held before it.
     pub held: KeyValues,
 }
 
-/// The tentative operations, and what keys hold after the first ones, which are applied; the caller knows how many. Those
-/// that are committed are seen by contracts alone.
+/// The tentative operations, and what keys hold after the first ones, which are applied; the caller knows how many. The
+/// keys of an operation are looked up when it is applied. Those that are committed are seen by contracts alone.
 #[derive(Debug, Drop)]
 pub struct Layers {
     pub settled: GivenUp<Layer>,
@@ -62,21 +62,23 @@ impl Layers {
         }
     }
 
-    /// Takes memory for `more` operations at least, beside those that are there; for some more if it can, so that it is
-    /// seldom asked. The answer is for how many. `NoMemory` leaves these and what keys hold as they were.
-    pub fn reserve(&mut self, more: usize) -> Result<usize, NoMemory>
+    /// Takes memory for `more` operations at least, beside those that are there, of which the first `applied` are applied;
+    /// for some more if it can, so that it is seldom asked. The answer is for how many. `NoMemory` leaves these and what
+    /// keys hold as they were.
+    pub fn reserve(&mut self, applied: usize, more: usize) -> Result<usize, NoMemory>
+        requires { applied ≤ vec_len self.old.tentative }
         ensures settled { self.new.settled ≡ self.old.settled }
         ensures tentative { self.new.tentative.items ≡ self.old.tentative.items }
         ensures applies { (count : ℕ) → Applies self.old count → Applies self.new count }
-        ensures kept { (count : ℕ) → HasMemory self.old count → HasMemory self.new count }
+        ensures kept { (count : ℕ) → HasMemory self.old applied count → HasMemory self.new applied count }
         ensures more { IfOk result (λ many. more ≤ many) }
-        ensures ok { IfOk result (λ many. HasMemory self.new many) }
+        ensures ok { IfOk result (λ many. HasMemory self.new applied many) }
     {
         let ample = more.saturating_add(AHEAD);
-        if self.take_memory(ample).is_ok() {
+        if self.take_memory(applied, ample).is_ok() {
             return Ok(ample);
         }
-        self.take_memory(more)?;
+        self.take_memory(applied, more)?;
         Ok(more)
     }
 
@@ -90,8 +92,7 @@ impl Layers {
         ensures settled { self.new.settled ≡ self.old.settled }
         ensures tentative { self.new.tentative ≡ self.old.tentative }
         ensures applies { Applies self.new result }
-        ensures places { self.new.current.places ≡ self.old.current.places }
-        ensures spare { self.new.current.spare ≡ self.old.current.spare }
+        ensures memory { (more : ℕ) → HasMemory self.old applied more → HasMemory self.new result more }
     {
         let mut at = applied;
         while at > from {
@@ -107,6 +108,7 @@ impl Layers {
         requires applied { applied ≤ vec_len self.old.tentative }
         requires within { count ≤ vec_len self.old.tentative }
         requires applies { Applies self.old applied }
+        requires memory { HasMemory self.old applied 0 }
         ensures kept { applied ≤ result }
         ensures above { count ≤ result }
         ensures within { result ≤ vec_len self.new.tentative }
@@ -114,8 +116,7 @@ impl Layers {
         ensures applies { Applies self.new result }
         ensures ops { ops_in self.new.tentative.items ≡ ops_in self.old.tentative.items }
         ensures count { vec_len self.new.tentative ≡ vec_len self.old.tentative }
-        ensures capacity { vec_capacity self.new.tentative ≡ vec_capacity self.old.tentative }
-        ensures spare { self.new.current.spare ≡ self.old.current.spare }
+        ensures memory { (more : ℕ) → HasMemory self.old applied more → HasMemory self.new result more }
     {
         let mut at = applied;
         while at < count {
@@ -130,14 +131,14 @@ impl Layers {
     pub fn limit_lag(&mut self, applied: usize) -> usize
         requires within { applied ≤ vec_len self.old.tentative }
         requires applies { Applies self.old applied }
+        requires memory { HasMemory self.old applied 0 }
         ensures within { result ≤ vec_len self.new.tentative }
         ensures few { vec_len self.new.tentative ≤ result + LAG }
         ensures settled { self.new.settled ≡ self.old.settled }
         ensures applies { Applies self.new result }
         ensures ops { ops_in self.new.tentative.items ≡ ops_in self.old.tentative.items }
         ensures count { vec_len self.new.tentative ≡ vec_len self.old.tentative }
-        ensures capacity { vec_capacity self.new.tentative ≡ vec_capacity self.old.tentative }
-        ensures spare { self.new.current.spare ≡ self.old.current.spare }
+        ensures memory { (more : ℕ) → HasMemory self.old applied more → HasMemory self.new result more }
     {
         let count = self.tentative.len().saturating_sub(LAG);
         self.apply_to(applied, count)
@@ -182,40 +183,26 @@ impl Layers {
     pub fn insert(&mut self, at: usize, op: Op)
         requires within { at ≤ vec_len self.old.tentative }
         requires capacity { vec_len self.old.tentative < vec_capacity self.old.tentative }
-        requires spare { wanted self.old.current op ≤ self.old.current.spare }
         ensures settled { self.new.settled ≡ self.old.settled }
         ensures applies { (count : ℕ) → count ≤ at → Applies self.old count → Applies self.new count }
         ensures ops { ops_in self.new.tentative.items ≡ insert (ops_in self.old.tentative.items) at op }
-        ensures capacity { vec_capacity self.old.tentative ≤ vec_capacity self.new.tentative }
-        ensures spare { self.old.current.spare ≤ self.new.current.spare + wanted self.old.current op }
+        ensures memory { (applied more : ℕ) → applied ≤ at → HasMemory self.old applied (more + 1) → HasMemory self.new applied more }
     {
-        let places = look_up(&mut self.current, op);
-        insert_layer(&mut self.tentative, at, layer_of(op, places));
+        insert_layer(&mut self.tentative, at, waiting(op));
     }
 
-    /// Puts the operations of writes in place of those from `from` on, where these aren't applied. The places of these are
-    /// known where they come again in their order. Takes no memory.
+    /// Puts the operations of writes in place of those from `from` on, where these aren't applied. Takes no memory.
     pub fn replace_from(&mut self, from: usize, writes: &[Write])
         requires within { from ≤ vec_len self.old.tentative }
-        requires more { vec_len self.old.tentative ≤ from + length writes.now }
         requires capacity { from + length writes.now ≤ vec_capacity self.old.tentative }
-        requires spare { all_wanted self.old.current (ops_of writes.now) ≤ self.old.current.spare }
         ensures settled { self.new.settled ≡ self.old.settled }
+        ensures current { self.new.current ≡ self.old.current }
         ensures applies { (count : ℕ) → count ≤ from → Applies self.old count → Applies self.new count }
         ensures ops { ops_in self.new.tentative.items ≡ ops_in (take from self.old.tentative.items) ++ ops_of writes.now }
         ensures capacity { vec_capacity self.old.tentative ≤ vec_capacity self.new.tentative }
-        ensures spare { self.old.current.spare ≤ self.new.current.spare + all_wanted self.old.current (ops_of writes.now) }
     {
-        let mut left = self.tentative.len();
-        let mut at = from + writes.len();
-        self.lengthen(at, writes);
-        while at > from {
-            at -= 1;
-            left = self.put(from, at, left, writes[at - from].op);
-            let later = at - left;
-            left = self.carry(from, left, later, writes);
-            at = left + later;
-        }
+        self.tentative.truncate(from);
+        push_all(&mut self.tentative, writes);
     }
 
     /// Commits the first `count` operations, which are applied: nothing undoes them any more. Takes no memory.
@@ -224,22 +211,23 @@ impl Layers {
         ensures settled { self.new.settled.items ≡ self.old.settled.items ++ take count self.old.tentative.items }
         ensures tentative { self.new.tentative.items ≡ drop count self.old.tentative.items }
         ensures applies { (applied : ℕ) → count ≤ applied → Applies self.old applied → Applies self.new (applied - count) }
-        ensures capacity { vec_capacity self.new.tentative ≡ vec_capacity self.old.tentative }
-        ensures current { self.new.current ≡ self.old.current }
+        ensures memory { (applied more : ℕ) → count ≤ applied → HasMemory self.old applied more → HasMemory self.new (applied - count) more }
     {
         self.settled.extend(&self.tentative[..count]);
         drop_front(&mut self.tentative, count);
     }
 
-    // Takes memory for `more` operations, beside those that are there.
-    fn take_memory(&mut self, more: usize) -> Result<(), NoMemory>
+    // Takes memory for `more` operations, beside those that are there, of which the first `applied` are applied.
+    fn take_memory(&mut self, applied: usize, more: usize) -> Result<(), NoMemory>
+        requires { applied ≤ vec_len self.old.tentative }
         ensures settled { self.new.settled ≡ self.old.settled }
         ensures tentative { self.new.tentative.items ≡ self.old.tentative.items }
         ensures applies { (count : ℕ) → Applies self.old count → Applies self.new count }
-        ensures kept { (count : ℕ) → HasMemory self.old count → HasMemory self.new count }
-        ensures ok { OnOk result (HasMemory self.new more) }
+        ensures kept { (count : ℕ) → HasMemory self.old applied count → HasMemory self.new applied count }
+        ensures ok { OnOk result (HasMemory self.new applied more) }
     {
-        let keys = entries_for(more)?;
+        let waiting = self.tentative.len() - applied;
+        let keys = entries_for(more.saturating_add(waiting))?;
         reserve_layers(&mut self.tentative, more)?;
         self.current.reserve(keys)?;
         Ok(())
@@ -252,8 +240,7 @@ impl Layers {
         ensures settled { self.new.settled ≡ self.old.settled }
         ensures tentative { self.new.tentative ≡ self.old.tentative }
         ensures applies { Applies self.new at }
-        ensures places { self.new.current.places ≡ self.old.current.places }
-        ensures spare { self.new.current.spare ≡ self.old.current.spare }
+        ensures memory { (more : ℕ) → HasMemory self.old (at + 1) more → HasMemory self.new at more }
     {
         let Layer { places, held, .. } = self.tentative[at];
         set_places(&mut self.current, places, held);
@@ -263,145 +250,18 @@ impl Layers {
     fn apply(&mut self, at: usize)
         requires within { at < vec_len self.old.tentative }
         requires applies { Applies self.old at }
+        requires memory { HasMemory self.old at 0 }
         ensures settled { self.new.settled ≡ self.old.settled }
         ensures applies { Applies self.new (at + 1) }
         ensures ops { ops_in self.new.tentative.items ≡ ops_in self.old.tentative.items }
         ensures count { vec_len self.new.tentative ≡ vec_len self.old.tentative }
-        ensures capacity { vec_capacity self.new.tentative ≡ vec_capacity self.old.tentative }
-        ensures spare { self.new.current.spare ≡ self.old.current.spare }
+        ensures memory { (more : ℕ) → HasMemory self.old at more → HasMemory self.new (at + 1) more }
     {
-        let Layer { op, places, .. } = self.tentative[at];
-        let held = held_at(&self.current, places);
-        self.tentative[at].held = held;
-        set_places(&mut self.current, places, values_after(op, held));
-    }
-
-    // Makes the list so long, with the first of these operations, where it is shorter.
-    fn lengthen(&mut self, count: usize, writes: &[Write])
-        requires few { count ≤ vec_len self.old.tentative + length writes.now }
-        requires more { vec_len self.old.tentative ≤ count }
-        requires capacity { count ≤ vec_capacity self.old.tentative }
-        requires spare { all_wanted self.old.current (ops_of writes.now) ≤ self.old.current.spare }
-        ensures settled { self.new.settled ≡ self.old.settled }
-        ensures current { Extends self.old.current self.new.current }
-        ensures placed { ArePlaced self.old.current self.old.tentative.items → ArePlaced self.new.current self.new.tentative.items }
-        ensures count { vec_len self.new.tentative ≡ count }
-        ensures tentative { take (length self.old.tentative.items) self.new.tentative.items ≡ self.old.tentative.items }
-        ensures capacity { vec_capacity self.old.tentative ≤ vec_capacity self.new.tentative }
-        ensures spare { self.old.current.spare + all_wanted self.new.current (ops_of writes.now)
-            ≤ self.new.current.spare + all_wanted self.old.current (ops_of writes.now) }
-    {
-        let Some(write) = writes.first() else {
-            return;
-        };
-        let places = look_up(&mut self.current, write.op);
-        let layer = layer_of(write.op, places);
-        for _place in self.tentative.len()..count {
-            push_layer(&mut self.tentative, layer);
-        }
-    }
-
-    // Puts an operation at a place of the list, where the first `left` wait for their new places, and those behind the
-    // place were put before. Where the last one that waits names the same keys, its places are taken. The answer is how
-    // many wait then, those before `from` at least.
-    fn put(&mut self, from: usize, at: usize, left: usize, op: Op) -> usize
-        requires from { from ≤ at }
-        requires within { at < vec_len self.old.tentative }
-        requires above { from ≤ left }
-        requires left { left ≤ at + 1 }
-        requires spare { wanted self.old.current op ≤ self.old.current.spare }
-        ensures above { from ≤ result }
-        ensures left { result ≤ at }
-        ensures settled { self.new.settled ≡ self.old.settled }
-        ensures places { KeepPlaces self.old.current self.new.current }
-        ensures applies { (count : ℕ) → count ≤ from → Applies self.old count → Applies self.new count }
-        ensures front { take at self.new.tentative.items ≡ take at self.old.tentative.items }
-        ensures rest { ops_in (drop at self.new.tentative.items) ≡ op ∷ ops_in (drop (at + 1) self.old.tentative.items) }
-        ensures count { vec_len self.new.tentative ≡ vec_len self.old.tentative }
-        ensures capacity { vec_capacity self.new.tentative ≡ vec_capacity self.old.tentative }
-        ensures spare { self.old.current.spare ≤ self.new.current.spare + wanted self.old.current op }
-    {
-        if left > from && self.has_keys(left - 1, op) {
-            self.move_back(left - 1, at, op);
-            return left - 1;
-        }
-        self.put_new(at, op);
-        left.min(at)
-    }
-
-    // Puts operations so many places later, from the last one of the first `left` on, as long as writes there name their
-    // keys. The answer is how many are left.
-    fn carry(&mut self, from: usize, left: usize, later: usize, writes: &[Write]) -> usize
-        requires above { from ≤ left }
-        requires within { left + later ≤ from + length writes.now }
-        requires count { vec_len self.old.tentative ≡ from + length writes.now }
-        requires rest { ops_in (drop (left + later) self.old.tentative.items) ≡ ops_of (drop (left + later - from) writes.now) }
-        ensures above { from ≤ result }
-        ensures left { result ≤ left }
-        ensures settled { self.new.settled ≡ self.old.settled }
-        ensures current { self.new.current ≡ self.old.current }
-        ensures applies { (count : ℕ) → count ≤ from → Applies self.old count → Applies self.new count }
-        ensures front { take from self.new.tentative.items ≡ take from self.old.tentative.items }
-        ensures rest { ops_in (drop (result + later) self.new.tentative.items) ≡ ops_of (drop (result + later - from) writes.now) }
-        ensures count { vec_len self.new.tentative ≡ vec_len self.old.tentative }
-        ensures capacity { vec_capacity self.new.tentative ≡ vec_capacity self.old.tentative }
-    {
-        let mut kept = left;
-        while kept > from {
-            let at = kept - 1 + later;
-            let op = writes[at - from].op;
-            if !self.has_keys(kept - 1, op) {
-                return kept;
-            }
-            self.move_back(kept - 1, at, op);
-            kept -= 1;
-        }
-        kept
-    }
-
-    // Whether the operation at a place names the same keys as another one.
-    fn has_keys(&self, at: usize, op: Op) -> bool
-        requires within { at < vec_len self.now.tentative }
-        ensures first { IsTrue result → NamesFirst self.now.tentative.items at op }
-        ensures second { IsTrue result → NamesSecond self.now.tentative.items at op }
-    {
-        same_keys(self.tentative[at].op, op)
-    }
-
-    // Puts an operation at a place that isn't before that of one with the same keys, whose places it takes.
-    fn move_back(&mut self, last: usize, at: usize, op: Op)
-        requires last { last ≤ at }
-        requires within { at < vec_len self.old.tentative }
-        requires first { NamesFirst self.old.tentative.items last op }
-        requires second { NamesSecond self.old.tentative.items last op }
-        ensures settled { self.new.settled ≡ self.old.settled }
-        ensures current { self.new.current ≡ self.old.current }
-        ensures applies { (count : ℕ) → count ≤ at → Applies self.old count → Applies self.new count }
-        ensures front { take at self.new.tentative.items ≡ take at self.old.tentative.items }
-        ensures rest { ops_in (drop at self.new.tentative.items) ≡ op ∷ ops_in (drop (at + 1) self.old.tentative.items) }
-        ensures count { vec_len self.new.tentative ≡ vec_len self.old.tentative }
-        ensures capacity { vec_capacity self.new.tentative ≡ vec_capacity self.old.tentative }
-    {
-        let places = self.tentative[last].places;
-        self.tentative[at] = layer_of(op, places);
-    }
-
-    // Puts an operation at a place of the list, where the one there isn't applied. Its keys get places where they have
-    // none.
-    fn put_new(&mut self, at: usize, op: Op)
-        requires within { at < vec_len self.old.tentative }
-        requires spare { wanted self.old.current op ≤ self.old.current.spare }
-        ensures settled { self.new.settled ≡ self.old.settled }
-        ensures places { KeepPlaces self.old.current self.new.current }
-        ensures applies { (count : ℕ) → count ≤ at → Applies self.old count → Applies self.new count }
-        ensures front { take at self.new.tentative.items ≡ take at self.old.tentative.items }
-        ensures rest { ops_in (drop at self.new.tentative.items) ≡ op ∷ ops_in (drop (at + 1) self.old.tentative.items) }
-        ensures count { vec_len self.new.tentative ≡ vec_len self.old.tentative }
-        ensures capacity { vec_capacity self.new.tentative ≡ vec_capacity self.old.tentative }
-        ensures spare { self.old.current.spare ≤ self.new.current.spare + wanted self.old.current op }
-    {
+        let op = self.tentative[at].op;
         let places = look_up(&mut self.current, op);
-        self.tentative[at] = layer_of(op, places);
+        let held = held_at(&self.current, places);
+        self.tentative[at] = Layer { op, places, held };
+        set_places(&mut self.current, places, values_after(op, held));
     }
 }
 
@@ -448,11 +308,26 @@ fn push_layer(layers: &mut Vec<Layer>, layer: Layer)
     }
 }
 
-// The layer of an operation that isn't applied.
-fn layer_of(op: Op, places: Places) -> Layer
-    ensures op { result.op ≡ op }
-    ensures places { result.places ≡ places }
+// Puts the operations of writes at the end, none of them applied, in memory that is there.
+fn push_all(layers: &mut Vec<Layer>, writes: &[Write])
+    requires { vec_len layers.old + length writes.now ≤ vec_capacity layers.old }
+    ensures front { take (length layers.old.items) layers.new.items ≡ layers.old.items }
+    ensures ops { ops_in layers.new.items ≡ ops_in layers.old.items ++ ops_of writes.now }
+    ensures capacity { vec_capacity layers.old ≤ vec_capacity layers.new }
 {
+    for write in writes {
+        push_layer(layers, waiting(write.op));
+    }
+}
+
+// The layer of an operation that isn't applied.
+fn waiting(op: Op) -> Layer
+    ensures { result.op ≡ op }
+{
+    let places = Places {
+        first: 0,
+        second: 0,
+    };
     let held = KeyValues {
         first: 0,
         second: 0,
@@ -486,21 +361,6 @@ fn look_up(current: &mut Current, op: Op) -> Places
         current.place_of(second_key(op))
     };
     Places { first, second }
-}
-
-// Whether operations surely name the same keys, in the same order.
-fn same_keys(one: Op, other: Op) -> bool
-    ensures first { IsTrue result → keys.first_key one ≡ keys.first_key other }
-    ensures second { IsTrue result → keys.second_key one ≡ keys.second_key other }
-{
-    if first_key(one) != first_key(other) {
-        return false;
-    }
-    match (one, other) {
-        (Op::Shift { to, .. }, Op::Shift { to: other, .. }) => to == other,
-        (Op::Shift { .. }, _) | (_, Op::Shift { .. }) => false,
-        _ => true,
-    }
 }
 
 // Gives the keys at places other values.

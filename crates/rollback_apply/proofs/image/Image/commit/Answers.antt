@@ -35,10 +35,7 @@ invariant_of-self c =
             ap (λ settled. length settled.items) done.settled,
             within,
           );
-      memory = record {
-        listed = omega (arith, left, done.count, was.memory.listed, done.capacity, settled.capacity);
-        keys = omega (arith, was.memory.keys, done.spare, ap (λ current. current.spare) settled.current);
-      };
+      memory = settled.memory c.apply_to-applied.result c.self.inside.room done.above (done.memory c.self.inside.room was.memory);
     }
 
 pub returns-clause-base : goal.returns-clause-base

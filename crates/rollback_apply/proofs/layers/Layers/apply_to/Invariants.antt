@@ -1,6 +1,5 @@
-use Rattle.std.proofs.Common.{◌≡◌, ◌-◌, ◌≤◌, vec_len}
-use Rattle.std.specs.Vec.{vec_capacity}
-use Rattle.rollback_apply.specs.Layers.{ops_in, Applies}
+use Rattle.std.proofs.Common.{◌≡◌, ℕ, ◌-◌, ◌≤◌, vec_len}
+use Rattle.rollback_apply.specs.Layers.{ops_in, Applies, HasMemory}
 use Rattle.rollback_apply.proofs.layers.Layers.apply_to.Given as goal
 
 abbrev pub invariant-loop-at : goal.invariant-loop-at
@@ -11,8 +10,7 @@ invariant-loop-at l = record {
   applies : Applies l.self l.at;
   ops : ops_in l.self.tentative.items ≡ ops_in l.initial.self.tentative.items;
   count : vec_len l.self.tentative ≡ vec_len l.initial.self.tentative;
-  capacity : vec_capacity l.self.tentative ≡ vec_capacity l.initial.self.tentative;
-  left : l.self.current.spare ≡ l.initial.self.current.spare;
+  memory : (more : ℕ) → HasMemory l.initial.self l.fn.applied more → HasMemory l.self l.at more;
 }
 
 abbrev pub decreases-loop-at : goal.decreases-loop-at

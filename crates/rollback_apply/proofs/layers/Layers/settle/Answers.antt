@@ -1,5 +1,5 @@
-use Rattle.std.proofs.Common.{◌≡◌, ℕ, ◌+◌, ◌-◌, ◌++◌, List, take, drop, ap, ap₂, sym, ◌∙◌, arith}
-use Rattle.std.proofs.lemmas.List.{drop-take, take-append-drop, map-append}
+use Rattle.std.proofs.Common.{◌≡◌, ℕ, ◌+◌, ◌-◌, ◌++◌, List, length, take, drop, ap, ap₂, sym, ◌∙◌, arith}
+use Rattle.std.proofs.lemmas.List.{drop-drop, drop-take, length-drop, take-append-drop, map-append}
 use Rattle.std.proofs.lemmas.List.Elements.{All-drop}
 use Rattle.std.proofs.lemmas.List.Sums.{fold-append}
 use Rattle.tact_base.specs.Images.{after_op, empty_image, image_of}
@@ -27,5 +27,20 @@ returns-clause-applies c applied above applies =
     (ap image_of (map-append op_in before front) ∙ fold-append after_op empty_image (ops_in before) (ops_in front)) in
     record {
       applied = rw (c.drop_front.ensures.items, c.extend.ensures, c.deref.ensures.value) settled;
-      placed = rw c.drop_front.ensures.items (All-drop (λ (layer : Layer). HasPlaces old.current layer.places layer.op) count layers applies.placed);
+      placed =
+          rw (c.drop_front.ensures.items, ← rest_is)
+          (All-drop (λ (layer : Layer). HasPlaces old.current layer.places layer.op) count (take applied layers) applies.placed);
+    }
+
+pub returns-clause-memory : goal.returns-clause-memory
+returns-clause-memory c applied more above has =
+    let old = c.args.self.now in
+    let layers = old.tentative.items in
+    let count = c.args.count in
+    let both : count + (applied - count) ≡ applied = omega (arith, above) in
+    let same : drop (applied - count) (drop count layers) ≡ drop applied layers =
+    drop-drop (applied - count) count layers ∙ ap (λ (many : ℕ). drop many layers) both in
+    record {
+      listed = omega (arith, has.listed, ap length c.drop_front.ensures.items, length-drop count layers, c.drop_front.ensures.capacity);
+      keys = rw (c.drop_front.ensures.items, same) has.keys;
     }

@@ -1,5 +1,5 @@
-use Rattle.std.proofs.Common.{◌≡◌, ◌≤◌, vec_len}
-use Rattle.rollback_apply.specs.Layers.{Applies}
+use Rattle.std.proofs.Common.{◌≡◌, ℕ, ◌≤◌, vec_len}
+use Rattle.rollback_apply.specs.Layers.{Applies, HasMemory}
 use Rattle.rollback_apply.proofs.layers.Layers.undo_back.Given as goal
 
 abbrev pub invariant-loop-at : goal.invariant-loop-at
@@ -9,8 +9,7 @@ invariant-loop-at l = record {
   settled : l.self.settled ≡ l.initial.self.settled;
   tentative : l.self.tentative ≡ l.initial.self.tentative;
   applies : Applies l.self l.at;
-  places : l.self.current.places ≡ l.initial.self.current.places;
-  left : l.self.current.spare ≡ l.initial.self.current.spare;
+  memory : (more : ℕ) → HasMemory l.initial.self l.fn.applied more → HasMemory l.self l.at more;
 }
 
 abbrev pub decreases-loop-at : goal.decreases-loop-at
