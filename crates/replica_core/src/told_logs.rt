@@ -101,7 +101,7 @@ impl ToldLogs {
 
     /// What a message tells a peer: from each origin in rising order the writes from its first on, none of which is
     /// given up, as many as there is room for. The list that was kept for the peer is shared where it has the same
-    /// pieces, and else one is made in memory of `alloc`.
+    /// pieces, and else one is made in memory of `alloc`: to be shared where it is full, and else alone.
     pub(crate) fn told(
         &self,
         alloc: Global,

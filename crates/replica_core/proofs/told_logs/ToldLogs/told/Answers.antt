@@ -17,6 +17,11 @@ returns-then-is_of c =
     ∙ ap₂ (pieces_of logs) (c.if-is_of.ensures.firsts refl) (c.if-is_of.ensures.ends refl)
     ∙ pieces_told logs c.args.firsts.now c.put_ends-count.new.ends c.put_ends-count.ensures.ends
 
+pub returns-then-count-lt-MESSAGE_WRITES : goal.returns-then-count-lt-MESSAGE_WRITES
+returns-then-count-lt-MESSAGE_WRITES c =
+    c.alone.ensures ∙ c.in_ok-writes.ensures
+    ∙ pieces_told c.args.self.now.logs c.args.firsts.now c.put_ends-count.new.ends c.put_ends-count.ensures.ends
+
 pub returns : goal.returns
 returns c =
     let is = c.in_ok-writes.ensures ∙ pieces_told c.args.self.now.logs c.args.firsts.now c.put_ends-count.new.ends c.put_ends-count.ensures.ends in
