@@ -1,6 +1,6 @@
 //! Numbers, words, weights and needs at the front of what is left of a line, read in one pass over their bytes. They
 //! are found where they have their plain form; else the readers of fields say what stands there.
-ghost use Rattle.std.specs.Prelude.{◌≡◌, ◌≤◌, ◌<◌, ◌^◌, ◌∷◌, ◌++◌, IfSome, Ok, unsigned_abs};
+ghost use Rattle.std.specs.Prelude.{◌≡◌, ◌≢◌, ◌≤◌, ◌<◌, ◌^◌, ◌∷◌, ◌++◌, ℕ, List, IfSome, None, Ok, unsigned_abs};
 ghost use Rattle.tact_base.specs.Numbers.{ReadsNumber, whole_number, whole_signed};
 ghost use Rattle.run_record.specs.CallTokens.{whole_wide};
 ghost use Rattle.run_record.specs.Fields.{in_line};
@@ -78,10 +78,11 @@ fn negative_in_front(digits: &[u8], size: u64) -> Option<(i64, &[u8])>
     Some((negated(value), &digits[count..]))
 }
 
-/// What is left past a word in front and the space after it.
+/// What is left past a word in front and the space after it; `None` where they don't stand there.
 #[inline(always)]
 pub fn past_word<'a>(rest: &'a [u8], word: &[u8]) -> Option<&'a [u8]>
-    ensures { IfSome result (λ after. rest.now ≡ word.now ++ 32 ∷ after.now) }
+    ensures past { IfSome result (λ after. rest.now ≡ word.now ++ 32 ∷ after.now) }
+    ensures none { result ≡ None → (after : List ℕ) → rest.now ≢ word.now ++ 32 ∷ after }
 {
     let size = word.len();
     if rest.len() <= size {
