@@ -1,4 +1,4 @@
-//! A note from session to session, turns, and a restart with room.
+//! A note from session to session, and a turn.
 ghost use Rattle.std.specs.Prelude.{◌≡◌, ◌<◌, Contains};
 ghost use Rattle.replica_lock.specs.Rosters.{IsRosterOf};
 ghost use Rattle.replica_lock.specs.Sessions.{IsSessionOf};
@@ -46,27 +46,6 @@ fn write_in_turn<R: Wait + Abort>(
     }
 }
 
-// Makes room, begins anew and writes in one turn, and gives the index of the write.
-fn write_after_restart<R: Wait + Abort>(
-    rt: &R,
-    node: &Node<'_, SureJournal, FreeGate>,
-    session: &mut Session,
-) -> u64
-    requires { IsSessionOf node.now session.old }
-    ensures { IsSessionOf node.now session.new }
-{
-    let mut turn = node.turn(rt);
-    let room = turn.make_room(3);
-    let begun = turn.restart(session, 3);
-    let answer = turn.call(session, 3, plain_write(rt));
-    turn.end();
-    assert_eq!(rt; (room, begun), (Ok(()), Ok(())));
-    match answer {
-        Ok(Reply::Done { index, .. }) => index,
-        _ => panic!(rt; "a write is done at once"),
-    }
-}
-
 // Client 0 has a session.
 fn is_taken(rt: &impl Abort, node: &Node<'_, SureJournal, FreeGate>, roster: &mut Roster)
     requires { IsRosterOf node.now roster.old }
@@ -78,8 +57,7 @@ fn is_taken(rt: &impl Abort, node: &Node<'_, SureJournal, FreeGate>, roster: &mu
     assert_eq!(rt; fault, SessionFault::Taken { client: 0 });
 }
 
-// One client writes, another hears of it and reads, and the first writes twice more, each time in a turn,
-// the second time at a node that begins anew.
+// One client writes, another hears of it and reads, and the first writes once more, in a turn.
 fn hear_and_turn<R: Wait + Abort>(
     rt: &R,
     node: &Node<'_, SureJournal, FreeGate>,
@@ -94,10 +72,9 @@ fn hear_and_turn<R: Wait + Abort>(
     node.hear(rt, other, note);
     let value = read(rt, node, other);
     let second = write_in_turn(rt, node, one);
-    let third = write_after_restart(rt, node, one);
-    assert_eq!(rt; (first, value, second, third), (0, 1, 1, 2));
+    assert_eq!(rt; (first, value, second), (0, 1, 1));
     let counts = [one.calls(), one.made(), other.calls(), other.made()];
-    assert_eq!(rt; counts, [3, 4, 1, 1]);
+    assert_eq!(rt; counts, [2, 2, 1, 1]);
 }
 
 #[test]
@@ -114,5 +91,5 @@ fn a_note_and_a_turn(rt: HostRuntime) {
     is_taken(&rt, &node, &mut roster);
     hear_and_turn(&rt, &node, &mut one, &mut other);
     let ended = node.end(&rt, roster);
-    assert_eq!(rt; ended.stored.pairs().len(), 5);
+    assert_eq!(rt; ended.stored.pairs().len(), 3);
 }
